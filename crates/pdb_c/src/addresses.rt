@@ -7,13 +7,13 @@ ghost use Rattle.pdb_handles.specs.File.{addresses_said};
 ghost use Rattle.pdb_handles.specs.Found.{AsksContent, not_held};
 ghost use Rattle.pdb_handles.specs.Handle.{Opens, addresses_held};
 ghost use Rattle.pdb_handles.specs.Ranges.{WritesMoved};
-ghost use Rattle.pdb_handles.specs.Sections.{sections_in};
+ghost use Rattle.pdb_handles.specs.Sections.{sections_told};
 ghost use Rattle.pdb_handles.specs.Translation.{Translates};
 
 use pdb_handles::copied::{copy_list, copy_nothing};
 use pdb_handles::file::addresses_in;
 use pdb_handles::ranges::{Span, write_internal, write_loaded};
-use pdb_handles::sections::{Section, sections_in};
+use pdb_handles::sections::{Section, sections_told};
 use pdb_handles::translation::{Translation, translate};
 use pdb_handles::{Fault, Handle, TOO_LONG};
 use pdb_space::{PdbInternalRva, Rva};
@@ -30,7 +30,7 @@ pub extern "C" fn pdb_sections(
 ) -> u32
     ensures answer { length stream.now < 0xffffffff
         → CopiesOrLacks (record { fault = fault.new; length = count.new; room = room.new }) room.old
-        (answer_copied room.old (sections_in stream.now)) }
+        (answer_copied room.old (sections_told stream.now)) }
     ensures long { 0xffffffff ≤ length stream.now
         → record { fault = fault.new; length = count.new; room = room.new } ≡ nothing_copied too_long room.old }
     ensures status { result ≡ fault.new.status }

@@ -9,7 +9,7 @@ ghost use Rattle.pdb_handles.specs.Found.{answered_of, found_of};
 ghost use Rattle.pdb_handles.specs.Handle.{Opens, file_held};
 ghost use Rattle.pdb_handles.specs.Information.{information_said, names_said};
 ghost use Rattle.pdb_handles.specs.Records.{FieldsOrLacks, listing_told};
-ghost use Rattle.pdb_handles.specs.Roles.{IsAnswered, roles_said};
+ghost use Rattle.pdb_handles.specs.Roles.{IsAnswerTold, roles_said};
 
 use pdb_handles::copied::copy_stream;
 use pdb_handles::file::{layout_in, named_stream_in};
@@ -134,7 +134,7 @@ pub extern "C" fn pdb_bytes_information(
     information: &mut Information,
     fault: &mut Fault,
 ) -> u32
-    ensures answer { IsAnswered (λ read. read) (information_said bytes.now) information.old fault.new information.new }
+    ensures answer { IsAnswerTold (λ read. read) (information_said bytes.now) information.old fault.new information.new }
     ensures status { result ≡ fault.new.status }
 {
     tell_answered(information_in(alloc, bytes), information).tell(fault)
@@ -169,7 +169,7 @@ pub extern "C" fn pdb_bytes_roles(
     roles: &mut Roles,
     fault: &mut Fault,
 ) -> u32
-    ensures answer { IsAnswered (λ read. read) (roles_said bytes.now) roles.old fault.new roles.new }
+    ensures answer { IsAnswerTold (λ read. read) (roles_said bytes.now) roles.old fault.new roles.new }
     ensures status { result ≡ fault.new.status }
 {
     tell_answered(roles_in(alloc, bytes), roles).tell(fault)

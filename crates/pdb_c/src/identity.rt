@@ -5,7 +5,7 @@ ghost use Rattle.pdb_identity.specs.Format.{format_of};
 ghost use Rattle.pdb_handles.specs.Copied.{CopiesOrLacks};
 ghost use Rattle.pdb_reports.specs.Identity.{format_number, identity_said, key_text};
 ghost use Rattle.pdb_handles.specs.Records.{if_copied};
-ghost use Rattle.pdb_handles.specs.Roles.{IsAnswered};
+ghost use Rattle.pdb_handles.specs.Roles.{IsAnswerTold};
 
 use pdb_handles::Fault;
 use pdb_identity::Format;
@@ -20,7 +20,7 @@ pub extern "C" fn pdb_identity_of(
     identity: &mut FileIdentity,
     fault: &mut Fault,
 ) -> u32
-    ensures answer { IsAnswered (λ identity. identity) (identity_said bytes.now) identity.old fault.new identity.new }
+    ensures answer { IsAnswerTold (λ identity. identity) (identity_said bytes.now) identity.old fault.new identity.new }
     ensures status { result ≡ fault.new.status }
 {
     write_read(identity_in(alloc, bytes), identity).tell(fault)

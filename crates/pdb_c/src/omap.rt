@@ -7,7 +7,7 @@ ghost use Rattle.pdb_handles.specs.Copied.{CopiesOrLacks, copied_of, nothing_cop
 ghost use Rattle.pdb_handles.specs.Fault.{not_open};
 ghost use Rattle.pdb_handles.specs.Found.{AsksContent, not_held};
 ghost use Rattle.pdb_handles.specs.Handle.{OpensStream, held_as, omap_held};
-ghost use Rattle.pdb_handles.specs.Omap.{TellsMoved, TellsOrder, omap_row};
+ghost use Rattle.pdb_handles.specs.Omap.{TellsMoved, TellsOrder, omap_info};
 ghost use Rattle.pdb_handles.specs.Ranges.{WritesMoved};
 
 use pdb_handles::copied::copy_list;
@@ -42,7 +42,7 @@ pub extern "C" fn pdb_omap_records(
     fault: &mut Fault,
 ) -> u32
     ensures answer { CopiesOrLacks (record { fault = fault.new; length = length.new; room = room.new }) room.old
-        (copied_of room.old (λ table. Ok (map omap_row table)) (omap_held omap.old.held.content)) }
+        (copied_of room.old (λ table. Ok (map omap_info table)) (omap_held omap.old.held.content)) }
     ensures kept { omap.new.held.content ≡ omap.old.held.content }
     ensures status { result ≡ fault.new.status }
 {

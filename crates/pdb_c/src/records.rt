@@ -5,11 +5,11 @@ ghost use Rattle.pdb_tpi.specs.Record.{type_of};
 ghost use Rattle.pdb_values.specs.IdValue.{id_name};
 ghost use Rattle.pdb_values.specs.TypeValue.{name_of_type};
 ghost use Rattle.pdb_handles.specs.Copied.{CopiesOrLacks};
-ghost use Rattle.pdb_handles.specs.Ids.{id_row, list_in, of_id};
+ghost use Rattle.pdb_handles.specs.Ids.{id_info, id_list, of_id};
 ghost use Rattle.pdb_handles.specs.Lists.{dimensions_in, methods_in, unique_name_in};
-ghost use Rattle.pdb_handles.specs.Records.{FieldsOrLacks, arguments_in, fields_in, if_copied, listing_told, of_type};
-ghost use Rattle.pdb_handles.specs.Roles.{IsAnswered};
-ghost use Rattle.pdb_handles.specs.Row.{row_of};
+ghost use Rattle.pdb_handles.specs.Records.{FieldsOrLacks, arguments_in, fields_told, if_copied, listing_told, of_type};
+ghost use Rattle.pdb_handles.specs.Roles.{IsAnswerTold};
+ghost use Rattle.pdb_handles.specs.Row.{type_info};
 
 use pdb_handles::copied::{copy_if, copy_name};
 use pdb_handles::fields::{FieldRow, fields_of};
@@ -30,7 +30,7 @@ pub extern "C" fn pdb_type_parse(
     row: &mut Row,
     fault: &mut Fault,
 ) -> u32
-    ensures answer { IsAnswered (λ value. row_of value) (type_of index bytes.now) row.old fault.new row.new }
+    ensures answer { IsAnswerTold (λ value. type_info value) (type_of index bytes.now) row.old fault.new row.new }
     ensures status { result ≡ fault.new.status }
 {
     write_type_row(alloc, bytes, index, row).tell(fault)
@@ -137,7 +137,7 @@ pub extern "C" fn pdb_type_fields(
 ) -> u32
     ensures answer { FieldsOrLacks
         (record { fault = fault.new; rows = rows.new; count = count.new; names = names.new; size = size.new })
-        rows.old names.old (listing_told rows.old names.old (of_type fields_in index bytes.now)) }
+        rows.old names.old (listing_told rows.old names.old (of_type fields_told index bytes.now)) }
     ensures status { result ≡ fault.new.status }
 {
     write_listing(fields_of(alloc, bytes, index), rows, count, names, size).tell(fault)
@@ -146,7 +146,7 @@ pub extern "C" fn pdb_type_fields(
 /// Writes the numbers in the record of an id.
 #[unsafe(no_mangle)]
 pub extern "C" fn pdb_id_parse(alloc: Global, bytes: &[u8], row: &mut Row, fault: &mut Fault) -> u32
-    ensures answer { IsAnswered (λ row. row) (of_id id_row bytes.now) row.old fault.new row.new }
+    ensures answer { IsAnswerTold (λ row. row) (of_id id_info bytes.now) row.old fault.new row.new }
     ensures status { result ≡ fault.new.status }
 {
     tell_answered(id_row_in(alloc, bytes), row).tell(fault)
@@ -179,7 +179,7 @@ pub extern "C" fn pdb_id_list(
     fault: &mut Fault,
 ) -> u32
     ensures answer { CopiesOrLacks (record { fault = fault.new; length = length.new; room = room.new }) room.old
-        (if_copied room.old (of_id list_in bytes.now)) }
+        (if_copied room.old (of_id id_list bytes.now)) }
     ensures status { result ≡ fault.new.status }
 {
     copy_if(list_of(alloc, bytes), room, length).tell(fault)

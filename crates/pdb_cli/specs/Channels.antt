@@ -50,19 +50,19 @@ IsShownOfCall (Err fault) had outcome = (error_kind fault ≡ kinds.InvalidData)
 
 -- Each part of an outcome was written to its output, standard output was flushed, and the outcome's status
 -- is the program's. Standard error received its part, or failed.
-pub record IsWritten (outcome : Outcome) (out out' err err' : OutputState) (status : ℕ) : Type 0 where
+pub record IsOutcomeWritten (outcome : Outcome) (out out' err err' : OutputState) (status : ℕ) : Type 0 where
   pub is_status : status ≡ outcome.status
   pub printed : Gets out out' outcome.out.items
   pub flushed : out'.is_flushed ≡ true
   pub told : GetsUnlessFailed err err' outcome.err.items
 
 -- Standard output failed with this fault, and received a prefix of its part of an outcome.
-abbrev pub IsCut : Outcome → OutputState → OutputState → Error → Type 0
-IsCut outcome out out' fault = IsFailed out' fault × IsPrefix outcome.out.items out.contents out'.contents
+abbrev pub IsOutputCut : Outcome → OutputState → OutputState → Error → Type 0
+IsOutputCut outcome out out' fault = IsFailed out' fault × IsPrefix outcome.out.items out.contents out'.contents
 
 -- A fault, or that memory was refused for the text of the fault, is reported on standard error, with
 -- status 1; or standard error failed.
-pub record IsTold (fault : Error) (err err' : OutputState) (status : ℕ) : Type 0 where
+pub record IsFaultReported (fault : Error) (err err' : OutputState) (status : ℕ) : Type 0 where
   pub is_status : status ≡ 1
   pub reason : Error
   pub is_reason : (reason ≡ fault) ⊎ (reason ≡ OutOfMemory)
@@ -75,9 +75,9 @@ pub record IsTold (fault : Error) (err err' : OutputState) (status : ℕ) : Type
 -- prefix of what was to be shown.
 pub data IsServed (call : Result Arguments io.Error) (had : Option (List ℕ)) (out out' err err' : OutputState)
     (status : ℕ) : Type 0 where
-  shown : (outcome : Outcome) → IsShownOfCall call had outcome → IsWritten outcome out out' err err' status
+  shown : (outcome : Outcome) → IsShownOfCall call had outcome → IsOutcomeWritten outcome out out' err err' status
       → IsServed call had out out' err err' status
-  refused : (fault : Error) → IsFault fault → out' ≡ out → IsTold fault err err' status
+  refused : (fault : Error) → IsFault fault → out' ≡ out → IsFaultReported fault err err' status
       → IsServed call had out out' err err' status
-  cut : (outcome : Outcome) (fault : Error) → IsShownOfCall call had outcome → IsCut outcome out out' fault
-      → IsTold fault err err' status → IsServed call had out out' err err' status
+  cut : (outcome : Outcome) (fault : Error) → IsShownOfCall call had outcome → IsOutputCut outcome out out' fault
+      → IsFaultReported fault err err' status → IsServed call had out out' err err' status

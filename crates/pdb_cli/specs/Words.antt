@@ -31,9 +31,9 @@ two_numbers (first ∷ second ∷ []) = option_and_then (λ a. option_map (λ b.
 two_numbers _ = None
 
 -- `N` and `N LIMIT`: a stream's number, and how many of its bytes at most
-unfoldable pub stream_asked : List (List ℕ) → Option Query
-stream_asked (number ∷ []) = option_map (λ n. queries.Stream n None) (number_of number)
-stream_asked words = option_map (λ two. queries.Stream two.0 (Some two.1)) (two_numbers words)
+unfoldable pub stream_words : List (List ℕ) → Option Query
+stream_words (number ∷ []) = option_map (λ n. queries.Stream n None) (number_of number)
+stream_words words = option_map (λ two. queries.Stream two.0 (Some two.1)) (two_numbers words)
 
 -- `S A B`: the number of a table's stream, and the ends of a range
 unfoldable pub ranges_asked : List (List ℕ) → Option Query
@@ -59,6 +59,6 @@ pair_of command stream number =
 unfoldable pub query_of : List (List ℕ) → Option Query
 query_of [] = None
 query_of (command ∷ words) =
-    if same command (codes "stream") then stream_asked words
+    if same command (codes "stream") then stream_words words
     else if same command (codes "ranges") then ranges_asked words
     else option_and_then (λ two. pair_of command two.0 two.1) (two_numbers words)

@@ -1,7 +1,7 @@
 //! The program between its channels: what it reads, what it writes, and how it ends.
 
 ghost use Rattle.std.specs.Prelude.{◌≡◌, [], map, string_bytes, IfOk, IfErr, OnErr};
-ghost use Rattle.pdb_cli.specs.Channels.{IsCut, IsFault, IsServed, IsShownOf, IsShownOfCall, IsTold, IsWritten};
+ghost use Rattle.pdb_cli.specs.Channels.{IsOutputCut, IsFault, IsServed, IsShownOf, IsShownOfCall, IsFaultReported, IsOutcomeWritten};
 
 use crate::arguments::{texts_of, words_of};
 use crate::input::read_all;
@@ -65,8 +65,8 @@ fn show<O: Write, E: Write>(
     out: &mut Output<O>,
     err: &mut Output<E>,
 ) -> Result<u8>
-    ensures ok { IfOk result (IsWritten outcome.now out.old out.new err.old err.new) }
-    ensures cut { IfErr result (IsCut outcome.now out.old out.new) }
+    ensures ok { IfOk result (IsOutcomeWritten outcome.now out.old out.new err.old err.new) }
+    ensures cut { IfErr result (IsOutputCut outcome.now out.old out.new) }
     ensures err { OnErr result (err.new ≡ err.old) }
 {
     out.write(&outcome.out)?;
@@ -78,7 +78,7 @@ fn show<O: Write, E: Write>(
 /// Writes the line of a fault to standard error, or `OutOfMemory` if there is no memory for that
 /// line. Returns the status, which is 1.
 pub fn tell<E: Write>(alloc: Global, fault: &Error, err: &mut Output<E>) -> u8
-    ensures { IsTold fault.now err.old err.new result }
+    ensures { IsFaultReported fault.now err.old err.new result }
 {
     match error_line(alloc, fault) {
         Ok(line) => err.report(&line),

@@ -4,7 +4,7 @@
 //! command.
 
 ghost use Rattle.std.specs.Prelude.{◌≡◌, ◌≤◌, map};
-ghost use Rattle.pdb_cli.specs.Words.{number_in_digits, number_of, two_numbers, stream_asked, ranges_asked, pair_of, query_of};
+ghost use Rattle.pdb_cli.specs.Words.{number_in_digits, number_of, two_numbers, stream_words, ranges_asked, pair_of, query_of};
 
 use pdb_container::Query;
 
@@ -56,9 +56,9 @@ fn two_numbers(words: &[&str]) -> Option<(u32, u32)>
 }
 
 /// Parses the words after `stream`: `N` or `N LIMIT`.
-#[tactic(auto, unfolding(crate::specs::Words::stream_asked))]
+#[tactic(auto, unfolding(crate::specs::Words::stream_words))]
 fn stream(words: &[&str]) -> Option<Query>
-    ensures { result ≡ stream_asked (map (λ word. word.now) words.now) }
+    ensures { result ≡ stream_words (map (λ word. word.now) words.now) }
 {
     if let [number_word] = words {
         let number = number(number_word)?;

@@ -13,16 +13,16 @@ use Rattle.pdb_values.specs.TypeValue.{Fields, PlainValue, TypeValue, first_fiel
 use Rattle.pdb_values.specs.TypeView.{fields_value}
 
 -- the number of an index, if there is one
-abbrev pub number_of : Option TypeIndex → Option ℕ
-number_of index = option_map (λ index. index.0) index
+abbrev pub index_number : Option TypeIndex → Option ℕ
+index_number index = option_map (λ index. index.0) index
 
 -- the indexes to which a type without a list refers, or a member of a class
 abbrev pub plain_references : PlainValue → List (Option ℕ)
 plain_references (values.class type) =
-    number_of type.fields ∷ number_of type.derived_from ∷ number_of type.vtable_shape ∷ []
+    index_number type.fields ∷ index_number type.derived_from ∷ index_number type.vtable_shape ∷ []
 plain_references (values.member type) = Some type.field_type.0 ∷ []
 plain_references (values.member_function type) =
-    Some type.return_type.0 ∷ Some type.class_type.0 ∷ number_of type.this_pointer_type ∷ Some type.argument_list.0 ∷ []
+    Some type.return_type.0 ∷ Some type.class_type.0 ∷ index_number type.this_pointer_type ∷ Some type.argument_list.0 ∷ []
 plain_references (values.overloaded_method type) = Some type.method_list.0 ∷ []
 plain_references (values.method type) = Some type.method_type.0 ∷ []
 plain_references (values.static_member type) = Some type.field_type.0 ∷ []
@@ -30,8 +30,8 @@ plain_references (values.nested type) = Some type.nested_type.0 ∷ []
 plain_references (values.base_class type) = Some type.base_class.0 ∷ []
 plain_references (values.virtual_base_class type) = Some type.base_class.0 ∷ Some type.base_pointer.0 ∷ []
 plain_references (values.virtual_function_table_pointer type) = Some type.table.0 ∷ []
-plain_references (values.procedure type) = number_of type.return_type ∷ Some type.argument_list.0 ∷ []
-plain_references (values.pointer type) = Some type.underlying_type.0 ∷ number_of type.containing_class ∷ []
+plain_references (values.procedure type) = index_number type.return_type ∷ Some type.argument_list.0 ∷ []
+plain_references (values.pointer type) = Some type.underlying_type.0 ∷ index_number type.containing_class ∷ []
 plain_references (values.modifier type) = Some type.underlying_type.0 ∷ []
 plain_references (values.enumeration type) = Some type.underlying_type.0 ∷ Some type.fields.0 ∷ []
 plain_references (values.union type) = Some type.fields.0 ∷ []
@@ -59,14 +59,14 @@ method_references methods = map (λ method. Some method.method_type.0) methods
 
 -- the indexes to which a type refers
 abbrev pub references_of : TypeValue → List (Option ℕ)
-references_of (values.field_list fields continuation) = fields_references fields ++ number_of continuation ∷ []
+references_of (values.field_list fields continuation) = fields_references fields ++ index_number continuation ∷ []
 references_of (values.argument_list arguments) = argument_references arguments
 references_of (values.method_list methods) = method_references methods
 references_of value = field_references value
 
 -- the indexes to which a field list refers
 abbrev pub list_references : FieldList → List (Option ℕ)
-list_references list = fields_references (fields_value list.fields.items) ++ number_of list.continuation ∷ []
+list_references list = fields_references (fields_value list.fields.items) ++ index_number list.continuation ∷ []
 
 -- the first of these numbers, as far as they are given, that is not below another one
 abbrev pub first_from : ℕ → List (Option ℕ) → Option ℕ

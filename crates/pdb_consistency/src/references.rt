@@ -3,14 +3,14 @@
 ghost use Rattle.std.specs.Prelude.{◌≡◌, Some, None};
 ghost use Rattle.pdb_values.specs.TypeView.{type_value};
 ghost use Rattle.pdb_consistency.specs.References.{argument_references, field_references, first_from, list_references};
-ghost use Rattle.pdb_consistency.specs.References.{method_references, number_of, references_of};
+ghost use Rattle.pdb_consistency.specs.References.{method_references, index_number, references_of};
 
 use pdb_base::TypeIndex;
 use pdb_values::{FieldList, MethodListEntry, TypeData};
 
 /// Returns the number of an index, if there is one.
 fn number_of(index: Option<TypeIndex>) -> Option<u32>
-    ensures { result ≡ number_of index }
+    ensures { result ≡ index_number index }
 {
     match index {
         Some(index) => Some(index.0),

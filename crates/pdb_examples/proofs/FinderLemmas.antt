@@ -3,7 +3,7 @@ use Rattle.std.proofs.Common.{◌≡◌, inl, inr, ℕ, ◌+◌, ◌-◌, ◌/�
 use Rattle.std.proofs.Common.{Option, Ok, Some}
 use Rattle.std.proofs.lemmas.Bool.{cases_lt}
 use Rattle.std.proofs.lemmas.Bool.Decides.{nat_tests}
-use Rattle.pdb_container.specs.Finder.{FinderState, first_of, find_of, known_when_new, known_after}
+use Rattle.pdb_container.specs.Finder.{FinderState, first_of_block, find_of, known_when_new, known_after}
 use Rattle.pdb_container.specs.Steps.{WalkPosition, IsStep, nth_item, steps_taken, walk}
 use Rattle.pdb_container.specs.ItemTable.{Table}
 use Rattle.pdb_tpi.proofs.FinderLemmas.{find_known}
@@ -15,7 +15,7 @@ pub record IsShown (table : Table) (stand : WalkPosition) (finder : FinderState)
   pub stands : stand.table ≡ table
   pub same : finder.table ≡ table
   pub least : table.header.minimum_index ≤ stand.index
-  pub blocks : (block : ℕ) → first_of table block < table.header.maximum_index → first_of table block ≤ stand.index
+  pub blocks : (block : ℕ) → first_of_block table block < table.header.maximum_index → first_of_block table block ≤ stand.index
       → block < finder.known
 
 first_shown : (table : Table)
@@ -39,22 +39,22 @@ shown_first table stand finder stands is =
 known_grows : (table : Table) (known i : ℕ) → known ≤ known_after table known i
 known_grows table known i = grind (arith, nat_tests)
 
-known_next : (table : Table) (known i : ℕ) → i ≡ first_of table known → i < table.header.maximum_index
+known_next : (table : Table) (known i : ℕ) → i ≡ first_of_block table known → i < table.header.maximum_index
     → known_after table known i ≡ known + 1
 known_next table known i is below = grind (arith, nat_tests)
 
 -- another step shows the block that begins where it ends, if there is one
 block_more : (table : Table) (stand : WalkPosition) (finder : FinderState) → IsShown table stand finder
-    → (block : ℕ) → first_of table block < table.header.maximum_index → first_of table block ≤ stand.index + 1
+    → (block : ℕ) → first_of_block table block < table.header.maximum_index → first_of_block table block ≤ stand.index + 1
     → block < known_after table finder.known (stand.index + 1)
-block_more table stand finder shown block below reached = elim (cases_lt stand.index (first_of table block)) [
+block_more table stand finder shown block below reached = elim (cases_lt stand.index (first_of_block table block)) [
   | inl past ↦
       let least = shown.least in
       let before : block - 1 < finder.known = shown.blocks (block - 1) (omega arith) (omega arith) in
       elim (cases_lt block finder.known) [
         | inl known ↦ omega (arith, known_grows table finder.known (stand.index + 1))
         | inr unknown ↦
-            let first : stand.index + 1 ≡ first_of table finder.known = omega arith in
+            let first : stand.index + 1 ≡ first_of_block table finder.known = omega arith in
             omega (arith, known_next table finder.known (stand.index + 1) first (omega arith))
       ]
   | inr within ↦

@@ -5,7 +5,7 @@ use Rattle.std.specs.List.{filter, filter_map, range_with_len}
 use Rattle.std.specs.Option.{option_map, option_map_or}
 use Rattle.std.specs.Str.{bytes_eq}
 use Rattle.pdb_container.specs.Answer.{Answer, ◌>>=◌}
-use Rattle.pdb_container.specs.Header.{Head, opened}
+use Rattle.pdb_container.specs.Header.{Head, file_head}
 use Rattle.pdb_container.specs.File.{stream_of}
 use Rattle.pdb_container.specs.Conversions.{AddressMapValue, internal_offset_to_rva, rva_to_internal_offset}
 use Rattle.pdb_container.specs.Omap.{IsSortedBySource}
@@ -29,7 +29,7 @@ use Rattle.pdb_container.specs.RoleFile.{file_address_map, file_frame_table, fil
 -- a stream of a file
 abbrev pub stream_in : List ℕ → ℕ → Answer (List ℕ)
 stream_in file number = do
-  head ← opened file
+  head ← file_head file
   stream_of file head number None
 
 -- a stream's number and size, if it is there
@@ -38,8 +38,8 @@ size_if_there number (Ok stream) = Some (number, length stream)
 size_if_there number (Err refusal) = None
 
 -- the streams among the first so many numbers, each with its size
-unfoldable pub sizes_of : ℕ → List ℕ → Head → List (ℕ × ℕ)
-sizes_of count file head = filter_map (λ number. size_if_there number (stream_of file head number None))
+unfoldable pub sizes_by_number : ℕ → List ℕ → Head → List (ℕ × ℕ)
+sizes_by_number count file head = filter_map (λ number. size_if_there number (stream_of file head number None))
     (range_with_len 0 count)
 
 -- ---- types
@@ -76,9 +76,9 @@ pub record FindsAll (table : Table) (finder : FinderState) : Type 0 where
       → find_of table finder.known (table.header.minimum_index + n) ≡ nth_item table n
 
 -- the list of the fields of a class
-abbrev pub list_in : TypeValue → Option TypeIndex
-list_in (plain (class value)) = value.fields
-list_in other = None
+abbrev pub field_list_in : TypeValue → Option TypeIndex
+field_list_in (plain (class value)) = value.fields
+field_list_in other = None
 
 -- the fields of a list and of those in which it goes on; without a list there is none
 abbrev pub fields_at : LookUp → Option TypeIndex → Answer (List TypeValue)
@@ -86,25 +86,25 @@ fields_at look (Some list) = fields_of look list.0
 fields_at look None = Ok []
 
 -- the fields of the class of an index
-abbrev pub class_fields : LookUp → ℕ → Answer (List TypeValue)
-class_fields look index = do
+abbrev pub fields_of_class : LookUp → ℕ → Answer (List TypeValue)
+fields_of_class look index = do
   item ← look index
   value ← type_of index item
-  fields_at look (list_in value)
+  fields_at look (field_list_in value)
 
 -- ---- what streams say by their roles
 
 -- the name at an offset of a file's string table
-abbrev pub name_in : List ℕ → ℕ → Answer (List ℕ)
-name_in file offset = do
-  head ← opened file
+abbrev pub name_at_offset : List ℕ → ℕ → Answer (List ℕ)
+name_at_offset file offset = do
+  head ← file_head file
   names ← file_string_table file head
   name_of names offset
 
 -- the address map of a file
-abbrev pub map_in : List ℕ → Answer AddressMapValue
-map_in file = do
-  head ← opened file
+abbrev pub file_map : List ℕ → Answer AddressMapValue
+file_map file = do
+  head ← file_head file
   file_address_map file head
 
 -- both tables of a map go up, as those that tools write do
@@ -122,8 +122,8 @@ abbrev pub is_at : ℕ → FrameData → Bool
 is_at address frame = covers (record { start = frame.code_start; size = frame.code_size }) address
 
 -- the frames of a file at an address
-abbrev pub frames_in : List ℕ → ℕ → Answer (List FrameData)
-frames_in file address = do
-  head ← opened file
+abbrev pub file_frames : List ℕ → ℕ → Answer (List FrameData)
+file_frames file address = do
+  head ← file_head file
   frames ← file_frame_table file head
   Ok (filter (is_at address) (by_heads frames.old frames.new))

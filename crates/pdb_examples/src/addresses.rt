@@ -3,7 +3,7 @@
 
 ghost use Rattle.std.specs.Prelude.{◌≡◌};
 ghost use Rattle.pdb_container.specs.Answer.{Answers};
-ghost use Rattle.pdb_examples.specs.Uses.{AreSorted, map_in, there_and_back};
+ghost use Rattle.pdb_examples.specs.Uses.{AreSorted, file_map, there_and_back};
 
 use pdb_container::{AddressMap, PDB, PdbInternalSectionOffset, Result, Rva};
 use std::alloc::Global;
@@ -13,7 +13,7 @@ use std::alloc::Global;
 /// # Errors
 /// Fails as `PDB::open` and `PDB::address_map` do.
 pub fn map_of(alloc: Global, bytes: Vec<u8>) -> Result<AddressMap>
-    ensures { Answers (λ map. map) result (map_in bytes.items) }
+    ensures { Answers (λ map. map) result (file_map bytes.items) }
 {
     let mut file = PDB::open(alloc, bytes)?;
     file.address_map(alloc)

@@ -2,7 +2,7 @@
 
 ghost use Rattle.std.specs.Prelude.{◌≡◌, IfOk, map};
 ghost use Rattle.pdb_container.specs.Answer.{Answers};
-ghost use Rattle.pdb_examples.specs.Uses.{FindsAll, class_fields, list_in};
+ghost use Rattle.pdb_examples.specs.Uses.{FindsAll, fields_of_class, field_list_in};
 ghost use Rattle.pdb_container.specs.Finder.{find_of};
 ghost use Rattle.pdb_container.specs.TypeView.{type_value};
 
@@ -26,7 +26,7 @@ pub fn finder_of(alloc: Global, types: &TypeInformation) -> Result<TypeFinder<'_
 
 /// The list of the fields of a class.
 fn list_in(value: &TypeData<'_>) -> Option<TypeIndex>
-    ensures { result ≡ list_in (type_value value.now) }
+    ensures { result ≡ field_list_in (type_value value.now) }
 {
     match value {
         TypeData::Class(class) => class.fields,
@@ -45,7 +45,7 @@ pub fn class_fields<'t>(
     class: TypeIndex,
 ) -> Result<Vec<TypeData<'t>>>
     ensures { Answers (λ fields. map type_value fields.items) result
-        (class_fields (find_of finder.now.table finder.now.known) class.0) }
+        (fields_of_class (find_of finder.now.table finder.now.known) class.0) }
 {
     let value = finder.find(class)?.parse(alloc)?;
     match list_in(&value) {

@@ -1,8 +1,8 @@
 //! All streams of a file, with their sizes.
 
 ghost use Rattle.std.specs.Prelude.{◌≡◌, IfOk, Ok};
-ghost use Rattle.pdb_container.specs.Header.{Head, opened};
-ghost use Rattle.pdb_examples.specs.Uses.{sizes_of};
+ghost use Rattle.pdb_container.specs.Header.{Head, file_head};
+ghost use Rattle.pdb_examples.specs.Uses.{sizes_by_number};
 
 use pdb_container::{Error, Msf, Result, open_msf};
 use std::alloc::Global;
@@ -18,7 +18,7 @@ const STREAM_NUMBERS: u32 = 65535;
 /// holds but the file does not. `OutOfMemory` if an allocation fails.
 pub fn stream_sizes(alloc: Global, bytes: Vec<u8>) -> Result<Vec<(u32, usize)>>
     ensures { IfOk result (λ sizes.
-        (head : Head) × (opened bytes.items ≡ Ok head) × (sizes.items ≡ sizes_of 65535 bytes.items head)) }
+        (head : Head) × (file_head bytes.items ≡ Ok head) × (sizes.items ≡ sizes_by_number 65535 bytes.items head)) }
 {
     let mut file = open_msf(alloc, bytes)?;
     let mut sizes = Vec::new(alloc);

@@ -2,7 +2,7 @@
 
 ghost use Rattle.std.specs.Prelude.{◌≡◌, Ok, IfOk, map};
 ghost use Rattle.pdb_examples.specs.Uses.{has_name, types_in, types_of};
-ghost use Rattle.pdb_container.specs.Item.{bytes_of, index_of};
+ghost use Rattle.pdb_container.specs.Item.{item_bytes, index_of};
 ghost use Rattle.pdb_container.specs.Record.{type_of};
 
 use pdb_container::{
@@ -12,7 +12,7 @@ use std::alloc::Global;
 
 /// Whether a type has this name. A type of a kind that isn't read has none.
 fn is_named(alloc: Global, item: &Type<'_>, name: &[u8]) -> Result<bool>
-    ensures { IfOk result (λ is. is ≡ has_name name.now (type_of (index_of item.now).0 (bytes_of item.now))) }
+    ensures { IfOk result (λ is. is ≡ has_name name.now (type_of (index_of item.now).0 (item_bytes item.now))) }
 {
     match item.parse(alloc) {
         Ok(data) => Ok(matches!(data.name(), Some(text) if text.as_bytes() == name)),

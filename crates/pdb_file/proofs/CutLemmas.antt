@@ -9,11 +9,11 @@ use Rattle.pdb_base.specs.Refusal.{unexpected_eof}
 use Rattle.pdb_base.specs.Reading.{front_at}
 use Rattle.pdb_base.proofs.lemmas.Collected.{ok, ok_is, ok_is_no_err}
 use Rattle.pdb_base.proofs.lemmas.Reading.{front_whole, front_cut}
-use Rattle.pdb_file.specs.Laws.{IsCut, LieInOrder}
+use Rattle.pdb_file.specs.Laws.{IsPartOf, LieInOrder}
 
 -- a part that was taken lies there
 pub front_found : (size : ℕ) (bytes : List ℕ) (x : List ℕ × List ℕ) → front_at size bytes ≡ Ok x
-    → IsCut size bytes x.0 x.1
+    → IsPartOf size bytes x.0 x.1
 front_found size bytes x e = elim (cases_lt (length bytes) size) [
   | inl short ↦ absurd (ok_is_no_err x unexpected_eof (sym e ∙ front_cut size bytes short))
   | inr long ↦
@@ -26,7 +26,7 @@ front_found size bytes x e = elim (cases_lt (length bytes) size) [
 ]
 
 -- a part that lies there is taken
-pub front_only : (size : ℕ) (bytes part rest : List ℕ) → IsCut size bytes part rest
+pub front_only : (size : ℕ) (bytes part rest : List ℕ) → IsPartOf size bytes part rest
     → front_at size bytes ≡ Ok (part, rest)
 front_only size bytes part rest cut =
     ap (λ (n : ℕ). front_at n bytes) (sym cut.len)
@@ -42,7 +42,7 @@ sum_from start (size ∷ sizes) = let here = sum_from (start + size) sizes in le
 
 -- parts in order are one part of all their bytes
 pub joined : (sizes bytes rest : List ℕ) → LieInOrder sizes bytes rest → (before : List ℕ)
-    × IsCut (sum sizes) bytes before rest
+    × IsPartOf (sum sizes) bytes before rest
 joined [] bytes rest lie = ([], record { len = refl; is = sym lie })
 joined (size ∷ sizes) bytes rest lie =
     let more = joined sizes lie.1 rest lie.3 in
@@ -55,7 +55,7 @@ joined (size ∷ sizes) bytes rest lie =
     )
 
 -- one part of all their bytes is parts in order
-pub parted : (sizes bytes before rest : List ℕ) → IsCut (sum sizes) bytes before rest → LieInOrder sizes bytes rest
+pub parted : (sizes bytes before rest : List ℕ) → IsPartOf (sum sizes) bytes before rest → LieInOrder sizes bytes rest
 parted [] bytes [] rest cut = sym cut.is
 parted [] bytes (byte ∷ before) rest cut = absurd (omega (arith, cut.len))
 parted (size ∷ sizes) bytes before rest cut =
@@ -73,11 +73,11 @@ parted (size ∷ sizes) bytes before rest cut =
     )
 
 -- how long bytes are that have a part
-pub cut_length : (size : ℕ) (bytes part rest : List ℕ) → IsCut size bytes part rest → length bytes ≡ size + length rest
+pub cut_length : (size : ℕ) (bytes part rest : List ℕ) → IsPartOf size bytes part rest → length bytes ≡ size + length rest
 cut_length size bytes part rest cut = omega (arith, cut.len, ap length cut.is, length-append part rest)
 
 -- bytes are cut anywhere within them
-pub cut_at : (size : ℕ) (bytes : List ℕ) → size ≤ length bytes → IsCut size bytes (take size bytes) (drop size bytes)
+pub cut_at : (size : ℕ) (bytes : List ℕ) → size ≤ length bytes → IsPartOf size bytes (take size bytes) (drop size bytes)
 cut_at size bytes long = record { len = length-take-le size bytes long; is = take-append-drop size bytes }
 
 -- all bytes are taken, and none are left

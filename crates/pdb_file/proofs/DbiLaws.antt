@@ -9,10 +9,10 @@ use Rattle.pdb_base.specs.Reading.{front_at}
 use Rattle.pdb_base.proofs.lemmas.Collected.{ok, ok_is, ok_is_no_err, bind_ok}
 use Rattle.pdb_base.proofs.lemmas.Reading.{front_cut, number_whole, number_cut}
 use Rattle.pdb_file.specs.Fields.{u32_in}
-use Rattle.pdb_file.specs.DbiHeader.{signature, header_size, dbi_header, dbi_header_of}
+use Rattle.pdb_file.specs.DbiHeader.{dbi_signature, header_size, dbi_header, dbi_header_of}
 use Rattle.pdb_file.specs.DebugHeader.{sizes_before, debug_header_behind}
 use Rattle.pdb_file.specs.declared.dbi_header.DBIHeader.{DBIHeader}
-use Rattle.pdb_file.specs.Laws.{HoldsHeader, FindsHeader, HoldsDebugHeader, FindsDebugHeader, IsCut}
+use Rattle.pdb_file.specs.Laws.{HoldsHeader, FindsHeader, HoldsDebugHeader, FindsDebugHeader, IsPartOf}
 use Rattle.pdb_file.proofs.CutLemmas.{front_found, front_only, joined, parted, cut_at, cut_length}
 
 abbrev ancient : Refusal
@@ -20,7 +20,7 @@ ancient = unimplemented_feature (codes "ancient DBI header")
 
 -- a stream of four bytes at least, by its first field
 by_first : (stream : List ℕ) → 4 ≤ length stream →
-    dbi_header_of stream ≡ (ok_if (u32_in 0 stream == signature) ancient
+    dbi_header_of stream ≡ (ok_if (u32_in 0 stream == dbi_signature) ancient
     >>= λ signed. ok_if (nat_le header_size (length stream)) unexpected_eof >>= λ whole. Ok (dbi_header stream))
 unfolding dbi_header_of
 by_first stream long = rw (number_whole 4 stream long) refl
@@ -42,13 +42,13 @@ header_found : (stream : List ℕ) (header : DBIHeader) → dbi_header_of stream
 header_found stream header e = elim (cases_lt (length stream) 4) [
   | inl short ↦ absurd (ok_is_no_err header unexpected_eof (sym e ∙ header_short stream short))
   | inr long ↦
-      let signed = bind_ok (ok_if (u32_in 0 stream == signature) ancient) _ header
+      let signed = bind_ok (ok_if (u32_in 0 stream == dbi_signature) ancient) _ header
       (sym (by_first stream long) ∙ e) in
       let whole = bind_ok (ok_if (nat_le header_size (length stream)) unexpected_eof) _ header signed.2 in
       let is = ok_is (dbi_header stream) header whole.2 in
-      let test = required_holds (u32_in 0 stream == signature) ancient signed.0 signed.1 in
+      let test = required_holds (u32_in 0 stream == dbi_signature) ancient signed.0 signed.1 in
       let fits = required_holds (nat_le header_size (length stream)) unexpected_eof whole.0 whole.1 in
-      let same : u32_in 0 stream ≡ signature = grind (arith, nat_tests, test) in
+      let same : u32_in 0 stream ≡ dbi_signature = grind (arith, nat_tests, test) in
       record {
         whole = grind (arith, nat_tests, fits);
         fields = is;
@@ -58,9 +58,9 @@ header_found stream header e = elim (cases_lt (length stream) 4) [
 
 header_only : (stream : List ℕ) (header : DBIHeader) → HoldsHeader stream header → dbi_header_of stream ≡ Ok header
 header_only stream header holds =
-    let first : u32_in 0 stream ≡ signature = first_field stream ∙ ap (λ (h : DBIHeader). h.signature) holds.fields
+    let first : u32_in 0 stream ≡ dbi_signature = first_field stream ∙ ap (λ (h : DBIHeader). h.signature) holds.fields
     ∙ holds.signed in
-    let test : (u32_in 0 stream == signature) ≡ true = eq-eqb (u32_in 0 stream) signature first in
+    let test : (u32_in 0 stream == dbi_signature) ≡ true = eq-eqb (u32_in 0 stream) dbi_signature first in
     let fits : nat_le header_size (length stream) ≡ true = grind (arith, nat_tests, holds.whole) in
     by_first stream (omega (arith, holds.whole)) ∙ rw (test, fits) (ap (λ (h : DBIHeader). ok h) holds.fields)
 
@@ -70,10 +70,10 @@ finds_header stream = record {
   only = header_only stream;
   short = header_short stream;
   unsigned = λ long other.
-      let test : (u32_in 0 stream == signature) ≡ false = ne_eqb (u32_in 0 stream) signature other in
+      let test : (u32_in 0 stream == dbi_signature) ≡ false = ne_eqb (u32_in 0 stream) dbi_signature other in
       by_first stream long ∙ rw test refl;
   cut = λ long first cut.
-      let test : (u32_in 0 stream == signature) ≡ true = eq-eqb (u32_in 0 stream) signature first in
+      let test : (u32_in 0 stream == dbi_signature) ≡ true = eq-eqb (u32_in 0 stream) dbi_signature first in
       let fits : nat_le header_size (length stream) ≡ false = grind (arith, nat_tests, cut) in
       by_first stream long ∙ rw (test, fits) refl;
 }
@@ -123,7 +123,7 @@ unfolding debug_header_behind
 debug_cut stream header holds short = elim (cases_lt (length stream) (sum (sizes_before header))) [
   | inl early ↦ rw (header_only stream header holds, front_cut (sum (sizes_before header)) stream early) refl
   | inr late ↦
-      let before : IsCut (sum (sizes_before header)) stream (take (sum (sizes_before header)) stream)
+      let before : IsPartOf (sum (sizes_before header)) stream (take (sum (sizes_before header)) stream)
       (drop (sum (sizes_before header)) stream) = cut_at (sum (sizes_before header)) stream late in
       let len = cut_length _ stream _ _ before in
       rw (

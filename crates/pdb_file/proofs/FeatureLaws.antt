@@ -8,7 +8,7 @@ use Rattle.pdb_file.specs.Features.{features_in, features_of, is_among, minimal_
 use Rattle.pdb_file.specs.Features.{numbers_in, up_to, vc110_number, vc140_number}
 use Rattle.pdb_file.specs.StreamNames.{map_of}
 use Rattle.pdb_file.specs.declared.information.PDBInformation.{PDBInformation}
-use Rattle.pdb_file.specs.Laws.{FindsFeatures, IsTold, TellFeatures}
+use Rattle.pdb_file.specs.Laws.{FindsFeatures, IsFeatureTold, TellFeatures}
 use Rattle.pdb_file.proofs.EndLemmas.{ok_ends, then_ends, map_ends}
 use Rattle.pdb_file.proofs.NamedLaws.{map_only}
 
@@ -37,7 +37,7 @@ or_right : (a b : Bool) → b ≡ true → (a || b) ≡ true
 or_right true b e = refl
 or_right false b e = e
 
-told_first : (sought : ℕ) (numbers : List ℕ) → IsTold (sought ∷ numbers) sought
+told_first : (sought : ℕ) (numbers : List ℕ) → IsFeatureTold (sought ∷ numbers) sought
 told_first sought numbers = record { place = 0; there = refl; before = λ k below. absurd (omega (arith, below)) }
 
 before_later : (first : ℕ) (numbers : List ℕ) (place : ℕ) → first ≢ vc110_number
@@ -46,8 +46,8 @@ before_later : (first : ℕ) (numbers : List ℕ) (place : ℕ) → first ≢ vc
 before_later first numbers place other before zero below is = other (some_is first vc110_number is)
 before_later first numbers place other before (suc k) below is = before k (omega (arith, below)) is
 
-told_later : (first sought : ℕ) (numbers : List ℕ) → first ≢ vc110_number → IsTold numbers sought
-    → IsTold (first ∷ numbers) sought
+told_later : (first sought : ℕ) (numbers : List ℕ) → first ≢ vc110_number → IsFeatureTold numbers sought
+    → IsFeatureTold (first ∷ numbers) sought
 told_later first sought numbers other told = record {
   place = suc told.place;
   there = told.there;
@@ -74,7 +74,7 @@ among_is first sought numbers false is_first last test =
 
 -- a number that is among those up to and with VC110 is told
 among_told : (sought : ℕ) (numbers : List ℕ) → is_among sought (up_to vc110_number numbers) ≡ true
-    → IsTold numbers sought
+    → IsFeatureTold numbers sought
 among_told sought [] e = absurd cc
 among_told sought (first ∷ numbers) e = elim (test_cases (first == sought)) [
   | inl same ↦ rw (eqb-true first sought same) (told_first sought numbers)
@@ -104,7 +104,7 @@ told_among sought (first ∷ numbers) (suc place) there before =
     among_is first sought numbers false (first == sought) other refl ∙ or_right (first == sought) _ more
 
 is_told : (sought : ℕ) (numbers : List ℕ)
-    → IsTrue (is_among sought (up_to vc110_number numbers)) ↔ IsTold numbers sought
+    → IsTrue (is_among sought (up_to vc110_number numbers)) ↔ IsFeatureTold numbers sought
 is_told sought numbers = (
   among_told sought numbers,
   λ told. told_among sought numbers told.place told.there told.before,

@@ -15,7 +15,7 @@ use Rattle.pdb_space.proofs.NameLemmas.{finds_name}
 use Rattle.pdb_file.specs.Fields.{u32_in}
 use Rattle.pdb_file.specs.StreamNames.{Map, Named, behind_set, entries_at, map_of, named_at, named_in}
 use Rattle.pdb_file.specs.declared.information.PDBInformation.{PDBInformation}
-use Rattle.pdb_file.specs.Laws.{IsCut, SpellsSet, HoldsMap, IsNamed, AreNamed, FindsNamed}
+use Rattle.pdb_file.specs.Laws.{IsPartOf, SpellsSet, HoldsMap, IsNamed, AreNamed, FindsNamed}
 use Rattle.pdb_file.proofs.CutLemmas.{front_found, front_only}
 use Rattle.pdb_file.proofs.EndLemmas.{names_end}
 
@@ -72,7 +72,7 @@ map_found information table e =
       behind = before.0.1;
       header = front_found information.names_offset information.stream before.0 before.1;
       behind_names = names.0.1;
-      names = subst (λ (t : Map). IsCut information.names_size before.0.1 t.names names.0.1) is
+      names = subst (λ (t : Map). IsPartOf information.names_size before.0.1 t.names names.0.1) is
           (front_found information.names_size before.0.1 names.0 names.1);
       number = count.0.0;
       behind_count = count.0.1;
@@ -86,7 +86,7 @@ map_found information table e =
       other_bits = other.0;
       behind_deleted = deleted.0;
       deleted = other.1;
-      entries = subst (λ (t : Map). IsCut (8 * count.0.0) deleted.0 t.entries t.behind) is
+      entries = subst (λ (t : Map). IsPartOf (8 * count.0.0) deleted.0 t.entries t.behind) is
           (front_found (8 * count.0.0) deleted.0 whole.0 deleted.2);
     }
 
@@ -94,7 +94,7 @@ entries_only : (bytes entries behind_count behind_capacity bits behind_present o
     (number most : ℕ)
     → Begins (SpellsNumber 4) bytes number behind_count → Begins (SpellsNumber 4) behind_count most behind_capacity
     → Begins SpellsSet behind_capacity bits behind_present → Begins SpellsSet behind_present other behind_deleted
-    → IsCut (8 * number) behind_deleted entries rest → entries_at bytes ≡ Ok (entries, rest)
+    → IsPartOf (8 * number) behind_deleted entries rest → entries_at bytes ≡ Ok (entries, rest)
 unfolding entries_at
 entries_only bytes entries behind_count behind_capacity bits behind_present other behind_deleted rest number most count
     capacity present deleted cut =

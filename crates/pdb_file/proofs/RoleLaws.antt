@@ -15,7 +15,7 @@ use Rattle.pdb_base.specs.declared.index.StreamIndex.{StreamIndex}
 use Rattle.pdb_file.specs.Fields.{u16_in}
 use Rattle.pdb_file.specs.DebugHeader.{stream_listed_at, roles_in, is_whole, extra_streams}
 use Rattle.pdb_file.specs.declared.debug_header.DBIExtraStreams.{DBIExtraStreams}
-use Rattle.pdb_file.specs.Laws.{IsListed, AreListed, FindsRoles}
+use Rattle.pdb_file.specs.Laws.{IsStreamListed, AreListed, FindsRoles}
 
 -- ---- one place
 
@@ -33,20 +33,20 @@ past list place short =
 
 -- of a list without half a number
 place_found : (list : List ℕ) (place : ℕ) → (22 ≤ length list) ⊎ (length list % 2 ≡ 0) → place < 11
-    → IsListed list place (stream_listed_at place list)
+    → IsStreamListed list place (stream_listed_at place list)
 place_found list place whole within = elim (cases_lt (length list) (2 * place + 2)) [
   | inr long ↦
       let behind = numbers 2 in
       let read = number_whole 2 (drop (2 * place) list) (omega (arith, length-drop (2 * place) list)) in
       let begins = behind.found (drop (2 * place) list) (u16_in (2 * place) list)
       (drop 2 (drop (2 * place) list)) read in
-      subst (IsListed list place) (sym (there list place long)) (inl (drop 2 (drop (2 * place) list), begins))
+      subst (IsStreamListed list place) (sym (there list place long)) (inl (drop 2 (drop (2 * place) list), begins))
   | inl short ↦
       let even : length list ≤ 2 * place = elim whole [
         | inl many ↦ absurd (omega arith)
         | inr even ↦ omega arith
       ] in
-      subst (IsListed list place) (sym (past list place short)) (inr (even, refl))
+      subst (IsStreamListed list place) (sym (past list place short)) (inr (even, refl))
 ]
 
 index_is : (a b : StreamIndex) → a.0 ≡ b.0 → a ≡ b
@@ -64,7 +64,7 @@ begins_long list place index rest begins short =
       length-drop (2 * place) list,
     )
 
-place_only : (list : List ℕ) (place : ℕ) (index : StreamIndex) → IsListed list place index → stream_listed_at place list ≡ index
+place_only : (list : List ℕ) (place : ℕ) (index : StreamIndex) → IsStreamListed list place index → stream_listed_at place list ≡ index
 place_only list place index (inl begins) =
     let read = (numbers 2).only (drop (2 * place) list) index.0 begins.0 begins.1 in
     elim (cases_lt (length list) (2 * place + 2)) [
@@ -124,7 +124,7 @@ all_only list roles are = λ i. record {
 }
 
 -- where half a number stands, that place is not listed
-no_half : (list : List ℕ) (place : ℕ) (index : StreamIndex) → IsListed list place index → length list ≢ 2 * place + 1
+no_half : (list : List ℕ) (place : ℕ) (index : StreamIndex) → IsStreamListed list place index → length list ≢ 2 * place + 1
 no_half list place index (inl begins) half = begins_long list place index begins.0 begins.1 (omega (arith, half))
 no_half list place index (inr behind) half = omega (arith, half, behind.0)
 

@@ -7,8 +7,8 @@ use Rattle.pdb_file.specs.Fields.{u16_in, u32_in}
 use Rattle.pdb_file.specs.declared.dbi_header.DBIHeader.{DBIHeader}
 
 -- the signature at the front of every header except those of the oldest format
-abbrev pub signature : ℕ
-signature = 0xffffffff
+abbrev pub dbi_signature : ℕ
+dbi_signature = 0xffffffff
 
 -- the size of a header in bytes
 abbrev pub header_size : ℕ
@@ -43,6 +43,6 @@ dbi_header bytes = record {
 unfoldable pub dbi_header_of : List ℕ → Answer DBIHeader
 dbi_header_of stream = do
   first ← number_at 4 stream
-  signed ← ok_if (first.0 == signature) (unimplemented_feature (codes "ancient DBI header"))
+  signed ← ok_if (first.0 == dbi_signature) (unimplemented_feature (codes "ancient DBI header"))
   whole ← ok_if (nat_le header_size (length stream)) unexpected_eof
   Ok (dbi_header stream)

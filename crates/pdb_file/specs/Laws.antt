@@ -8,7 +8,7 @@ use Rattle.pdb_base.specs.Spelling.{SpellsNumber, Begins}
 use Rattle.pdb_base.specs.declared.index.StreamIndex.{StreamIndex}
 use Rattle.pdb_space.specs.StringTableLaws.{IsNameAt}
 use Rattle.pdb_file.specs.Fields.{u32_in}
-use Rattle.pdb_file.specs.DbiHeader.{signature, header_size, dbi_header, dbi_header_of}
+use Rattle.pdb_file.specs.DbiHeader.{dbi_signature, header_size, dbi_header, dbi_header_of}
 use Rattle.pdb_file.specs.DebugHeader.{sizes_before, debug_header_behind, extra_streams}
 use Rattle.pdb_file.specs.StreamNames.{Map, Named, map_of, named_in, stream_names_of}
 use Rattle.pdb_file.specs.Features.{features_in, features_of, minimal_number, no_type_merge_number, numbers_in}
@@ -28,7 +28,7 @@ EndsTooSoon {A} answer = (e : Refusal) → answer ≡ Err e → e ≡ unexpected
 pub record HoldsHeader (stream : List ℕ) (header : DBIHeader) : Type 0 where
   pub whole : header_size ≤ length stream
   pub fields : dbi_header stream ≡ header
-  pub signed : header.signature ≡ signature
+  pub signed : header.signature ≡ dbi_signature
 
 -- `dbi_header_of` gives the header with which the stream begins. Any other stream is refused
 -- with the first of three faults.
@@ -36,22 +36,22 @@ pub record FindsHeader (stream : List ℕ) : Type 0 where
   pub found : (header : DBIHeader) → dbi_header_of stream ≡ Ok header → HoldsHeader stream header
   pub only : (header : DBIHeader) → HoldsHeader stream header → dbi_header_of stream ≡ Ok header
   pub short : length stream < 4 → dbi_header_of stream ≡ Err unexpected_eof
-  pub unsigned : 4 ≤ length stream → u32_in 0 stream ≢ signature
+  pub unsigned : 4 ≤ length stream → u32_in 0 stream ≢ dbi_signature
       → dbi_header_of stream ≡ Err (unimplemented_feature (codes "ancient DBI header"))
-  pub cut : 4 ≤ length stream → u32_in 0 stream ≡ signature → length stream < header_size
+  pub cut : 4 ≤ length stream → u32_in 0 stream ≡ dbi_signature → length stream < header_size
       → dbi_header_of stream ≡ Err unexpected_eof
 
 -- ---- its debug header
 
 -- The bytes are a part of `size` bytes, followed by the rest.
-pub record IsCut (size : ℕ) (bytes part rest : List ℕ) : Type 0 where
+pub record IsPartOf (size : ℕ) (bytes part rest : List ℕ) : Type 0 where
   pub len : length part ≡ size
   pub is : part ++ rest ≡ bytes
 
 -- The bytes are parts of these sizes, one after another, followed by the rest.
 abbrev pub LieInOrder : List ℕ → List ℕ → List ℕ → Type 0
 LieInOrder [] bytes rest = bytes ≡ rest
-LieInOrder (size ∷ sizes) bytes rest = (part : List ℕ) × (behind : List ℕ) × IsCut size bytes part behind
+LieInOrder (size ∷ sizes) bytes rest = (part : List ℕ) × (behind : List ℕ) × IsPartOf size bytes part behind
     × LieInOrder sizes behind rest
 
 -- The stream begins with a header, and `list` is the debug header after all the parts before it.
@@ -61,7 +61,7 @@ pub record HoldsDebugHeader (stream list : List ℕ) : Type 0 where
   pub behind : List ℕ
   pub before : LieInOrder (sizes_before header) stream behind
   pub rest : List ℕ
-  pub taken : IsCut header.debug_header_size behind list rest
+  pub taken : IsPartOf header.debug_header_size behind list rest
 
 -- `debug_header_behind` gives the debug header that the stream holds. A stream that holds none is refused as
 -- its header is, or because it ends too soon.
@@ -77,24 +77,24 @@ pub record FindsDebugHeader (stream : List ℕ) : Type 0 where
 
 -- The stream at an index of a list is the number there, or no stream if the list ends before it. If the list
 -- ends in half of that number, neither holds.
-abbrev pub IsListed : List ℕ → ℕ → StreamIndex → Type 0
-IsListed list place index =
+abbrev pub IsStreamListed : List ℕ → ℕ → StreamIndex → Type 0
+IsStreamListed list place index =
     ((rest : List ℕ) × Begins (SpellsNumber 2) (drop (2 * place) list) index.0 rest)
     ⊎ ((length list ≤ 2 * place) × (index.0 ≡ no_stream))
 
 -- The eleven roles have these streams, one line for each index.
 pub record AreListed (list : List ℕ) (roles : DBIExtraStreams) : Type 0 where
-  pub fpo : IsListed list 0 roles.fpo
-  pub exception : IsListed list 1 roles.exception
-  pub fixup : IsListed list 2 roles.fixup
-  pub omap_to_src : IsListed list 3 roles.omap_to_src
-  pub omap_from_src : IsListed list 4 roles.omap_from_src
-  pub section_headers : IsListed list 5 roles.section_headers
-  pub token_rid_map : IsListed list 6 roles.token_rid_map
-  pub xdata : IsListed list 7 roles.xdata
-  pub pdata : IsListed list 8 roles.pdata
-  pub framedata : IsListed list 9 roles.framedata
-  pub original_section_headers : IsListed list 10 roles.original_section_headers
+  pub fpo : IsStreamListed list 0 roles.fpo
+  pub exception : IsStreamListed list 1 roles.exception
+  pub fixup : IsStreamListed list 2 roles.fixup
+  pub omap_to_src : IsStreamListed list 3 roles.omap_to_src
+  pub omap_from_src : IsStreamListed list 4 roles.omap_from_src
+  pub section_headers : IsStreamListed list 5 roles.section_headers
+  pub token_rid_map : IsStreamListed list 6 roles.token_rid_map
+  pub xdata : IsStreamListed list 7 roles.xdata
+  pub pdata : IsStreamListed list 8 roles.pdata
+  pub framedata : IsStreamListed list 9 roles.framedata
+  pub original_section_headers : IsStreamListed list 10 roles.original_section_headers
 
 -- `extra_streams` gives the streams of the roles in a list. It fails if and only if the list ends in half of
 -- one of the first eleven numbers.
@@ -120,9 +120,9 @@ pub record SpellsSet (words front : List ℕ) : Type 0 where
 pub record HoldsMap (information : PDBInformation) (table : Map) : Type 0 where
   pub before : List ℕ
   pub behind : List ℕ
-  pub header : IsCut information.names_offset information.stream before behind
+  pub header : IsPartOf information.names_offset information.stream before behind
   pub behind_names : List ℕ
-  pub names : IsCut information.names_size behind table.names behind_names
+  pub names : IsPartOf information.names_size behind table.names behind_names
   pub number : ℕ
   pub behind_count : List ℕ
   pub count : Begins (SpellsNumber 4) behind_names number behind_count
@@ -135,7 +135,7 @@ pub record HoldsMap (information : PDBInformation) (table : Map) : Type 0 where
   pub other_bits : List ℕ
   pub behind_deleted : List ℕ
   pub deleted : Begins SpellsSet behind_present other_bits behind_deleted
-  pub entries : IsCut (8 * number) behind_deleted table.entries table.behind
+  pub entries : IsPartOf (8 * number) behind_deleted table.entries table.behind
 
 -- What entry k of a table says: the name at its offset, and its stream.
 pub record IsNamed (table : Map) (k : ℕ) (named : Named) : Type 0 where
@@ -159,17 +159,17 @@ pub record FindsNamed (information : PDBInformation) : Type 0 where
 -- ---- features
 
 -- A list of numbers tells a number: it is in the list, and VC110 is not before it.
-pub record IsTold (numbers : List ℕ) (number : ℕ) : Type 0 where
+pub record IsFeatureTold (numbers : List ℕ) (number : ℕ) : Type 0 where
   pub place : ℕ
   pub there : slice_get numbers place ≡ Some number
   pub before : (k : ℕ) → k < place → slice_get numbers k ≢ Some vc110_number
 
 -- Bytes tell a feature if and only if the list of their u32 numbers tells its number.
 pub record TellFeatures (bytes : List ℕ) : Type 0 where
-  pub vc110 : IsTrue (features_in bytes).vc110 ↔ IsTold (numbers_in bytes) vc110_number
-  pub vc140 : IsTrue (features_in bytes).vc140 ↔ IsTold (numbers_in bytes) vc140_number
-  pub no_type_merge : IsTrue (features_in bytes).no_type_merge ↔ IsTold (numbers_in bytes) no_type_merge_number
-  pub minimal : IsTrue (features_in bytes).minimal ↔ IsTold (numbers_in bytes) minimal_number
+  pub vc110 : IsTrue (features_in bytes).vc110 ↔ IsFeatureTold (numbers_in bytes) vc110_number
+  pub vc140 : IsTrue (features_in bytes).vc140 ↔ IsFeatureTold (numbers_in bytes) vc140_number
+  pub no_type_merge : IsTrue (features_in bytes).no_type_merge ↔ IsFeatureTold (numbers_in bytes) no_type_merge_number
+  pub minimal : IsTrue (features_in bytes).minimal ↔ IsFeatureTold (numbers_in bytes) minimal_number
 
 -- `features_of` gives the features that the bytes after the table of stream 1 tell. There are none if and only if the
 -- stream ends too soon for the table.

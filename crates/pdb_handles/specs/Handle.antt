@@ -13,15 +13,15 @@ use Rattle.pdb_handles.specs.declared.fault.Fault.{Fault}
 use Rattle.pdb_handles.specs.Fault.{fine, fault_of, already_open, too_long}
 
 -- the number of the kind of a handle's contents; 0 if it holds nothing
-abbrev pub kind_of : Option Content → ℕ
-kind_of None = 0
-kind_of (Some (contents.Names names)) = 1
-kind_of (Some (contents.Omap table)) = 2
-kind_of (Some (contents.Addresses map)) = 3
-kind_of (Some (contents.Frames table)) = 4
-kind_of (Some (contents.File layout)) = 5
-kind_of (Some (contents.Table table)) = 6
-kind_of (Some (contents.Definitions table)) = 7
+abbrev pub content_kind : Option Content → ℕ
+content_kind None = 0
+content_kind (Some (contents.Names names)) = 1
+content_kind (Some (contents.Omap table)) = 2
+content_kind (Some (contents.Addresses map)) = 3
+content_kind (Some (contents.Frames table)) = 4
+content_kind (Some (contents.File layout)) = 5
+content_kind (Some (contents.Table table)) = 6
+content_kind (Some (contents.Definitions table)) = 7
 
 -- the value of an answer, as the contents of a handle
 abbrev pub held_as : {A : Type 0} → (A → Content) → Answer A → Answer Content

@@ -10,11 +10,11 @@ use Rattle.pdb_values.specs.IdValue.{IdValue, PlainIdValue, plain}
 use Rattle.pdb_tpi.specs.Record.{id_of}
 use Rattle.pdb_handles.specs.declared.row.Row.{Row}
 use Rattle.pdb_handles.specs.declared.row.Numbers.{Numbers}
-use Rattle.pdb_handles.specs.Row.{no_numbers, row}
+use Rattle.pdb_handles.specs.Row.{no_numbers, zeroed_row}
 
 -- the number of an id's index, if there is one
-abbrev pub id_in : Option IdIndex → Option ℕ
-id_in index = option_map (λ index. index.0) index
+abbrev pub id_number : Option IdIndex → Option ℕ
+id_number index = option_map (λ index. index.0) index
 
 -- the numbers of the place where a type is declared: the id of a file's name, or a module and the offset
 -- of the name in the string table
@@ -24,23 +24,23 @@ source_numbers type line (files.Remote unit place) = record no_numbers { type_in
 
 -- the row of an id that is not a list
 abbrev pub plain_row : PlainIdValue → Row
-plain_row (ids.function v) = row 0 (record no_numbers { type_index = Some v.function_type.0; second_index = id_in v.scope })
-plain_row (ids.member_function v) = row 1 (record no_numbers { type_index = Some v.function_type.0; third_index = Some v.parent.0 })
-plain_row (ids.string v) = row 4 (record no_numbers { list_index = id_in v.substrings })
-plain_row (ids.user_defined_type_source v) = row 5 (source_numbers v.udt.0 v.line v.source_file)
+plain_row (ids.function v) = zeroed_row 0 (record no_numbers { type_index = Some v.function_type.0; second_index = id_number v.scope })
+plain_row (ids.member_function v) = zeroed_row 1 (record no_numbers { type_index = Some v.function_type.0; third_index = Some v.parent.0 })
+plain_row (ids.string v) = zeroed_row 4 (record no_numbers { list_index = id_number v.substrings })
+plain_row (ids.user_defined_type_source v) = zeroed_row 5 (source_numbers v.udt.0 v.line v.source_file)
 
 -- the row of an id
-abbrev pub id_row : IdValue → Row
-id_row (plain value) = plain_row value
-id_row (ids.build_info list) = row 2 no_numbers
-id_row (ids.string_list list) = row 3 no_numbers
+abbrev pub id_info : IdValue → Row
+id_info (plain value) = plain_row value
+id_info (ids.build_info list) = zeroed_row 2 no_numbers
+id_info (ids.string_list list) = zeroed_row 3 no_numbers
 
 -- what the id in a record says
 abbrev pub of_id : {A : Type 0} → (IdValue → A) → List ℕ → Answer A
 of_id says bytes = id_of bytes >>= λ value. Ok (says value)
 
 -- the indexes in the list that an id is: of ids, or of the parts of a text
-abbrev pub list_in : IdValue → Option (List ℕ)
-list_in (ids.build_info list) = Some (map (λ index. index.0) list)
-list_in (ids.string_list list) = Some (map (λ index. index.0) list)
-list_in value = None
+abbrev pub id_list : IdValue → Option (List ℕ)
+id_list (ids.build_info list) = Some (map (λ index. index.0) list)
+id_list (ids.string_list list) = Some (map (λ index. index.0) list)
+id_list value = None

@@ -4,15 +4,15 @@ use Rattle.pdb_values.specs.declared.method.MethodListEntry.{MethodListEntry}
 use Rattle.pdb_values.specs.TypeValue as values
 use Rattle.pdb_values.specs.TypeValue.{PlainValue, TypeValue, plain}
 use Rattle.pdb_handles.specs.declared.row.Row.{Row}
-use Rattle.pdb_handles.specs.Row.{no_numbers, row}
+use Rattle.pdb_handles.specs.Row.{no_numbers, zeroed_row}
 
 -- a method of a list for the caller: like a method that isn't in a list, but without a name
-abbrev pub method_row : MethodListEntry → Row
-method_row method = row 5 (record no_numbers { attributes = Some method.attributes; type_index = Some method.method_type.0; extra = method.vtable_offset })
+abbrev pub method_info : MethodListEntry → Row
+method_info method = zeroed_row 5 (record no_numbers { attributes = Some method.attributes; type_index = Some method.method_type.0; extra = method.vtable_offset })
 
 -- the methods that a type lists, if it is a list of methods
 abbrev pub methods_in : TypeValue → Option (List Row)
-methods_in (values.method_list methods) = Some (map method_row methods)
+methods_in (values.method_list methods) = Some (map method_info methods)
 methods_in value = None
 
 -- the size of an array in bytes up to each dimension, the innermost first, each including those before it, if the type

@@ -6,8 +6,8 @@ use Rattle.pdb_handles.specs.Fault.{fine, not_mapped}
 use Rattle.pdb_handles.specs.Found.{Found, value_or_fault}
 
 -- a record for the caller
-abbrev pub omap_row : OmapValue → OmapRow
-omap_row moved = record { source = moved.source; target = moved.target }
+abbrev pub omap_info : OmapValue → OmapRow
+omap_info moved = record { source = moved.source; target = moved.target }
 
 -- The number is 1 and the sources of the table don't decrease, or it is 0 and they do.
 abbrev pub TellsOrder : List OmapValue → Found ℕ → Type 0

@@ -11,7 +11,7 @@ use Rattle.pdb_handles.specs.declared.listing.Listing.{Listing as Collected}
 use Rattle.pdb_handles.specs.Copied.{Copied, nothing_copied, items_copied}
 use Rattle.pdb_handles.specs.Fault.{fine, fault_of, no_value, too_small}
 use Rattle.pdb_handles.specs.Frame.{flag}
-use Rattle.pdb_handles.specs.Row.{row_of}
+use Rattle.pdb_handles.specs.Row.{type_info}
 
 -- what is written of a list that may be absent
 abbrev pub if_copied : {A : Type 0} → List A → Answer (Option (List A)) → Copied A
@@ -33,28 +33,28 @@ abbrev pub name_bytes : TypeValue → List ℕ
 name_bytes value = unwrap_or (name_of_type value) []
 
 -- a field for the caller
-abbrev pub field_row : TypeValue → FieldRow
-field_row value = record { info = row_of value; has_name = flag (is_some (name_of_type value)); name_length = length (name_bytes value) }
+abbrev pub field_info : TypeValue → FieldRow
+field_info value = record { info = type_info value; has_name = flag (is_some (name_of_type value)); name_length = length (name_bytes value) }
 
 -- rows for the caller, and their names one behind another
-pub record Listing (R : Type 0) : Type 0 where
+pub record NamedRows (R : Type 0) : Type 0 where
   pub rows : List R
   pub names : List ℕ
 
-abbrev pub listing : List TypeValue → Listing FieldRow
-listing fields = record { rows = map field_row fields; names = flat_map name_bytes fields }
+abbrev pub listing : List TypeValue → NamedRows FieldRow
+listing fields = record { rows = map field_info fields; names = flat_map name_bytes fields }
 
 -- the listing that the code made, independent of where it is stored
-abbrev pub listing_view : {R : Type 0} → Collected R → Listing R
+abbrev pub listing_view : {R : Type 0} → Collected R → NamedRows R
 listing_view made = record { rows = made.rows.items; names = made.names.items }
 
 -- the fields that a type lists, if it is a list of fields
-abbrev pub fields_in : TypeValue → Option (Listing FieldRow)
-fields_in (field_list fields continuation) = Some (listing (values_in fields))
-fields_in value = None
+abbrev pub fields_told : TypeValue → Option (NamedRows FieldRow)
+fields_told (field_list fields continuation) = Some (listing (values_in fields))
+fields_told value = None
 
 -- the fields that were found
-abbrev pub all_found : Answer (List TypeValue) → Answer (Option (Listing FieldRow))
+abbrev pub all_found : Answer (List TypeValue) → Answer (Option (NamedRows FieldRow))
 all_found meant = meant >>= λ fields. Ok (Some (listing fields))
 
 -- the result of a call that writes rows and their names: how it ended, how many there are of both, and
@@ -79,7 +79,7 @@ rows_copied rows names told bytes =
     else record { fault = fine; rows = told ++ drop (length told) rows; count = length told; names = bytes ++ drop (length bytes) names; size = length bytes }
 
 -- the listing that is meant is written, or the fault is that of its refusal
-abbrev pub listing_told : {R : Type 0} → List R → List ℕ → Answer (Option (Listing R)) → Fielded R
+abbrev pub listing_told : {R : Type 0} → List R → List ℕ → Answer (Option (NamedRows R)) → Fielded R
 listing_told rows names (Ok (Some told)) = rows_copied rows names told.rows told.names
 listing_told rows names (Ok None) = no_rows_copied no_value rows names
 listing_told rows names (Err refusal) = no_rows_copied (fault_of refusal) rows names

@@ -35,6 +35,6 @@ LacksValue old fault new = (fault ≡ fault_of out_of_memory) × (new ≡ old)
 
 -- What is meant was written for the caller; or the fault is that of the refusal that is meant, and the
 -- caller's value stays as it was; or memory was refused.
-abbrev pub IsAnswered : {A B : Type 0} → (A → B) → Answer A → B → Fault → B → Type 0
-IsAnswered shown (Ok value) old fault new = ((fault ≡ fine) × (new ≡ shown value)) ⊎ LacksValue old fault new
-IsAnswered shown (Err refusal) old fault new = ((fault ≡ fault_of refusal) × (new ≡ old)) ⊎ LacksValue old fault new
+abbrev pub IsAnswerTold : {A B : Type 0} → (A → B) → Answer A → B → Fault → B → Type 0
+IsAnswerTold shown (Ok value) old fault new = ((fault ≡ fine) × (new ≡ shown value)) ⊎ LacksValue old fault new
+IsAnswerTold shown (Err refusal) old fault new = ((fault ≡ fault_of refusal) × (new ≡ old)) ⊎ LacksValue old fault new

@@ -7,8 +7,8 @@ use Rattle.pdb_handles.specs.declared.sections.Section.{Section}
 use Rattle.std.specs.Prelude.{ℕ}
 
 -- a section for the caller
-abbrev pub section_of : ImageSectionHeader → Section
-section_of header = record {
+abbrev pub section_info : ImageSectionHeader → Section
+section_info header = record {
   name = header.name;
   virtual_size = header.virtual_size;
   virtual_address = header.virtual_address;
@@ -22,5 +22,5 @@ section_of header = record {
 }
 
 -- the sections that a stream holds, for the caller
-abbrev pub sections_in : List ℕ → Answer (List Section)
-sections_in stream = section_headers_of stream >>= λ headers. Ok (map section_of headers)
+abbrev pub sections_told : List ℕ → Answer (List Section)
+sections_told stream = section_headers_of stream >>= λ headers. Ok (map section_info headers)

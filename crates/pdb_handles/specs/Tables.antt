@@ -15,7 +15,7 @@ use Rattle.pdb_handles.specs.declared.fields.FieldRow.{FieldRow}
 use Rattle.pdb_handles.specs.declared.open_table.Located.{Located}
 use Rattle.pdb_handles.specs.Fault.{fault_of, fine, no_more, no_value, not_open}
 use Rattle.pdb_handles.specs.Found.{Found, not_held}
-use Rattle.pdb_handles.specs.Records.{Fielded, Listing, all_found, listing_told, no_rows_copied}
+use Rattle.pdb_handles.specs.Records.{Fielded, NamedRows, all_found, listing_told, no_rows_copied}
 
 -- the table in a stream, with its walk before the first item
 abbrev pub table_opened : List ℕ → Answer WalkPosition
@@ -72,7 +72,7 @@ rewind_outcome (Some (contents.Table stand)) = record { fault = fine; value = So
 rewind_outcome held = record { fault = not_open; value = held }
 
 -- the fields of a field list in a table, and of the lists that continue it
-abbrev pub fields_in_table : ℕ → WalkPosition → Answer (Option (Listing FieldRow))
+abbrev pub fields_in_table : ℕ → WalkPosition → Answer (Option (NamedRows FieldRow))
 fields_in_table index stand = all_found (fields_of (item_of stand.table) index)
 
 -- the same for the table that a handle holds

@@ -9,23 +9,23 @@ use Rattle.pdb_handles.specs.declared.fault.Fault.{Fault}
 use Rattle.pdb_handles.specs.Fault.{fault_of, texts}
 
 -- the refusal that a status can stand for, if any, by the two numbers that go with it
-abbrev pub Tells : Type 0
-Tells = ℕ → ℕ → Option Refusal
+abbrev pub RefusalByNumbers : Type 0
+RefusalByNumbers = ℕ → ℕ → Option Refusal
 
 -- no refusal
-abbrev pub none : Tells
-none first second = None
+abbrev pub no_refusal : RefusalByNumbers
+no_refusal first second = None
 
 -- a refusal with no number
-abbrev pub plain : Refusal → Tells
+abbrev pub plain : Refusal → RefusalByNumbers
 plain refusal first second = Some refusal
 
 -- a refusal with one number
-abbrev pub number_fault : (ℕ → Refusal) → Tells
+abbrev pub number_fault : (ℕ → Refusal) → RefusalByNumbers
 number_fault refusal first second = Some (refusal first)
 
 -- a refusal with one number, which must be below a bound
-abbrev pub below : ℕ → (ℕ → Refusal) → Tells
+abbrev pub below : ℕ → (ℕ → Refusal) → RefusalByNumbers
 below bound refusal first second = if nat_lt first bound then Some (refusal first) else None
 
 -- the text with this number; numbers begin at 1
@@ -34,7 +34,7 @@ text_numbered zero = None
 text_numbered (suc place) = slice_get texts place
 
 -- a refusal with a text
-abbrev pub text_fault : (List ℕ → Refusal) → Tells
+abbrev pub text_fault : (List ℕ → Refusal) → RefusalByNumbers
 text_fault refusal first second = option_map refusal (text_numbered first)
 
 -- the kind with this number; numbers begin at 1
@@ -43,13 +43,13 @@ kind_numbered zero = None
 kind_numbered (suc place) = slice_get (kinds.UnexpectedEof ∷ kinds.OutOfMemory ∷ []) place
 
 -- an error of a source
-abbrev pub of_source : Tells
+abbrev pub of_source : RefusalByNumbers
 of_source first second = option_map io_error (kind_numbered first)
 
 -- the refusal for each status, from 0 on
-abbrev pub tellings : List Tells
+abbrev pub tellings : List RefusalByNumbers
 tellings =
-    none
+    no_refusal
     ∷ plain unrecognized_file_format ∷ number_fault page_reference_out_of_range ∷ number_fault invalid_page_size ∷ number_fault stream_not_found
     ∷ plain stream_name_not_found ∷ text_fault invalid_stream_length ∷ of_source ∷ plain unexpected_eof
     ∷ text_fault unimplemented_feature ∷ plain global_symbols_not_found ∷ plain symbol_too_short ∷ below (2 ^ 16) unimplemented_symbol_kind

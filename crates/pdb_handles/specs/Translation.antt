@@ -12,12 +12,12 @@ use Rattle.pdb_handles.specs.Found.{Found, value_or_fault}
 use Rattle.pdb_handles.specs.Frame.{flag}
 
 -- a place for the caller
-abbrev pub place_of : SectionPlace → Place
-place_of place = record { offset = place.offset; section = place.section }
+abbrev pub place_told : SectionPlace → Place
+place_told place = record { offset = place.offset; section = place.section }
 
 -- a place that may be absent, for the caller
 abbrev pub place_or_none : Option SectionPlace → Place
-place_or_none place = option_map_or place_of place (record { offset = 0; section = 0 })
+place_or_none place = option_map_or place_told place (record { offset = 0; section = 0 })
 
 -- the forms for the caller
 abbrev pub translation_of : Forms → Translation

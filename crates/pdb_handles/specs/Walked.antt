@@ -14,22 +14,22 @@ use Rattle.pdb_handles.specs.declared.row.Row.{Row}
 use Rattle.pdb_handles.specs.declared.walked.TypeRow.{TypeRow}
 use Rattle.pdb_handles.specs.Copied.{Copied, nothing_copied}
 use Rattle.pdb_handles.specs.Fault.{fault_of, fine, not_open, no_more}
-use Rattle.pdb_handles.specs.Row.{no_numbers, row, row_of}
+use Rattle.pdb_handles.specs.Row.{no_numbers, zeroed_row, type_info}
 use Rattle.pdb_handles.specs.Tables.{index_told, located_at}
 
 -- a row of zeros
 abbrev pub no_row : Row
-no_row = row 0 no_numbers
+no_row = zeroed_row 0 no_numbers
 
 -- a record for the caller: its place and its row; or its place, the fault with which parsing refuses it, and
 -- a row of zeros
-abbrev pub type_row : ℕ → RecordPlace → Answer TypeValue → TypeRow
-type_row index place (Ok value) = record { place = located_at index place; fault = fine; info = row_of value }
-type_row index place (Err refusal) = record { place = located_at index place; fault = fault_of refusal; info = no_row }
+abbrev pub type_told : ℕ → RecordPlace → Answer TypeValue → TypeRow
+type_told index place (Ok value) = record { place = located_at index place; fault = fine; info = type_info value }
+type_told index place (Err refusal) = record { place = located_at index place; fault = fault_of refusal; info = no_row }
 
 -- A record is written as it is meant; or memory to parse it was refused.
 abbrev pub IsTypeRow : ℕ → RecordPlace → Answer TypeValue → TypeRow → Type 0
-IsTypeRow index place meant told = (told ≡ type_row index place meant) ⊎ (told ≡ type_row index place (Err out_of_memory))
+IsTypeRow index place meant told = (told ≡ type_told index place meant) ⊎ (told ≡ type_told index place (Err out_of_memory))
 
 -- These are the next records of a walk: each step returns the place of one, and its row is that of the bytes of
 -- the stream there. Behind the last one, the walk stands at `end`.

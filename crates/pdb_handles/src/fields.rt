@@ -5,7 +5,7 @@ ghost use Rattle.std.specs.Option.{option_map};
 ghost use Rattle.pdb_base.specs.Answer.{Answer, Answers};
 ghost use Rattle.pdb_values.specs.TypeValue.{TypeValue};
 ghost use Rattle.pdb_values.specs.TypeView.{type_value};
-ghost use Rattle.pdb_handles.specs.Records.{all_found, field_row, fields_in, listing, listing_view};
+ghost use Rattle.pdb_handles.specs.Records.{all_found, field_info, fields_told, listing, listing_view};
 ghost use Rattle.pdb_handles.specs.Records.{name_bytes, of_type};
 
 use crate::frame::flag;
@@ -40,7 +40,7 @@ fn name_bytes<'t>(field: &TypeData<'t>) -> &'t [u8]
 
 /// Returns the `FieldRow` of a field for the caller.
 fn field_row(field: &TypeData<'_>) -> FieldRow
-    ensures { result ≡ field_row (type_value field.now) }
+    ensures { result ≡ field_info (type_value field.now) }
 {
     FieldRow {
         info: Row::of_type(field),
@@ -83,7 +83,7 @@ pub fn listing_found(
 /// Fails as `type_in` does, and with `OutOfMemory` if an allocation fails.
 #[tactic(auto, using(crate::proofs::FieldsLemmas::fields_seen))]
 pub fn fields_of(alloc: Global, bytes: &[u8], index: u32) -> Result<Option<Listing<FieldRow>>>
-    ensures { Answers (option_map listing_view) result (of_type fields_in index bytes.now) }
+    ensures { Answers (option_map listing_view) result (of_type fields_told index bytes.now) }
 {
     let value = type_in(alloc, bytes, index)?;
     match &value {

@@ -4,7 +4,7 @@ ghost use Rattle.std.specs.Prelude.{◌≡◌};
 ghost use Rattle.pdb_base.specs.Answer.{Answer, Answers, Gives};
 ghost use Rattle.pdb_handles.specs.Fault.{fine};
 ghost use Rattle.pdb_handles.specs.Found.{answer_or_fault, value_or_fault};
-ghost use Rattle.pdb_handles.specs.Roles.{IsAnswered};
+ghost use Rattle.pdb_handles.specs.Roles.{IsAnswerTold};
 
 use crate::fault::{FINE, Fault};
 use pdb_base::Result;
@@ -33,7 +33,7 @@ pub fn tell_answered<T: Copy>(answer: Result<T>, value: &mut T) -> Fault
     ensures given { (meant : Answer T) → Gives (λ number. number) answer meant
         → record { fault = result; value = value.new } ≡ answer_or_fault value.old meant }
     ensures read { (meant : Answer T) → Answers (λ number. number) answer meant
-        → IsAnswered (λ number. number) meant value.old result value.new }
+        → IsAnswerTold (λ number. number) meant value.old result value.new }
 {
     match answer {
         Ok(number) => tell_value(number, value),

@@ -4,7 +4,7 @@ ghost use Rattle.std.specs.Prelude.{◌≡◌, None, Some, is_some};
 ghost use Rattle.std.specs.Option.{option_map};
 ghost use Rattle.pdb_base.specs.Answer.{Answer, Answers};
 ghost use Rattle.pdb_handles.specs.declared.content.Content.{Content};
-ghost use Rattle.pdb_handles.specs.Handle.{kind_of, OpensTo};
+ghost use Rattle.pdb_handles.specs.Handle.{content_kind, OpensTo};
 
 use crate::content::Content;
 use crate::fault::{FINE, Fault};
@@ -20,12 +20,12 @@ pub struct Handle {
     pub held: Held,
     /// The number of the kind of what it holds, 0 if it holds nothing.
     pub kind: u32,
-    ghost agrees: { kind ≡ kind_of held.content },
+    ghost agrees: { kind ≡ content_kind held.content },
 }
 
 /// Returns the number of a content's kind.
 fn kind_of(content: &Content) -> u32
-    ensures { result ≡ kind_of (Some content.now) }
+    ensures { result ≡ content_kind (Some content.now) }
 {
     match content {
         Content::Names(_) => 1,

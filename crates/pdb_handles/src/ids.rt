@@ -6,7 +6,7 @@ ghost use Rattle.pdb_base.specs.Answer.{Answers};
 ghost use Rattle.pdb_values.specs.Text.{text_bytes};
 ghost use Rattle.pdb_values.specs.IdValue.{id_name, id_value};
 ghost use Rattle.pdb_tpi.specs.Record.{id_of};
-ghost use Rattle.pdb_handles.specs.Ids.{id_row, list_in, of_id};
+ghost use Rattle.pdb_handles.specs.Ids.{id_info, id_list, of_id};
 
 use crate::records::numbers_of;
 use crate::row::{Numbers, Row, row};
@@ -28,7 +28,7 @@ pub fn id_at<'t>(alloc: Global, bytes: &'t [u8]) -> Result<IdData<'t>>
 
 /// Returns the `Row` of an id.
 fn row_of_id(value: &IdData<'_>) -> Row
-    ensures { result ≡ id_row (id_value value.now) }
+    ensures { result ≡ id_info (id_value value.now) }
 {
     match value {
         IdData::Function(id) => row!(0;
@@ -53,7 +53,7 @@ fn row_of_id(value: &IdData<'_>) -> Row
 /// # Errors
 /// Fails as `id_at` does.
 pub fn id_row_in(alloc: Global, bytes: &[u8]) -> Result<Row>
-    ensures { Answers (λ row. row) result (of_id id_row bytes.now) }
+    ensures { Answers (λ row. row) result (of_id id_info bytes.now) }
 {
     Ok(row_of_id(&id_at(alloc, bytes)?))
 }
@@ -80,7 +80,7 @@ pub fn id_name_in<'t>(alloc: Global, bytes: &'t [u8]) -> Result<Option<RawString
 /// # Errors
 /// Fails as `id_at` does, and with `OutOfMemory` if an allocation fails.
 pub fn list_of(alloc: Global, bytes: &[u8]) -> Result<Option<Vec<u32>>>
-    ensures { Answers (option_map (λ list. list.items)) result (of_id list_in bytes.now) }
+    ensures { Answers (option_map (λ list. list.items)) result (of_id id_list bytes.now) }
 {
     let value = id_at(alloc, bytes)?;
     match &value {

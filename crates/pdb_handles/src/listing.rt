@@ -3,7 +3,7 @@
 ghost use Rattle.std.specs.Prelude.{◌≡◌, Option};
 ghost use Rattle.std.specs.Option.{option_map};
 ghost use Rattle.pdb_base.specs.Answer.{Answer, Answers};
-ghost use Rattle.pdb_handles.specs.Records.{FieldsOrLacks, Listing as Listed, listing_told, listing_view};
+ghost use Rattle.pdb_handles.specs.Records.{FieldsOrLacks, NamedRows, listing_told, listing_view};
 
 use crate::copied::copy_both;
 use crate::fault::{Fault, NONE};
@@ -36,7 +36,7 @@ pub fn write_listing<R: Copy>(
     names: &mut [u8],
     size: &mut usize,
 ) -> Fault
-    ensures { (meant : Answer (Option (Listed R))) → Answers (option_map listing_view) found meant → FieldsOrLacks
+    ensures { (meant : Answer (Option (NamedRows R))) → Answers (option_map listing_view) found meant → FieldsOrLacks
         (record { fault = result; rows = rows.new; count = count.new; names = names.new; size = size.new })
         rows.old names.old (listing_told rows.old names.old meant) }
 {

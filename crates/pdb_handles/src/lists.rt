@@ -4,7 +4,7 @@ ghost use Rattle.std.specs.Prelude.{◌≡◌, map, Ok};
 ghost use Rattle.std.specs.Option.{option_map};
 ghost use Rattle.pdb_base.specs.Answer.{Answers};
 ghost use Rattle.pdb_values.specs.Text.{text_bytes};
-ghost use Rattle.pdb_handles.specs.Lists.{dimensions_in, method_row, methods_in, unique_name_in};
+ghost use Rattle.pdb_handles.specs.Lists.{dimensions_in, method_info, methods_in, unique_name_in};
 ghost use Rattle.pdb_handles.specs.Records.{of_type};
 
 use crate::records::type_in;
@@ -15,7 +15,7 @@ use std::alloc::Global;
 
 /// Returns the `Row` of a method in a list, for the caller.
 fn method_row(method: &MethodListEntry) -> Row
-    ensures { result ≡ method_row method.now }
+    ensures { result ≡ method_info method.now }
 {
     row!(5;
         attributes: Some(method.attributes.bits() as u32), type_index: Some(method.method_type.0),
@@ -24,7 +24,7 @@ fn method_row(method: &MethodListEntry) -> Row
 
 /// Returns a `Row` for each method, for the caller.
 fn method_rows(alloc: Global, methods: &[MethodListEntry]) -> Result<Vec<Row>>
-    ensures { Answers (λ rows. rows.items) result (Ok (map method_row methods.now)) }
+    ensures { Answers (λ rows. rows.items) result (Ok (map method_info methods.now)) }
 {
     let mut rows = Vec::with_capacity(alloc, methods.len())?;
     for method in methods {

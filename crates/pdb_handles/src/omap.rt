@@ -5,7 +5,7 @@ ghost use Rattle.pdb_base.specs.Answer.{Answers};
 ghost use Rattle.pdb_space.specs.Omap.{omap_table_of};
 ghost use Rattle.pdb_handles.specs.declared.content.Content.TheVariants.{Omap};
 ghost use Rattle.pdb_handles.specs.Handle.{held_as};
-ghost use Rattle.pdb_handles.specs.Omap.{TellsOrder, omap_row};
+ghost use Rattle.pdb_handles.specs.Omap.{TellsOrder, omap_info};
 
 use crate::content::Content;
 use crate::fault::Fault;
@@ -38,7 +38,7 @@ pub fn table_in(alloc: Global, stream: &[u8]) -> Result<Content>
 
 /// Converts a record for the caller.
 fn omap_row(moved: OMAPRecord) -> OmapRow
-    ensures { result ≡ omap_row moved }
+    ensures { result ≡ omap_info moved }
 {
     OmapRow {
         source: moved.source_address(),
@@ -51,9 +51,9 @@ fn omap_row(moved: OMAPRecord) -> OmapRow
 /// # Errors
 /// Fails only with `OutOfMemory`, if an allocation fails.
 pub fn records_in(alloc: Global, table: &OMAPTable) -> Result<Vec<OmapRow>>
-    ensures { Answers (λ rows. rows.items) result (Ok (map omap_row table.now)) }
+    ensures { Answers (λ rows. rows.items) result (Ok (map omap_info table.now)) }
 {
-    Ok(table.records().map(omap_row).collect(alloc)?)
+    Ok(table.records().map(omap_info).collect(alloc)?)
 }
 
 /// Writes 1 if no record of a table has a source below that of the record before it, and 0 if one

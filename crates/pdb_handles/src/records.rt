@@ -8,8 +8,8 @@ ghost use Rattle.pdb_values.specs.TypeValue.{TypeValue, name_of_type};
 ghost use Rattle.pdb_values.specs.TypeView.{type_value};
 ghost use Rattle.pdb_tpi.specs.Record.{type_of};
 ghost use Rattle.pdb_handles.specs.Records.{arguments_in, of_type};
-ghost use Rattle.pdb_handles.specs.Roles.{IsAnswered};
-ghost use Rattle.pdb_handles.specs.Row.{row_of};
+ghost use Rattle.pdb_handles.specs.Roles.{IsAnswerTold};
+ghost use Rattle.pdb_handles.specs.Row.{type_info};
 
 use crate::fault::{FINE, Fault};
 use crate::row::Row;
@@ -37,7 +37,7 @@ pub fn type_in<'t>(alloc: Global, bytes: &'t [u8], index: u32) -> Result<TypeDat
 #[inline(always)]
 fn write_row(parsed: &Result<TypeData<'_>>, row: &mut Row) -> Fault
     ensures { (meant : Answer TypeValue) → Answers type_value parsed.now meant
-        → IsAnswered (λ value. row_of value) meant row.old result row.new }
+        → IsAnswerTold (λ value. type_info value) meant row.old result row.new }
 {
     match parsed {
         Ok(value) => {
@@ -51,7 +51,7 @@ fn write_row(parsed: &Result<TypeData<'_>>, row: &mut Row) -> Fault
 /// Does what `write_type_row` does, out of line, also for a primitive type.
 #[inline(never)]
 fn write_any_row(alloc: Global, bytes: &[u8], index: u32, row: &mut Row) -> Fault
-    ensures { IsAnswered (λ value. row_of value) (type_of index bytes.now) row.old result row.new }
+    ensures { IsAnswerTold (λ value. type_info value) (type_of index bytes.now) row.old result row.new }
 {
     write_row(&type_in(alloc, bytes, index), row)
 }
@@ -61,7 +61,7 @@ fn write_any_row(alloc: Global, bytes: &[u8], index: u32, row: &mut Row) -> Faul
 #[inline(always)]
 #[tactic(auto, unfolding(pdb_tpi::specs::Record::type_of))]
 pub fn write_type_row(alloc: Global, bytes: &[u8], index: u32, row: &mut Row) -> Fault
-    ensures { IsAnswered (λ value. row_of value) (type_of index bytes.now) row.old result row.new }
+    ensures { IsAnswerTold (λ value. type_info value) (type_of index bytes.now) row.old result row.new }
 {
     if index < FIRST_RECORD {
         return write_any_row(alloc, bytes, index, row);

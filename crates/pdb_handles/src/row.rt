@@ -3,7 +3,7 @@
 ghost use Rattle.std.specs.Prelude.{◌≡◌, ◌+◌, ◌*◌, ◌≤◌};
 ghost use Rattle.pdb_values.specs.TypeView.{type_value};
 ghost use Rattle.pdb_handles.specs.Frame.{flag};
-ghost use Rattle.pdb_handles.specs.Row.{bit, in_64_bits, index_in, is_signed, no_numbers, row, row_of, width_of};
+ghost use Rattle.pdb_handles.specs.Row.{bit, in_64_bits, index_in, is_signed, no_numbers, zeroed_row, type_info, width_of};
 
 use crate::frame::flag;
 use pdb_base::{TypeIndex, Variant};
@@ -158,9 +158,9 @@ fn bits_of_numbers(numbers: &Numbers) -> u32
 impl Row {
     /// Returns the `Row` of a shape and its numbers.
     #[inline(always)]
-    #[tactic(auto, unfolding(crate::specs::Row::row))]
+    #[tactic(auto, unfolding(crate::specs::Row::zeroed_row))]
     pub(crate) fn of(shape: u32, numbers: &Numbers) -> Row
-        ensures { result ≡ row shape numbers.now }
+        ensures { result ≡ zeroed_row shape numbers.now }
     {
         Row {
             shape,
@@ -180,7 +180,7 @@ impl Row {
 
     /// Writes the `Row` of a type.
     pub fn set_type(&mut self, value: &TypeData<'_>)
-        ensures { self.new ≡ row_of (type_value value.now) }
+        ensures { self.new ≡ type_info (type_value value.now) }
     {
         match value {
             TypeData::Primitive(_) => *self = Row::of(0, &Numbers::default()),
@@ -250,7 +250,7 @@ impl Row {
 
     /// Returns the `Row` of a type.
     pub fn of_type(value: &TypeData<'_>) -> Row
-        ensures { result ≡ row_of (type_value value.now) }
+        ensures { result ≡ type_info (type_value value.now) }
     {
         let mut row = Row::of(0, &Numbers::default());
         row.set_type(value);

@@ -2,7 +2,7 @@
 
 ghost use Rattle.std.specs.Prelude.{◌≡◌, ◌<◌, length};
 ghost use Rattle.pdb_base.specs.Answer.{Answers};
-ghost use Rattle.pdb_handles.specs.Sections.{section_of, sections_in};
+ghost use Rattle.pdb_handles.specs.Sections.{section_info, sections_told};
 
 use pdb_base::{Result, Stream};
 use pdb_file::section_headers::section_headers;
@@ -37,7 +37,7 @@ pub struct Section {
 
 /// Converts the header of a section for the caller.
 fn section_of(header: &ImageSectionHeader) -> Section
-    ensures { result ≡ section_of header.now }
+    ensures { result ≡ section_info header.now }
 {
     Section {
         name: header.name,
@@ -59,7 +59,7 @@ fn section_of(header: &ImageSectionHeader) -> Section
 /// Fails as `section_headers` does, and with `OutOfMemory` if an allocation fails.
 pub fn sections_in(alloc: Global, stream: &[u8]) -> Result<Vec<Section>>
     requires { length stream.now < 0xffffffff }
-    ensures { Answers (λ sections. sections.items) result (sections_in stream.now) }
+    ensures { Answers (λ sections. sections.items) result (sections_told stream.now) }
 {
     let read = section_headers(alloc, &Stream::new(stream.to_vec(alloc)?))?;
     let headers = read.as_slice();

@@ -19,15 +19,15 @@ unfoldable pub image_magic : List ℕ
 image_magic = codes "MZ"
 
 -- a format, and the bytes with which each file of the format begins
-pub record Known : Type 0 where
+pub record KnownFormat : Type 0 where
   pub prefix : List ℕ
   pub format : Format
 
-abbrev pub known : List ℕ → Format → Known
+abbrev pub known : List ℕ → Format → KnownFormat
 known prefix format = record { prefix = prefix; format = format }
 
 -- the formats that are told apart; no prefix begins with another
-abbrev pub known_formats : List Known
+abbrev pub known_formats : List KnownFormat
 known_formats =
     known big_magic formats.Msf7
     ∷ known small_magic formats.Msf2

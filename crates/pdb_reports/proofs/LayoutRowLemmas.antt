@@ -13,7 +13,7 @@ use Rattle.pdb_types.specs.Gap.{AreGapRows}
 use Rattle.pdb_types.specs.Layout.{HasGaps, field_span, field_value, is_virtual_field, layout_value}
 use Rattle.pdb_reports.specs.declared.layout_row.LayoutRow.{LayoutRow}
 use Rattle.pdb_handles.specs.Records.{Fielded, rows_copied}
-use Rattle.pdb_reports.specs.LayoutRow.{LaysOutOrLacks, field_name, field_row, gap_row, is_virtual_value, rows_of}
+use Rattle.pdb_reports.specs.LayoutRow.{LaysOutOrLacks, field_name, field_entry, gap_entry, is_virtual_value, rows_of}
 use Rattle.pdb_reports.specs.LayoutRow.{value_span}
 
 abbrev row_bits : Gap → Span
@@ -55,10 +55,10 @@ gaps_seen fields size rows are =
 
 -- the rows of fields, and then of gaps
 pub rows_seen : (fields : List LayoutField) (gaps : List Gap) (rows all : List LayoutRow)
-    → rows ≡ map (λ field. field_row (field_value field)) fields → all ≡ rows ++ map gap_row gaps
+    → rows ≡ map (λ field. field_entry (field_value field)) fields → all ≡ rows ++ map gap_entry gaps
     → all ≡ rows_of (map field_value fields) gaps
 rows_seen fields gaps rows all is more =
-    more ∙ ap (λ (l : List LayoutRow). l ++ map gap_row gaps) (is ∙ sym (map-map field_row field_value fields))
+    more ∙ ap (λ (l : List LayoutRow). l ++ map gap_entry gaps) (is ∙ sym (map-map field_entry field_value fields))
 
 pub names_seen : (fields : List LayoutField) (names : List ℕ)
     → names ≡ flat_map (λ field. field_name (field_value field)) fields

@@ -1,7 +1,7 @@
 -- What is found wrong in a file, as a caller sees it.
 use Rattle.std.specs.Prelude.{ℕ, ◌==◌, if◌then◌else◌, is_some, unwrap_or, List, map, Ok}
 use Rattle.pdb_base.specs.Answer.{Answer}
-use Rattle.pdb_validation.specs.Finding.{Fault}
+use Rattle.pdb_validation.specs.Finding.{FaultPlace}
 use Rattle.pdb_validation.specs.Problem.{ProblemValue, failure, inconsistent, is_tolerated}
 use Rattle.pdb_validation.specs.Whole.{faults_of}
 use Rattle.pdb_validation.specs.declared.finding.Part.{Part}
@@ -77,7 +77,7 @@ problem_numbers (inconsistent what) = record {
 }
 
 -- the fault of a part, for the caller
-abbrev pub finding_of : Fault → FoundFault
+abbrev pub finding_of : FaultPlace → FoundFault
 finding_of found = record {
   index = unwrap_or found.index 0;
   byte = unwrap_or found.byte 0;

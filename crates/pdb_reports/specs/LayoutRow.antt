@@ -15,7 +15,7 @@ use Rattle.pdb_types.specs.Extent.{bits_of}
 use Rattle.pdb_types.specs.FieldPlace.{FieldRole, base, is_virtual_role, member}
 use Rattle.pdb_types.specs.FieldPlace.{virtual_base_pointer, virtual_function_pointer}
 use Rattle.pdb_types.specs.Gap.{AreGapRows}
-use Rattle.pdb_types.specs.Layout.{FieldValue, LayoutValue, layout_of}
+use Rattle.pdb_types.specs.Layout.{FieldValue, ClassLayout, layout_of_type}
 use Rattle.pdb_reports.specs.declared.layout_row.LayoutRow.{LayoutRow}
 use Rattle.pdb_handles.specs.Fault.{fault_of, no_value, not_open}
 use Rattle.pdb_handles.specs.Frame.{flag}
@@ -38,16 +38,16 @@ no_layout = record {
 }
 
 -- what a row says of a field's kind
-abbrev pub with_role : FieldRole → LayoutRow → LayoutRow
-with_role base row = record row { kind = 0 }
-with_role (virtual_base_pointer class) row = record row {
+abbrev pub entry_of_role : FieldRole → LayoutRow → LayoutRow
+entry_of_role base row = record row { kind = 0 }
+entry_of_role (virtual_base_pointer class) row = record row {
   kind = 1;
   base_class = class.base_class.0;
   base_position = class.position;
   is_direct = flag class.direct;
 }
-with_role virtual_function_pointer row = record row { kind = 2 }
-with_role (member name) row = record row { kind = 3; name_length = length name }
+entry_of_role virtual_function_pointer row = record row { kind = 2 }
+entry_of_role (member name) row = record row { kind = 3; name_length = length name }
 
 -- what a row says of how far a field goes
 abbrev pub with_extent : Extent → LayoutRow → LayoutRow
@@ -56,10 +56,10 @@ with_extent (extents.Bits field) row = record row { extent = 1; bit = field.posi
 with_extent extents.Unknown row = record row { extent = 2 }
 
 -- the row of a field
-unfoldable pub field_row : FieldValue → LayoutRow
-field_row field =
+unfoldable pub field_entry : FieldValue → LayoutRow
+field_entry field =
     let row : LayoutRow = record no_layout { offset = field.place.offset; type_index = field.place.field_type.0 } in
-    with_role field.place.role (with_extent field.extent row)
+    entry_of_role field.place.role (with_extent field.extent row)
 
 -- the row of whole bytes that no field takes
 abbrev pub bytes_row : ℕ → Span → LayoutRow
@@ -81,8 +81,8 @@ row_of_kind gaps.UnusedBits bits = record no_layout {
 }
 row_of_kind gaps.VirtualBases bits = bytes_row 6 bits
 
-unfoldable pub gap_row : Gap → LayoutRow
-gap_row gap = row_of_kind gap.kind gap.bits
+unfoldable pub gap_entry : Gap → LayoutRow
+gap_entry gap = row_of_kind gap.kind gap.bits
 
 -- the bytes of a field's name; none if it is no member
 abbrev pub role_name : FieldRole → List ℕ
@@ -102,28 +102,28 @@ is_virtual_value field = is_virtual_role field.place.role
 
 -- the rows of fields, and then those of gaps
 abbrev pub rows_of : List FieldValue → List Gap → List LayoutRow
-rows_of fields gaps = map field_row fields ++ map gap_row gaps
+rows_of fields gaps = map field_entry fields ++ map gap_entry gaps
 
 -- The rows of a layout are written, and the names of its fields one behind another.
-pub record WritesLayout (rows : List LayoutRow) (names : List ℕ) (layout : LayoutValue) (told : Fielded LayoutRow)
+pub record WritesLayout (rows : List LayoutRow) (names : List ℕ) (layout : ClassLayout) (told : Fielded LayoutRow)
     : Type 0 where
   pub gaps : List Gap
   pub are : AreGapRows (map value_span layout.fields) layout.size (list_any is_virtual_value layout.fields) gaps
   pub done : told ≡ rows_copied rows names (rows_of layout.fields gaps) (flat_map field_name layout.fields)
 
 -- The same for a layout that may be absent or refused.
-abbrev pub LaysOut : List LayoutRow → List ℕ → Answer (Option LayoutValue) → Fielded LayoutRow → Type 0
+abbrev pub LaysOut : List LayoutRow → List ℕ → Answer (Option ClassLayout) → Fielded LayoutRow → Type 0
 LaysOut rows names (Ok (Some layout)) told = WritesLayout rows names layout told
 LaysOut rows names (Ok None) told = told ≡ no_rows_copied no_value rows names
 LaysOut rows names (Err refusal) told = told ≡ no_rows_copied (fault_of refusal) rows names
 
 -- The same; or memory was refused, and nothing was written.
-abbrev pub LaysOutOrLacks : List LayoutRow → List ℕ → Answer (Option LayoutValue) → Fielded LayoutRow → Type 0
+abbrev pub LaysOutOrLacks : List LayoutRow → List ℕ → Answer (Option ClassLayout) → Fielded LayoutRow → Type 0
 LaysOutOrLacks rows names meant told =
     LaysOut rows names meant told ⊎ (told ≡ no_rows_copied (fault_of out_of_memory) rows names)
 
 -- The same for the type of an index in the table whose definitions a handle holds; nothing is written if it
 -- holds none.
 abbrev pub LaysOutOf : List LayoutRow → List ℕ → ℕ → Option Table → Fielded LayoutRow → Type 0
-LaysOutOf rows names index (Some table) told = LaysOutOrLacks rows names (layout_of table index) told
+LaysOutOf rows names index (Some table) told = LaysOutOrLacks rows names (layout_of_type table index) told
 LaysOutOf rows names index None told = told ≡ no_rows_copied not_open rows names

@@ -10,7 +10,7 @@ ghost use Rattle.pdb_handles.specs.Copied.{CopiesOrLacks, answer_copied, items_c
 ghost use Rattle.pdb_reports.specs.Identity.{feature_bits, format_number, identity_of, identity_said, key_text};
 ghost use Rattle.pdb_handles.specs.File.{read_of_file};
 ghost use Rattle.pdb_handles.specs.Records.{if_copied};
-ghost use Rattle.pdb_handles.specs.Roles.{IsAnswered};
+ghost use Rattle.pdb_handles.specs.Roles.{IsAnswerTold};
 
 use pdb_base::Result;
 use pdb_file::Features;
@@ -127,7 +127,7 @@ pub fn identity_in(alloc: Global, file: &[u8]) -> Result<FileIdentity>
 /// Writes a value that was read, or returns the fault of the error.
 pub fn write_read<T: Copy>(read: Result<T>, value: &mut T) -> Fault
     ensures { (meant : Answer T) → Answers (λ value. value) read meant
-        → IsAnswered (λ value. value) meant value.old result value.new }
+        → IsAnswerTold (λ value. value) meant value.old result value.new }
 {
     match read {
         Ok(found) => {

@@ -4,9 +4,9 @@ ghost use Rattle.std.specs.Prelude.{◌≡◌, ◌++◌, ◌<◌, ◌^◌, Ok, S
 ghost use Rattle.std.specs.List.{All, flat_map};
 ghost use Rattle.pdb_base.specs.Memory.{FailsOnlyForMemory};
 ghost use Rattle.pdb_types.specs.FieldPlace.{field_role};
-ghost use Rattle.pdb_types.specs.Layout.{HasGaps, field_value, layout_of, layout_value};
-ghost use Rattle.pdb_reports.specs.LayoutRow.{LaysOutOrLacks, bytes_row, field_name, field_row, gap_row, rows_of};
-ghost use Rattle.pdb_reports.specs.LayoutRow.{with_extent, with_role};
+ghost use Rattle.pdb_types.specs.Layout.{HasGaps, field_value, layout_of_type, layout_value};
+ghost use Rattle.pdb_reports.specs.LayoutRow.{LaysOutOrLacks, bytes_row, field_name, field_entry, gap_entry, rows_of};
+ghost use Rattle.pdb_reports.specs.LayoutRow.{with_extent, entry_of_role};
 
 use pdb_base::{Result, TypeIndex};
 use pdb_handles::copied::copy_both;
@@ -69,7 +69,7 @@ struct LayoutListing {
 
 /// Returns an entry that also says what a field is.
 fn with_kind(kind: FieldKind<'_>, row: LayoutRow) -> LayoutRow
-    ensures { result ≡ with_role (field_role kind.entry) row }
+    ensures { result ≡ entry_of_role (field_role kind.entry) row }
 {
     match kind {
         FieldKind::Base => LayoutRow { kind: 0, ..row },
@@ -110,9 +110,9 @@ fn with_extent(extent: Extent, row: LayoutRow) -> LayoutRow
 }
 
 /// Returns the entry of a field.
-#[tactic(auto, unfolding(crate::specs::LayoutRow::field_row))]
+#[tactic(auto, unfolding(crate::specs::LayoutRow::field_entry))]
 fn field_row(field: &LayoutField<'_>) -> LayoutRow
-    ensures { result ≡ field_row (field_value field.now) }
+    ensures { result ≡ field_entry (field_value field.now) }
 {
     let row = LayoutRow {
         offset: field.place.offset,
@@ -147,11 +147,11 @@ fn bytes_row(kind: u32, bits: Span) -> LayoutRow
 }
 
 /// Returns the entry of bits that no field takes.
-#[tactic(auto, unfolding(crate::specs::LayoutRow::gap_row))]
+#[tactic(auto, unfolding(crate::specs::LayoutRow::gap_entry))]
 fn gap_row(gap: Gap) -> LayoutRow
     requires order { gap.bits.start < gap.bits.end }
     requires within { gap.bits.end < 2 ^ 67 }
-    ensures { result ≡ gap_row gap }
+    ensures { result ≡ gap_entry gap }
 {
     let Span { start, end } = gap.bits;
     match gap.kind {
@@ -171,7 +171,7 @@ fn gap_row(gap: Gap) -> LayoutRow
 /// Collects the entries of fields, and their names one after another.
 fn fields_listed(alloc: Global, fields: &[LayoutField<'_>]) -> Result<LayoutListing>
     ensures rows { IfOk result (λ listed. listed.rows.items ≡
-        map (λ field. field_row (field_value field)) fields.now) }
+        map (λ field. field_entry (field_value field)) fields.now) }
     ensures names { IfOk result (λ listed. listed.names.items ≡
         flat_map (λ field. field_name (field_value field)) fields.now) }
     ensures memory { FailsOnlyForMemory result }
@@ -189,7 +189,7 @@ fn fields_listed(alloc: Global, fields: &[LayoutField<'_>]) -> Result<LayoutList
 fn push_gaps(rows: &mut Vec<LayoutRow>, gaps: &[Gap]) -> Result<()>
     requires order { All (λ gap. gap.bits.start < gap.bits.end) gaps.now }
     requires within { All (λ gap. gap.bits.end < 2 ^ 67) gaps.now }
-    ensures ok { OnOk result (rows.new.items ≡ rows.old.items ++ map gap_row gaps.now) }
+    ensures ok { OnOk result (rows.new.items ≡ rows.old.items ++ map gap_entry gaps.now) }
     ensures memory { FailsOnlyForMemory result }
 {
     for gap in gaps {
@@ -246,7 +246,7 @@ pub fn write_layout_of(
     names: &mut [u8],
     size: &mut usize,
 ) -> Fault
-    ensures { LaysOutOrLacks rows.old names.old (layout_of kept.now index)
+    ensures { LaysOutOrLacks rows.old names.old (layout_of_type kept.now index)
         (record { fault = result; rows = rows.new; count = count.new; names = names.new; size = size.new }) }
 {
     let definitions = kept.definitions();

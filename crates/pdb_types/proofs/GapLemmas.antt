@@ -13,8 +13,8 @@ use Rattle.std.proofs.lemmas.List.Folds.{list_any-append, list_any_at}
 use Rattle.std.proofs.lemmas.List.Sums.{sum_by-append, sum_by-cons}
 use Rattle.pdb_types.specs.declared.gap.Gap.{Gap}
 use Rattle.pdb_types.specs.declared.span.Span.{Span}
-use Rattle.pdb_types.specs.Gap.{AreGapRows, AreOfKind, AreUnusedBits, AreVirtualBases, IsHole, IsTaken, IsWhole}
-use Rattle.pdb_types.specs.Gap.{bits_in, bytes_touched, end_of, hole_row, tail_row, tail_start, unused_row}
+use Rattle.pdb_types.specs.Gap.{AreGapRows, AreOfKind, AreUnusedBits, AreVirtualBases, IsHole, IsTaken, IsWholeBytes}
+use Rattle.pdb_types.specs.Gap.{bits_in, bytes_touched, greatest_end, hole_row, tail_row, tail_start, unused_row}
 use Rattle.pdb_types.specs.Span.{AreGaps, gap_of, holds}
 use Rattle.pdb_types.proofs.SpanLemmas.{before_test, behind_test, gap_before, gap_behind, gap_holds, gap_some}
 use Rattle.pdb_types.proofs.SpanLemmas.{gap_within, held_test}
@@ -186,21 +186,21 @@ touched_taken (span ∷ spans) byte is = elim (cases_Bool (holds byte (bytes_tou
 
 -- the greatest end of spans, of which the first were seen
 pub ends_more : (spans : List Span) (k end : ℕ) (span : Span) → k < length spans → get_or spans k span ≡ span
-    → end_of spans ≡ max end (end_of (drop k spans))
-    → end_of spans ≡ max (max end span.end) (end_of (drop (k + 1) spans))
+    → greatest_end spans ≡ max end (greatest_end (drop k spans))
+    → greatest_end spans ≡ max (max end span.end) (greatest_end (drop (k + 1) spans))
 ends_more spans k end span within here so_far =
     let next : drop k spans ≡ span ∷ drop (k + 1) spans =
     rw (add-one, drop-cons spans k span within) (ap (λ (s : Span). s ∷ drop (suc k) spans) here) in
-    let step : end_of (drop k spans) ≡ max span.end (end_of (drop (k + 1) spans)) = ap end_of next in
+    let step : greatest_end (drop k spans) ≡ max span.end (greatest_end (drop (k + 1) spans)) = ap greatest_end next in
     so_far ∙ omega (arith, step)
 
-pub ends_all : (spans : List Span) (k end : ℕ) → length spans ≤ k → end_of spans ≡ max end (end_of (drop k spans))
-    → end ≡ end_of spans
+pub ends_all : (spans : List Span) (k end : ℕ) → length spans ≤ k → greatest_end spans ≡ max end (greatest_end (drop k spans))
+    → end ≡ greatest_end spans
 ends_all spans k end past so_far =
-    let none : end_of (drop k spans) ≡ 0 = ap end_of (drop_of_length-le spans past) in
+    let none : greatest_end (drop k spans) ≡ 0 = ap greatest_end (drop_of_length-le spans past) in
     omega (arith, so_far, none)
 
-touched_below : (spans : List Span) (byte : ℕ) → list_any (holds byte) spans ≡ true → byte < end_of spans
+touched_below : (spans : List Span) (byte : ℕ) → list_any (holds byte) spans ≡ true → byte < greatest_end spans
 touched_below [] byte is = absurd cc
 touched_below (span ∷ spans) byte is = elim (cases_Bool (holds byte span)) [
   | inl here ↦
@@ -223,12 +223,12 @@ last_byte span some = elim (cases_lt span.start span.end) as
     ]
 
 -- the last of them is touched
-last_touched : (spans : List Span) → 0 < end_of (map bytes_touched spans)
-    → touched spans (end_of (map bytes_touched spans) - 1) ≡ true
+last_touched : (spans : List Span) → 0 < greatest_end (map bytes_touched spans)
+    → touched spans (greatest_end (map bytes_touched spans) - 1) ≡ true
 last_touched [] some = absurd (omega (arith, some))
 last_touched (span ∷ spans) some =
     let own = (bytes_touched span).end in
-    let rest = end_of (map bytes_touched spans) in
+    let rest = greatest_end (map bytes_touched spans) in
     let P : ℕ → Type 0 = λ n. touched (span ∷ spans) (n - 1) ≡ true in
     elim (cases_lt own rest) as (λ _. touched (span ∷ spans) (max own rest - 1) ≡ true) [
       | inl less ↦
@@ -245,8 +245,8 @@ last_touched (span ∷ spans) some =
 pub record IsTailStart (bytes : List Span) (size : ℕ) (virtual : Bool) (tail : ℕ) : Type 0 where
   pub most : tail ≤ size
   pub has : tail < size → virtual ≡ true
-  pub after : tail < size → end_of bytes ≤ tail
-  pub before : virtual ≡ true → tail ≤ end_of bytes
+  pub after : tail < size → greatest_end bytes ≤ tail
+  pub before : virtual ≡ true → tail ≤ greatest_end bytes
 
 tail_by : (bytes : List Span) (size : ℕ) (virtual : Bool)
     → IsTailStart bytes size virtual (tail_start bytes size virtual)
@@ -256,10 +256,10 @@ tail_by bytes size false = record {
   after = λ less. absurd (omega (arith, less));
   before = λ is. absurd cc;
 }
-tail_by bytes size true = elim (cases_lt (end_of bytes) size) as
+tail_by bytes size true = elim (cases_lt (greatest_end bytes) size) as
     (λ _. IsTailStart bytes size true (tail_start bytes size true)) [
       | inl less ↦
-          rw (lt-ltb (end_of bytes) size less)
+          rw (lt-ltb (greatest_end bytes) size less)
           (record {
             most = omega (arith, less);
             has = λ below. refl;
@@ -267,7 +267,7 @@ tail_by bytes size true = elim (cases_lt (end_of bytes) size) as
             before = λ is. omega arith;
           })
       | inr more ↦
-          rw (le-ltb (end_of bytes) size more)
+          rw (le-ltb (greatest_end bytes) size more)
           (record {
             most = omega arith;
             has = λ below. refl;
@@ -442,7 +442,7 @@ within_rows spans size virtual tail holes unused are =
 
 -- ---- their kinds
 
-whole_bits : (bytes : Span) → IsWhole (bits_in bytes)
+whole_bits : (bytes : Span) → IsWholeBytes (bits_in bytes)
 whole_bits bytes = record { start = omega arith; end = omega arith }
 
 hole_kind : (spans : List Span) (size : ℕ) (virtual : Bool) (tail : ℕ) (holes unused : List Span)
@@ -456,15 +456,15 @@ hole_kind spans size virtual tail holes unused are = λ k d within. record {
       let below = are.at.before has in
       let some = are.whole.some k d within in
       let most = are.whole.within k d within in
-      let last = touched_taken spans (end_of bytes - 1) (last_touched spans (omega (arith, some, most, below))) in
-      let place : last.0 / 8 ≡ end_of bytes - 1 = last.1 in
+      let last = touched_taken spans (greatest_end bytes - 1) (last_touched spans (omega (arith, some, most, below))) in
+      let place : last.0 / 8 ≡ greatest_end bytes - 1 = last.1 in
       let end = hole.end in
-      let other : end ≤ end_of bytes - 1 = elim (cases_lt (end_of bytes - 1) end) as (λ _. end ≤ end_of bytes - 1) [
+      let other : end ≤ greatest_end bytes - 1 = elim (cases_lt (greatest_end bytes - 1) end) as (λ _. end ≤ greatest_end bytes - 1) [
         | inl less ↦
-            let last_byte_of : end_of bytes - 1 ≡ end - 1 = omega (arith, less, most, below) in
-            let in_it = held_test (end_of bytes - 1) hole.start hole.end (omega (arith, last_byte_of, some)) less in
-            absurd (counted_at (holds (end_of bytes - 1)) holes k d within in_it
-            (are.whole.taken (end_of bytes - 1) (last_touched spans (omega (arith, some, most, below)))))
+            let last_byte_of : greatest_end bytes - 1 ≡ end - 1 = omega (arith, less, most, below) in
+            let in_it = held_test (greatest_end bytes - 1) hole.start hole.end (omega (arith, last_byte_of, some)) less in
+            absurd (counted_at (holds (greatest_end bytes - 1)) holes k d within in_it
+            (are.whole.taken (greatest_end bytes - 1) (last_touched spans (omega (arith, some, most, below)))))
         | inr more ↦ more
       ] in
       (last.0, omega (arith, place, other), last.2);

@@ -21,9 +21,9 @@ use Rattle.pdb_types.specs.declared.field_place.FieldPlace.{FieldPlace}
 use Rattle.pdb_types.specs.declared.gap.Gap.{Gap}
 use Rattle.pdb_types.specs.declared.span.Span.{Span}
 use Rattle.pdb_types.specs.Extent.{extent_at}
-use Rattle.pdb_types.specs.FieldPlace.{PlaceValue, place_of, place_value}
+use Rattle.pdb_types.specs.FieldPlace.{PlaceValue, place_of_field, place_value}
 use Rattle.pdb_types.specs.Gap.{AreGapRows}
-use Rattle.pdb_types.specs.Layout.{FieldValue, field_from, field_of, field_span, field_value, fields_in}
+use Rattle.pdb_types.specs.Layout.{FieldValue, field_from, field_of, field_span, field_value, field_values_in}
 use Rattle.pdb_types.specs.Layout.{is_virtual_field, with_field}
 
 -- fields behind others
@@ -32,7 +32,7 @@ behind found fields = fields >>= λ more. Ok (found ++ more)
 
 -- the fields of the records so far were found
 pub record AreFieldsTo (table : Table) (records rest : List TypeValue) (found : List FieldValue) : Type 0 where
-  pub is : fields_in table records ≡ behind found (fields_in table rest)
+  pub is : field_values_in table records ≡ behind found (field_values_in table rest)
 
 behind_none : (fields : Answer (List FieldValue)) → fields ≡ behind [] fields
 behind_none (Ok fields) = refl
@@ -40,7 +40,7 @@ behind_none (Err refusal) = refl
 
 pub fields_begin : (table : Table) (items : List TypeData)
     → AreFieldsTo table (map type_value items) (map type_value (drop 0 items)) []
-fields_begin table items = record { is = behind_none (fields_in table (map type_value items)) }
+fields_begin table items = record { is = behind_none (field_values_in table (map type_value items)) }
 
 -- the fields from an item on
 items_from : (items : List TypeData) (i : ℕ) (item : TypeData) → i < length items → get_or items i item ≡ item
@@ -67,12 +67,12 @@ next_is : (table : Table) (records : List TypeValue) (items : List TypeData) (i 
     (found : List FieldValue) (field : Answer (Option FieldValue))
     → AreFieldsTo table records (map type_value (drop i items)) found → i < length items → get_or items i item ≡ item
     → field_of table (type_value item) ≡ field
-    → fields_in table records ≡ behind found (next_fields field (fields_in table (map type_value (drop (i + 1) items))))
+    → field_values_in table records ≡ behind found (next_fields field (field_values_in table (map type_value (drop (i + 1) items))))
 next_is table records items i item found field so_far within here is =
     so_far.is
-    ∙ ap (λ (l : List TypeValue). behind found (fields_in table l)) (items_from items i item within here)
+    ∙ ap (λ (l : List TypeValue). behind found (field_values_in table l)) (items_from items i item within here)
     ∙ ap (λ (f : Answer (Option FieldValue)). behind found
-    (next_fields f (fields_in table (map type_value (drop (i + 1) items))))) is
+    (next_fields f (field_values_in table (map type_value (drop (i + 1) items))))) is
 
 option_next : (found : List FieldValue) (field : Option FieldValue) (fields : Answer (List FieldValue))
     → behind found (next_fields (Ok field) fields) ≡ behind (found ++ option_to_list field) fields
@@ -91,8 +91,8 @@ fields_more table records items i item found new so_far within here is =
     (λ (field : Option FieldValue). ok (found ++ option_to_list field)) new is in record {
       is =
           next_is table records items i item found (Ok one.0) so_far within here one.1
-          ∙ option_next found one.0 (fields_in table (map type_value (drop (i + 1) items)))
-          ∙ ap (λ (l : List FieldValue). behind l (fields_in table (map type_value (drop (i + 1) items))))
+          ∙ option_next found one.0 (field_values_in table (map type_value (drop (i + 1) items)))
+          ∙ ap (λ (l : List FieldValue). behind l (field_values_in table (map type_value (drop (i + 1) items))))
           (ok_is (found ++ option_to_list one.0) new one.2);
     }
 
@@ -106,7 +106,7 @@ pub fields_refused : (table : Table) (records : List TypeValue) (items : List Ty
     (found : List FieldValue) (e : Error)
     → AreFieldsTo table records (map type_value (drop i items)) found → i < length items → get_or items i item ≡ item
     → (with_field found (field_of table (type_value item)) ≡ Err (refusal_of e)) ⊎ (e ≡ OutOfMemory)
-    → (fields_in table records ≡ Err (refusal_of e)) ⊎ (e ≡ OutOfMemory)
+    → (field_values_in table records ≡ Err (refusal_of e)) ⊎ (e ≡ OutOfMemory)
 fields_refused table records items i item found e so_far within here (inl is) =
     inl (next_is table records items i item found (Err (refusal_of e)) so_far within here
     (refused_one found (field_of table (type_value item)) (refusal_of e) is))
@@ -115,17 +115,17 @@ fields_refused table records items i item found e so_far within here (inr memory
 -- behind all records
 pub fields_all : (table : Table) (records : List TypeValue) (items : List TypeData) (i : ℕ) (found : List FieldValue)
     → AreFieldsTo table records (map type_value (drop i items)) found → length items ≤ i
-    → fields_in table records ≡ Ok found
+    → field_values_in table records ≡ Ok found
 fields_all table records items i found so_far past =
     so_far.is
-    ∙ ap (λ (l : List TypeData). behind found (fields_in table (map type_value l))) (drop_of_length-le items past)
+    ∙ ap (λ (l : List TypeData). behind found (field_values_in table (map type_value l))) (drop_of_length-le items past)
     ∙ ap (λ (l : List FieldValue). Ok l) (append-nil found)
 
 -- ---- one field
 
 -- a record of a field
 pub pushed_some : (table : Table) (value : TypeValue) (place : FieldPlace) (extent : Extent)
-    (old new : List LayoutField) → Some (place_value place) ≡ place_of value
+    (old new : List LayoutField) → Some (place_value place) ≡ place_of_field value
     → extent_at table place.field_type.0 ≡ Ok extent → new ≡ old ++ (record { place = place; extent = extent }) ∷ []
     → with_field (map field_value old) (field_of table value) ≡ Ok (map field_value new)
 unfolding field_of

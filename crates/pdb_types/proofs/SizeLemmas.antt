@@ -11,7 +11,7 @@ use Rattle.pdb_tpi.specs.Table.{Table}
 use Rattle.pdb_types.specs.declared.size_source.SizeSource.{SizeSource}
 use Rattle.pdb_types.specs.declared.size_source.SizeSource.TheVariants.{Stated, SameAs, Unknown}
 use Rattle.pdb_types.specs.Shortcut.{IsAsLarge}
-use Rattle.pdb_types.specs.Size.{Sizes, AreSizes, size_along, one_size, size_from, size_of, source_at}
+use Rattle.pdb_types.specs.Size.{Sizes, AreSizes, size_along, one_size, size_from, size_of, source_of_size}
 
 -- ---- only the sizes of lower indexes matter
 
@@ -37,7 +37,7 @@ answer_lower sizes others index (Err refusal) same = refl
 pub one_lower : (table : Table) (sizes others : Sizes) (index : ℕ)
     → ((lower : ℕ) → lower < index → sizes lower ≡ others lower)
     → one_size table sizes index ≡ one_size table others index
-one_lower table sizes others index same = answer_lower sizes others index (source_at table index) same
+one_lower table sizes others index same = answer_lower sizes others index (source_of_size table index) same
 
 -- more types than there are lower indexes change nothing
 along_more : (table : Table) (most more index : ℕ) → index < most → index < more
@@ -72,29 +72,29 @@ only_sizes table sizes are index = only_below table sizes are (suc index) index 
 
 -- ---- steps along types
 
-pub size_stated : (table : Table) (index size : ℕ) → source_at table index ≡ Ok (Stated size)
+pub size_stated : (table : Table) (index size : ℕ) → source_of_size table index ≡ Ok (Stated size)
     → size_of table index ≡ Ok (Some size)
 size_stated table index size is = are_sizes table index
     ∙ ap (λ (s : Answer SizeSource). s >>= size_from (size_of table) index) is
 
-size_by : (table : Table) (index : ℕ) (source : Answer SizeSource) → source_at table index ≡ source
+size_by : (table : Table) (index : ℕ) (source : Answer SizeSource) → source_of_size table index ≡ source
     → size_of table index ≡ (source >>= size_from (size_of table) index)
 size_by table index source is = are_sizes table index
     ∙ ap (λ (s : Answer SizeSource). s >>= size_from (size_of table) index) is
 
-pub size_same : (table : Table) (index : ℕ) (other : TypeIndex) → source_at table index ≡ Ok (SameAs other)
+pub size_same : (table : Table) (index : ℕ) (other : TypeIndex) → source_of_size table index ≡ Ok (SameAs other)
     → ltb other.0 index ≡ true → size_of table index ≡ size_of table other.0
 size_same table index other is below = size_by table index (Ok (SameAs other)) is ∙ rw below refl
 
-pub size_above : (table : Table) (index : ℕ) (other : TypeIndex) → source_at table index ≡ Ok (SameAs other)
+pub size_above : (table : Table) (index : ℕ) (other : TypeIndex) → source_of_size table index ≡ Ok (SameAs other)
     → ltb other.0 index ≡ false → size_of table index ≡ Ok None
 size_above table index other is above = size_by table index (Ok (SameAs other)) is ∙ rw above refl
 
-pub size_unknown : (table : Table) (index : ℕ) → source_at table index ≡ Ok Unknown → size_of table index ≡ Ok None
+pub size_unknown : (table : Table) (index : ℕ) → source_of_size table index ≡ Ok Unknown → size_of table index ≡ Ok None
 size_unknown table index is = size_by table index (Ok Unknown) is
 
 -- a type that is said to be as large as one of a lower index
-pub lower_large : (table : Table) (index : ℕ) (other : TypeIndex) → source_at table index ≡ Ok (SameAs other)
+pub lower_large : (table : Table) (index : ℕ) (other : TypeIndex) → source_of_size table index ≡ Ok (SameAs other)
     → other.0 < index → IsAsLarge table index other.0
 lower_large table index other is below = record {
   low = omega (arith, below);
@@ -111,7 +111,7 @@ large_still table index between other first second = record {
 
 -- a fault is that of the size at which the types lead there
 pub size_refused : (table : Table) (start index : ℕ) (e : Error) → size_of table start ≡ size_of table index
-    → Answers {X = SizeSource} {Y = SizeSource} (λ source. source) (Err e) (source_at table index)
+    → Answers {X = SizeSource} {Y = SizeSource} (λ source. source) (Err e) (source_of_size table index)
     → Answers {X = Option ℕ} {Y = Option ℕ} (λ size. size) (Err e) (size_of table start)
 size_refused table start index e leads (inl is) = inl (leads ∙ size_by table index (Err (refusal_of e)) is)
 size_refused table start index e leads (inr memory) = inr memory

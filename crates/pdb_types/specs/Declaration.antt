@@ -53,9 +53,9 @@ type_name (names.Source text) = source_name text.now
 type_name (names.Decorated text) = decorated_name text.now
 
 -- the bytes of a name
-abbrev pub text_of : TypeName → List ℕ
-text_of (source_name text) = text
-text_of (decorated_name text) = text
+abbrev pub type_name_bytes : TypeName → List ℕ
+type_name_bytes (source_name text) = text
+type_name_bytes (decorated_name text) = text
 
 -- whether a type has a name
 abbrev pub bears : TypeName → Declared → Bool

@@ -59,9 +59,9 @@ plain_place (types.member value) = Some (record
 plain_place value = None
 
 -- what a record in a list of fields says of a field
-abbrev pub place_of : TypeValue → Option PlaceValue
-place_of (plain value) = plain_place value
-place_of value = None
+abbrev pub place_of_field : TypeValue → Option PlaceValue
+place_of_field (plain value) = plain_place value
+place_of_field value = None
 
 -- whether a field is a pointer to a table of virtual bases
 abbrev pub is_virtual_role : FieldRole → Bool

@@ -13,13 +13,13 @@ abbrev pub IsTaken : List Span → ℕ → Type 0
 IsTaken spans bit = list_any (holds bit) spans ≡ true
 
 -- a span of bits has those of whole bytes
-pub record IsWhole (bits : Span) : Type 0 where
+pub record IsWholeBytes (bits : Span) : Type 0 where
   pub start : bits.start % 8 ≡ 0
   pub end : bits.end % 8 ≡ 0
 
 -- A hole has whole bytes. If the class has virtual base classes, a field takes a bit behind it.
 pub record IsHole (spans : List Span) (virtual : Bool) (bits : Span) : Type 0 where
-  pub whole : IsWhole bits
+  pub whole : IsWholeBytes bits
   pub before : virtual ≡ true → (bit : ℕ) × (bits.end ≤ bit) × IsTaken spans bit
 
 -- each bit of unused bits is in a byte of which a field takes some bit
@@ -30,7 +30,7 @@ AreUnusedBits spans bits = (bit : ℕ) → holds bit bits ≡ true → (other : 
 -- there or behind.
 pub record AreVirtualBases (spans : List Span) (size : ℕ) (virtual : Bool) (bits : Span) : Type 0 where
   pub has : virtual ≡ true
-  pub whole : IsWhole bits
+  pub whole : IsWholeBytes bits
   pub ends : bits.end ≡ size * 8
   pub last : (bit : ℕ) → bits.start ≤ bit → list_any (holds bit) spans ≡ false
 
@@ -52,13 +52,13 @@ bytes_touched bits = if nat_lt bits.start bits.end then record
     { start = bits.start / 8; end = (bits.end - 1) / 8 + 1 } else record { start = 0; end = 0 }
 
 -- the greatest end of spans
-abbrev pub end_of : List Span → ℕ
-end_of [] = 0
-end_of (span ∷ spans) = max span.end (end_of spans)
+abbrev pub greatest_end : List Span → ℕ
+greatest_end [] = 0
+greatest_end (span ∷ spans) = max span.end (greatest_end spans)
 
 -- the byte where the virtual bases of a class begin: behind its fields if it has any, and else behind the class
 abbrev pub tail_start : List Span → ℕ → Bool → ℕ
-tail_start bytes size virtual = if virtual && nat_lt (end_of bytes) size then end_of bytes else size
+tail_start bytes size virtual = if virtual && nat_lt (greatest_end bytes) size then greatest_end bytes else size
 
 -- the bits of bytes
 abbrev pub bits_in : Span → Span

@@ -15,7 +15,7 @@ use Rattle.pdb_types.specs.declared.layout.LayoutField.{LayoutField}
 use Rattle.pdb_types.specs.declared.span.Span.{Span}
 use Rattle.pdb_types.specs.Definition.{definition_of}
 use Rattle.pdb_types.specs.Extent.{bits_of, extent_at}
-use Rattle.pdb_types.specs.FieldPlace.{PlaceValue, field_role, is_virtual_role, place_of, place_value}
+use Rattle.pdb_types.specs.FieldPlace.{PlaceValue, field_role, is_virtual_role, place_of_field, place_value}
 use Rattle.pdb_types.specs.Gap.{AreGapRows}
 use Rattle.pdb_types.specs.TypeAt.{type_at}
 
@@ -44,16 +44,16 @@ field_from table None = Ok None
 
 -- the field of a record in a list of fields, if the record is of one
 unfoldable pub field_of : Table → TypeValue → Answer (Option FieldValue)
-field_of table value = field_from table (place_of value)
+field_of table value = field_from table (place_of_field value)
 
 -- fields, followed by one more if there is one
 abbrev pub with_field : List FieldValue → Answer (Option FieldValue) → Answer (List FieldValue)
 with_field fields field = field >>= λ one. Ok (fields ++ option_to_list one)
 
 -- the fields of records in order, or the first error among them
-abbrev pub fields_in : Table → List TypeValue → Answer (List FieldValue)
-fields_in table [] = Ok []
-fields_in table (value ∷ values) = field_of table value >>= λ field. fields_in table values
+abbrev pub field_values_in : Table → List TypeValue → Answer (List FieldValue)
+field_values_in table [] = Ok []
+field_values_in table (value ∷ values) = field_of table value >>= λ field. field_values_in table values
     >>= λ fields. Ok (cons_option field fields)
 
 -- a list of an index, unless that stands for no type
@@ -78,14 +78,14 @@ records_of table None = Ok []
 
 -- a layout: the index of the definition, the size in bytes, how many records its list has, and the fields in the order
 -- of their records
-pub record LayoutValue : Type 0 where
+pub record ClassLayout : Type 0 where
   pub index : ℕ
   pub size : ℕ
   pub records : ℕ
   pub fields : List FieldValue
 
 -- the value of a `Layout`, without its gaps
-abbrev pub layout_value : Layout → LayoutValue
+abbrev pub layout_value : Layout → ClassLayout
 layout_value layout = record {
   index = layout.index.0;
   size = layout.size;
@@ -100,22 +100,22 @@ HasGaps layout = AreGapRows (map field_span layout.fields.items) layout.size
     (list_any is_virtual_field layout.fields.items) layout.gaps.items
 
 -- the layout of a class or a union that says this of it
-abbrev pub body_layout : Table → ℕ → ClassBody → Answer LayoutValue
+abbrev pub body_layout : Table → ℕ → ClassBody → Answer ClassLayout
 body_layout table index body = do
   records ← records_of table body.list
-  fields ← fields_in table records
+  fields ← field_values_in table records
   Ok (record { index = index; size = body.size; records = length records; fields = fields })
 
 -- the same if it is a class or a union
-abbrev pub layout_from : Table → ℕ → Option ClassBody → Answer (Option LayoutValue)
+abbrev pub layout_from : Table → ℕ → Option ClassBody → Answer (Option ClassLayout)
 layout_from table index (Some body) = body_layout table index body >>= λ layout. Ok (Some layout)
 layout_from table index None = Ok None
 
 -- the layout of a definition
-abbrev pub definition_layout : Table → Option ℕ → Answer (Option LayoutValue)
+abbrev pub definition_layout : Table → Option ℕ → Answer (Option ClassLayout)
 definition_layout table (Some index) = type_at table index >>= λ value. layout_from table index (body_of value)
 definition_layout table None = Ok None
 
 -- the layout of the type of an index: that of its definition, if it is a class or a union and has a definition
-unfoldable pub layout_of : Table → ℕ → Answer (Option LayoutValue)
-layout_of table index = definition_of table index >>= definition_layout table
+unfoldable pub layout_of_type : Table → ℕ → Answer (Option ClassLayout)
+layout_of_type table index = definition_of table index >>= definition_layout table

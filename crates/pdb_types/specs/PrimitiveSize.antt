@@ -61,18 +61,18 @@ kind_size Bool64 = Some 8  -- T_BOOL64
 
 -- the size of a pointer to a primitive type; a far pointer of 32 bits has the 4 bytes that a pointer of its
 -- kind has where its record states no size
-abbrev pub pointer_size : Indirection → ℕ
-pointer_size Near16 = 2  -- CV_TM_NPTR
-pointer_size Far16 = 4  -- CV_TM_FPTR
-pointer_size Huge16 = 4  -- CV_TM_HPTR
-pointer_size Near32 = 4  -- CV_TM_NPTR32
-pointer_size Far32 = 4  -- CV_TM_FPTR32
-pointer_size Near64 = 8  -- CV_TM_NPTR64
-pointer_size Near128 = 16  -- CV_TM_NPTR128
+abbrev pub primitive_pointer_size : Indirection → ℕ
+primitive_pointer_size Near16 = 2  -- CV_TM_NPTR
+primitive_pointer_size Far16 = 4  -- CV_TM_FPTR
+primitive_pointer_size Huge16 = 4  -- CV_TM_HPTR
+primitive_pointer_size Near32 = 4  -- CV_TM_NPTR32
+primitive_pointer_size Far32 = 4  -- CV_TM_FPTR32
+primitive_pointer_size Near64 = 8  -- CV_TM_NPTR64
+primitive_pointer_size Near128 = 16  -- CV_TM_NPTR128
 
 -- the size of a pointer if there is one, and else of a value
 abbrev pub pointed_size : Option Indirection → PrimitiveKind → Option ℕ
-pointed_size (Some indirection) kind = Some (pointer_size indirection)
+pointed_size (Some indirection) kind = Some (primitive_pointer_size indirection)
 pointed_size None kind = kind_size kind
 
 -- the size of a primitive type: that of the pointer if it is one, and else that of a value

@@ -13,8 +13,8 @@ abbrev pub Sizes : Type 0
 Sizes = ℕ → Answer (Option ℕ)
 
 -- what says the size of the type of an index: its record, or the record of its definition if it has one
-unfoldable pub source_at : Table → ℕ → Answer SizeSource
-source_at table index = do
+unfoldable pub source_of_size : Table → ℕ → Answer SizeSource
+source_of_size table index = do
   definition ← definition_of table index
   value ← type_at table (unwrap_or definition index)
   Ok (size_source value)
@@ -27,7 +27,7 @@ size_from sizes index Unknown = Ok None
 
 -- the size of the type of an index, if `sizes` says those of types with a lower index
 abbrev pub one_size : Table → Sizes → ℕ → Answer (Option ℕ)
-one_size table sizes index = source_at table index >>= size_from sizes index
+one_size table sizes index = source_of_size table index >>= size_from sizes index
 
 -- Sizes are those of the types of a table: each is the size that the record says, of the type or of its
 -- definition, or it is the size of the type that the record names, if that has a lower index.

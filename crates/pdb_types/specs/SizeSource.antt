@@ -14,24 +14,24 @@ if_known (Some size) = Stated size
 if_known None = Unknown
 
 -- a size that isn't 0
-abbrev pub nonzero : ℕ → Option ℕ
-nonzero size = if size == 0 then None else Some size
+abbrev pub unless_zero : ℕ → Option ℕ
+unless_zero size = if size == 0 then None else Some size
 
 -- a class, a union or an enumeration with these properties; a forward reference says nothing of its size
-abbrev pub if_defined : ℕ → SizeSource → SizeSource
-if_defined properties source = if forward_reference properties then Unknown else source
+abbrev pub size_unless_forward : ℕ → SizeSource → SizeSource
+size_unless_forward properties source = if forward_reference properties then Unknown else source
 
 -- What says the size of a type without a list. A pointer has the size that its attributes state. An
 -- enumeration is as large as its underlying type, a bit field as the type whose bits it takes, and a type with
 -- a modifier as the one without. A function has no size.
 abbrev pub plain_source : PlainValue → SizeSource
 plain_source (primitive type) = if_known (primitive_size type)
-plain_source (pointer type) = if_known (nonzero (pointers.pointer_size type.attributes))
+plain_source (pointer type) = if_known (unless_zero (pointers.pointer_size type.attributes))
 plain_source (modifier type) = SameAs type.underlying_type
 plain_source (bitfield type) = SameAs type.underlying_type
-plain_source (class value) = if_defined value.properties (Stated value.size)
-plain_source (union value) = if_defined value.properties (Stated value.size)
-plain_source (enumeration value) = if_defined value.properties (SameAs value.underlying_type)
+plain_source (class value) = size_unless_forward value.properties (Stated value.size)
+plain_source (union value) = size_unless_forward value.properties (Stated value.size)
+plain_source (enumeration value) = size_unless_forward value.properties (SameAs value.underlying_type)
 plain_source value = Unknown
 
 -- What says the size of a type. That of an array is its last dimension, which counts the whole array. A list

@@ -3,7 +3,7 @@
 ghost use Rattle.std.specs.Prelude.{◌≡◌};
 ghost use Rattle.std.specs.Option.{option_map};
 ghost use Rattle.pdb_values.specs.TypeView.{type_value};
-ghost use Rattle.pdb_types.specs.FieldPlace.{place_of, place_value};
+ghost use Rattle.pdb_types.specs.FieldPlace.{place_of_field, place_value};
 
 use pdb_base::{RawString, TypeIndex};
 use pdb_values::TypeData;
@@ -55,7 +55,7 @@ pub struct FieldPlace<'t> {
 /// pointer to a table of virtual functions is at the start of the class. Returns None for a record
 /// of anything else, such as a static data member, a method or a nested type.
 pub(crate) fn place_of<'t>(value: &TypeData<'t>) -> Option<FieldPlace<'t>>
-    ensures { option_map place_value result ≡ place_of (type_value value.now) }
+    ensures { option_map place_value result ≡ place_of_field (type_value value.now) }
 {
     match value {
         TypeData::BaseClass(base) => Some(FieldPlace {

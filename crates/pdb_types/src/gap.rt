@@ -3,7 +3,7 @@
 ghost use Rattle.std.specs.Prelude.{◌≡◌, ◌++◌, ◌≤◌, ◌<◌, ◌^◌, IfOk, OnOk, map};
 ghost use Rattle.std.specs.List.{All};
 ghost use Rattle.pdb_base.specs.Memory.{FailsOnlyForMemory};
-ghost use Rattle.pdb_types.specs.Gap.{AreGapRows, bytes_touched, end_of, hole_row, tail_row, tail_start, unused_row};
+ghost use Rattle.pdb_types.specs.Gap.{AreGapRows, bytes_touched, greatest_end, hole_row, tail_row, tail_start, unused_row};
 ghost use Rattle.pdb_types.specs.Span.{AreGaps, gap_of};
 
 use crate::span::{Span, gaps, greatest};
@@ -59,7 +59,7 @@ fn bytes_of_all(alloc: Global, spans: &[Span]) -> Result<Vec<Span>>
 
 /// Returns the greatest end of spans, or 0 if there is no span.
 fn end_of(spans: &[Span]) -> u128
-    ensures { result ≡ end_of spans.now }
+    ensures { result ≡ greatest_end spans.now }
 {
     let mut end = 0;
     for span in spans {

@@ -7,8 +7,8 @@ ghost use Rattle.pdb_base.specs.Answer.{Answers};
 ghost use Rattle.pdb_base.specs.Memory.{FailsOnlyForMemory};
 ghost use Rattle.pdb_values.specs.TypeView.{type_value};
 ghost use Rattle.pdb_types.specs.Extent.{bits_of};
-ghost use Rattle.pdb_types.specs.Layout.{HasGaps, body_layout, body_of, field_of, field_span, field_value, fields_in};
-ghost use Rattle.pdb_types.specs.Layout.{is_virtual_field, layout_of, layout_value, list_there, records_of, with_field};
+ghost use Rattle.pdb_types.specs.Layout.{HasGaps, body_layout, body_of, field_of, field_span, field_value, field_values_in};
+ghost use Rattle.pdb_types.specs.Layout.{is_virtual_field, layout_of_type, layout_value, list_there, records_of, with_field};
 
 use crate::definitions::Definitions;
 use crate::extent::Extent;
@@ -153,7 +153,7 @@ impl<'t> Definitions<'t> {
     /// Returns the fields of records in order.
     fn fields_in(&self, alloc: Global, records: &[TypeData<'t>]) -> Result<Vec<LayoutField<'t>>>
         ensures { Answers (λ fields. map field_value fields.items) result
-            (fields_in self.now (map type_value records.now)) }
+            (field_values_in self.now (map type_value records.now)) }
     {
         let mut fields = Vec::new(alloc);
         for value in records {
@@ -204,9 +204,9 @@ impl<'t> Definitions<'t> {
     /// Fails with the first error along the records: those of `definition_of`, those of
     /// `OpenTable::fields`, and then those of `size_of` for the type of each field. Fails with
     /// `OutOfMemory` if an allocation fails.
-    #[tactic(auto, unfolding(crate::specs::Layout::layout_of))]
+    #[tactic(auto, unfolding(crate::specs::Layout::layout_of_type))]
     pub fn layout_of(&self, alloc: Global, index: TypeIndex) -> Result<Option<Layout<'t>>>
-        ensures fields { Answers (option_map layout_value) result (layout_of self.now index.0) }
+        ensures fields { Answers (option_map layout_value) result (layout_of_type self.now index.0) }
         ensures gaps { IfOk result (λ layout. IfSome layout HasGaps) }
     {
         let Some(index) = self.definition_of(alloc, index)? else {

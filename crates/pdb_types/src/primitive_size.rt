@@ -1,7 +1,7 @@
 //! The sizes of primitive types.
 
 ghost use Rattle.std.specs.Prelude.{◌≡◌};
-ghost use Rattle.pdb_types.specs.PrimitiveSize.{kind_size, pointer_size, primitive_size};
+ghost use Rattle.pdb_types.specs.PrimitiveSize.{kind_size, primitive_pointer_size, primitive_size};
 
 use pdb_values::{Indirection, PrimitiveKind, PrimitiveType};
 
@@ -57,7 +57,7 @@ fn kind_size(kind: PrimitiveKind) -> Option<u64>
 
 /// Returns the size of a pointer to a primitive type in bytes.
 fn pointer_size(indirection: Indirection) -> u64
-    ensures { result ≡ pointer_size indirection }
+    ensures { result ≡ primitive_pointer_size indirection }
 {
     match indirection {
         Indirection::Near16 => 2,

@@ -1,7 +1,7 @@
 //! The sizes of types.
 
 ghost use Rattle.pdb_base.specs.Answer.{Answers};
-ghost use Rattle.pdb_types.specs.Size.{size_of, source_at};
+ghost use Rattle.pdb_types.specs.Size.{size_of, source_of_size};
 
 use crate::definitions::Definitions;
 use crate::size_source::{SizeSource, size_source};
@@ -11,9 +11,9 @@ use std::alloc::Global;
 
 impl<'t> Definitions<'t> {
     /// Returns what says the size of the type of an index: its record, or that of its definition.
-    #[tactic(auto, unfolding(crate::specs::Size::source_at, crate::specs::Definition::definition_of))]
+    #[tactic(auto, unfolding(crate::specs::Size::source_of_size, crate::specs::Definition::definition_of))]
     pub(crate) fn size_source(&self, alloc: Global, index: TypeIndex) -> Result<SizeSource>
-        ensures { Answers (λ source. source) result (source_at self.now index.0) }
+        ensures { Answers (λ source. source) result (source_of_size self.now index.0) }
     {
         let value = type_at(self.types(), alloc, index)?;
         match self.definition_by(alloc, index, &value)? {

@@ -2,7 +2,7 @@
 
 ghost use Rattle.std.specs.Prelude.{◌≡◌};
 ghost use Rattle.pdb_values.specs.TypeView.{type_value};
-ghost use Rattle.pdb_types.specs.SizeSource.{if_defined, if_known, nonzero, size_source};
+ghost use Rattle.pdb_types.specs.SizeSource.{size_unless_forward, if_known, unless_zero, size_source};
 
 use crate::primitive_size::primitive_size;
 use pdb_base::TypeIndex;
@@ -34,14 +34,14 @@ fn if_known(size: Option<u64>) -> SizeSource
 
 /// Returns a size that isn't 0.
 fn nonzero(size: u8) -> Option<u64>
-    ensures { result ≡ nonzero size }
+    ensures { result ≡ unless_zero size }
 {
     if size == 0 { None } else { Some(size as u64) }
 }
 
 /// Returns what says the size of a type that may be only declared.
 fn if_defined(properties: TypeProperties, source: SizeSource) -> SizeSource
-    ensures { result ≡ if_defined properties source }
+    ensures { result ≡ size_unless_forward properties source }
 {
     if properties.forward_reference() {
         SizeSource::Unknown

@@ -1,7 +1,7 @@
 //! A name by which a definition is looked for.
 
 ghost use Rattle.std.specs.Prelude.{◌≡◌};
-ghost use Rattle.pdb_types.specs.Declaration.{text_of, type_name};
+ghost use Rattle.pdb_types.specs.Declaration.{type_name_bytes, type_name};
 
 /// A name of a class, a union or an enumeration.
 #[derive(Clone, Copy, Debug)]
@@ -16,7 +16,7 @@ pub(crate) enum TypeName<'n> {
 impl<'n> TypeName<'n> {
     /// Returns the bytes of the name.
     pub(crate) fn text(self) -> &'n [u8]
-        ensures { result.now ≡ text_of (type_name self.entry) }
+        ensures { result.now ≡ type_name_bytes (type_name self.entry) }
     {
         match self {
             TypeName::Source(text) | TypeName::Decorated(text) => text,

@@ -9,7 +9,7 @@ use Rattle.pdb_consistency.specs.Mismatch.{asked_of, warns}
 use Rattle.pdb_consistency.specs.declared.mismatch.Extent.{Extent}
 use Rattle.pdb_consistency.specs.declared.mismatch.Extent.TheVariants as extents
 use Rattle.pdb_consistency.specs.declared.mismatch.Mismatch.{Mismatch}
-use Rattle.pdb_validation.specs.Finding.{Fault, error_count, errors_in, warning_count}
+use Rattle.pdb_validation.specs.Finding.{FaultPlace, error_count, errors_in, warning_count}
 use Rattle.pdb_validation.specs.Problem.{is_tolerated}
 use Rattle.pdb_validation.specs.Relations.{AreConsistent, IsConsistent, Relation, mismatch_fault, relation_faults, with_relations}
 use Rattle.pdb_validation.specs.declared.finding.Part.{Part}
@@ -26,12 +26,12 @@ one_asked extents.First mismatch = elim (cases_Bool (warns mismatch)) [
 one_asked extents.All mismatch = refl
 
 -- a relation without mismatches tells nothing
-pub nothing_related : (extent : Extent) (faults : List Fault) (fault : Mismatch → Fault)
+pub nothing_related : (extent : Extent) (faults : List FaultPlace) (fault : Mismatch → FaultPlace)
     → faults ++ map fault (asked_of extent []) ≡ faults
 nothing_related extent faults fault = rw (nothing_asked extent) (append-nil faults)
 
 -- one mismatch more
-pub mismatches_more : (fault : Mismatch → Fault) (mismatches : List Mismatch) (i : ℕ) (d : Mismatch)
+pub mismatches_more : (fault : Mismatch → FaultPlace) (mismatches : List Mismatch) (i : ℕ) (d : Mismatch)
     → i < length mismatches
     → map fault (take (i + 1) mismatches) ≡ map fault (take i mismatches) ++ fault (get_or mismatches i d) ∷ []
 mismatches_more fault mismatches i d within =
@@ -50,7 +50,7 @@ errors_map : (layout : LayoutValue) (part : Part) (mismatches : List Mismatch)
 errors_map layout part [] = refl
 errors_map layout part (mismatch ∷ mismatches) = elim (cases_Bool (warns mismatch)) [
   | inl is ↦ rw is (errors_map layout part mismatches)
-  | inr is ↦ rw is (ap (λ (l : List Fault). mismatch_fault layout part mismatch ∷ l) (errors_map layout part mismatches))
+  | inr is ↦ rw is (ap (λ (l : List FaultPlace). mismatch_fault layout part mismatch ∷ l) (errors_map layout part mismatches))
 ]
 
 -- warnings alone have no error among them
@@ -90,7 +90,7 @@ none_asked : (extent : Extent) (mismatches : List Mismatch) → filter is_wrong 
 none_asked extents.First mismatches is = rw is (first_kept (filter warns mismatches) (no_wrong mismatches))
 none_asked extents.All mismatches is = is
 
-map_none : (fault : Mismatch → Fault) (mismatches : List Mismatch) → map fault mismatches ≡ [] → mismatches ≡ []
+map_none : (fault : Mismatch → FaultPlace) (mismatches : List Mismatch) → map fault mismatches ≡ [] → mismatches ≡ []
 map_none fault [] is = refl
 map_none fault (mismatch ∷ mismatches) is = absurd cc
 
@@ -108,14 +108,14 @@ none_related extent layout related is =
 
 -- ---- relations, one behind another
 
-errors_both : (xs ys : List Fault) → errors_in (xs ++ ys) ≡ errors_in xs ++ errors_in ys
-errors_both xs ys = filter-append (λ (fault : Fault). not (is_tolerated fault.problem)) xs ys
+errors_both : (xs ys : List FaultPlace) → errors_in (xs ++ ys) ≡ errors_in xs ++ errors_in ys
+errors_both xs ys = filter-append (λ (fault : FaultPlace). not (is_tolerated fault.problem)) xs ys
 
-front_none : (xs ys : List Fault) → xs ++ ys ≡ [] → (xs ≡ []) × (ys ≡ [])
+front_none : (xs ys : List FaultPlace) → xs ++ ys ≡ [] → (xs ≡ []) × (ys ≡ [])
 front_none [] ys is = (refl, is)
 front_none (x ∷ xs) ys is = absurd cc
 
-pub with_none : (extent : Extent) (layout : LayoutValue) (relations : List Relation) (faults : List Fault)
+pub with_none : (extent : Extent) (layout : LayoutValue) (relations : List Relation) (faults : List FaultPlace)
     → errors_in (with_relations extent layout relations faults) ≡ []
     → (errors_in faults ≡ []) × AreConsistent relations
 with_none extent layout [] faults is = (is, tt)
@@ -125,7 +125,7 @@ with_none extent layout (related ∷ more) faults is =
     let both = front_none (errors_in faults) (errors_in here) (sym (errors_both faults here) ∙ others.0) in
     (both.0, (related_none extent layout related both.1, others.1))
 
-pub none_with : (extent : Extent) (layout : LayoutValue) (relations : List Relation) (faults : List Fault)
+pub none_with : (extent : Extent) (layout : LayoutValue) (relations : List Relation) (faults : List FaultPlace)
     → errors_in faults ≡ [] → AreConsistent relations
     → errors_in (with_relations extent layout relations faults) ≡ []
 none_with extent layout [] faults is are = is
@@ -136,23 +136,23 @@ none_with extent layout (related ∷ more) faults is are =
 
 -- ---- counts
 
-partitioned : (faults : List Fault) → length faults ≡ warning_count faults + length (errors_in faults)
+partitioned : (faults : List FaultPlace) → length faults ≡ warning_count faults + length (errors_in faults)
 partitioned [] = refl
 partitioned (fault ∷ faults) = elim (cases_Bool (is_tolerated fault.problem)) [
   | inl is ↦ let more = partitioned faults in rw is (omega (arith, more))
   | inr is ↦ let more = partitioned faults in rw is (omega (arith, more))
 ]
 
-length_none : (faults : List Fault) → length faults ≡ 0 → faults ≡ []
+length_none : (faults : List FaultPlace) → length faults ≡ 0 → faults ≡ []
 length_none [] is = refl
 length_none (fault ∷ faults) is = absurd (omega (arith, is))
 
 -- there is no error exactly if none is counted
-pub uncounted : (faults : List Fault) → error_count faults ≡ 0 → errors_in faults ≡ []
+pub uncounted : (faults : List FaultPlace) → error_count faults ≡ 0 → errors_in faults ≡ []
 uncounted faults is = let all = partitioned faults in length_none (errors_in faults) (omega (arith, is, all))
 
-pub counted_none : (faults : List Fault) → errors_in faults ≡ [] → error_count faults ≡ 0
+pub counted_none : (faults : List FaultPlace) → errors_in faults ≡ [] → error_count faults ≡ 0
 counted_none faults none =
     let all = partitioned faults in
-    let zero : length (errors_in faults) ≡ 0 = ap (λ (l : List Fault). length l) none in
+    let zero : length (errors_in faults) ≡ 0 = ap (λ (l : List FaultPlace). length l) none in
     omega (arith, all, zero)

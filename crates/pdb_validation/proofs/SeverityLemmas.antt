@@ -15,7 +15,7 @@ use Rattle.pdb_space.specs.Omap.{omap_table_of}
 use Rattle.pdb_file.specs.declared.debug_header.DBIExtraStreams.{DBIExtraStreams}
 use Rattle.pdb_msf.specs.Layout.{LayoutValue, stream_by}
 use Rattle.pdb_tpi.specs.Table.{Table, table_of}
-use Rattle.pdb_validation.specs.Finding.{Fault, by_extent, errors_in, stream_fault}
+use Rattle.pdb_validation.specs.Finding.{FaultPlace, by_extent, errors_in, stream_fault}
 use Rattle.pdb_validation.specs.Names.{fault_of_answer, named_fault, names_fault, string_table_fault}
 use Rattle.pdb_validation.specs.Names.{string_table_number, whole_names}
 use Rattle.pdb_validation.specs.Places.{PagesValue, stream_pages}
@@ -25,8 +25,8 @@ use Rattle.pdb_validation.specs.Roles.{role_index, role_problem, roles_fault, se
 use Rattle.pdb_validation.specs.Roles.{unless_sorted}
 use Rattle.pdb_validation.specs.Sizes.{streams_nameable}
 use Rattle.pdb_validation.specs.Streams.{bytes_fault, fault_there, if_read, streams_faults, unless_absent}
-use Rattle.pdb_validation.specs.Tables.{fault_behind, id_faults, id_in, ids_faults, item_fault, item_faults}
-use Rattle.pdb_validation.specs.Tables.{record_faults, refusal_fault, table_faults, type_faults, type_in}
+use Rattle.pdb_validation.specs.Tables.{fault_behind, id_faults, checked_id, ids_faults, item_fault, item_faults}
+use Rattle.pdb_validation.specs.Tables.{record_faults, refusal_fault, table_faults, type_faults, checked_type}
 use Rattle.pdb_validation.specs.Tables.{types_faults}
 use Rattle.pdb_validation.specs.Whole.{faults_of_ids, faults_of_types, fixed_faults, refused_faults}
 use Rattle.pdb_validation.specs.Whole.{with_role, with_roles}
@@ -37,42 +37,42 @@ use Rattle.pdb_validation.specs.declared.finding.Part.TheVariants as parts
 
 -- ---- faults that are errors
 
-abbrev IsError : Fault → Type 0
+abbrev IsError : FaultPlace → Type 0
 IsError fault = is_tolerated fault.problem ≡ false
 
-abbrev AreErrors : List Fault → Type 0
+abbrev AreErrors : List FaultPlace → Type 0
 AreErrors [] = ⊤
 AreErrors (fault ∷ faults) = IsError fault × AreErrors faults
 
 -- a fault, if there is one, is an error
-abbrev MaybeError : Option Fault → Type 0
+abbrev MaybeError : Option FaultPlace → Type 0
 MaybeError None = ⊤
 MaybeError (Some fault) = IsError fault
 
-listed : (o : Option Fault) → MaybeError o → AreErrors (option_to_list o)
+listed : (o : Option FaultPlace) → MaybeError o → AreErrors (option_to_list o)
 listed None is = tt
 listed (Some fault) is = (is, tt)
 
-both : (xs ys : List Fault) → AreErrors xs → AreErrors ys → AreErrors (xs ++ ys)
+both : (xs ys : List FaultPlace) → AreErrors xs → AreErrors ys → AreErrors (xs ++ ys)
 both [] ys are more = more
 both (x ∷ xs) ys are more = (are.0, both xs ys are.1 more)
 
-with_one : (xs : List Fault) (o : Option Fault) → AreErrors xs → MaybeError o → AreErrors (xs ++ option_to_list o)
+with_one : (xs : List FaultPlace) (o : Option FaultPlace) → AreErrors xs → MaybeError o → AreErrors (xs ++ option_to_list o)
 with_one xs o are is = both xs (option_to_list o) are (listed o is)
 
-told : (extent : Extent) (faults : List Fault) → AreErrors faults → AreErrors (by_extent extent faults)
+told : (extent : Extent) (faults : List FaultPlace) → AreErrors faults → AreErrors (by_extent extent faults)
 told extents.First [] are = tt
 told extents.First (fault ∷ faults) are = (are.0, tt)
 told extents.All faults are = are
 
-each : (fault : ℕ → Option Fault) (numbers : List ℕ) → ((n : ℕ) → MaybeError (fault n))
+each : (fault : ℕ → Option FaultPlace) (numbers : List ℕ) → ((n : ℕ) → MaybeError (fault n))
     → AreErrors (flat_map (λ n. option_to_list (fault n)) numbers)
 each fault [] is = tt
 each fault (n ∷ numbers) is =
     both (option_to_list (fault n)) (flat_map (λ n. option_to_list (fault n)) numbers) (listed (fault n) (is n))
     (each fault numbers is)
 
-unless : (test : Bool) (one : Fault) (faults : List Fault) → IsError one → AreErrors faults
+unless : (test : Bool) (one : FaultPlace) (faults : List FaultPlace) → IsError one → AreErrors faults
     → AreErrors (if test then one ∷ [] else faults)
 unless true one faults is are = (is, tt)
 unless false one faults is are = are
@@ -84,7 +84,7 @@ absent_error number (Ok stream) = tt
 absent_error number (Err (stream_not_found n)) = tt
 absent_error number (Err refusal) = refl
 
-there_error : (part : Part) (number : ℕ) (within : List ℕ → Option Fault) (answer : Answer (List ℕ))
+there_error : (part : Part) (number : ℕ) (within : List ℕ → Option FaultPlace) (answer : Answer (List ℕ))
     → ((stream : List ℕ) → MaybeError (within stream)) → MaybeError (fault_there part number within answer)
 there_error part number within (Ok stream) is = is stream
 there_error part number within (Err (stream_not_found n)) is = refl
@@ -95,12 +95,12 @@ answer_error : {A : Type 0} (part : Part) (number : ℕ) (answer : Answer A)
 answer_error part number (Ok x) = tt
 answer_error part number (Err refusal) = refl
 
-read_error : (within : List ℕ → Option Fault) (answer : Answer (List ℕ))
+read_error : (within : List ℕ → Option FaultPlace) (answer : Answer (List ℕ))
     → ((stream : List ℕ) → MaybeError (within stream)) → MaybeError (if_read None within answer)
 read_error within (Ok stream) is = is stream
 read_error within (Err refusal) is = tt
 
-read_errors : (within : List ℕ → List Fault) (answer : Answer (List ℕ))
+read_errors : (within : List ℕ → List FaultPlace) (answer : Answer (List ℕ))
     → ((stream : List ℕ) → AreErrors (within stream)) → AreErrors (if_read [] within answer)
 read_errors within (Ok stream) are = are stream
 read_errors within (Err refusal) are = tt
@@ -208,13 +208,13 @@ roles_error layout file =
 
 -- ---- tables
 
-refused_error : {A : Type 0} (fault : Refusal → Fault) (answer : Answer A) → ((r : Refusal) → IsError (fault r))
+refused_error : {A : Type 0} (fault : Refusal → FaultPlace) (answer : Answer A) → ((r : Refusal) → IsError (fault r))
     → MaybeError (refusal_fault fault answer)
 refused_error fault (Ok x) is = tt
 refused_error fault (Err refusal) is = is refusal
 
-items_errors : {A : Type 0} (fault : ℕ → Refusal → Fault) (means : ℕ → List ℕ → Answer A) (index : ℕ)
-    (items : List (List ℕ)) (behind : Option Fault) → ((i : ℕ) (r : Refusal) → IsError (fault i r))
+items_errors : {A : Type 0} (fault : ℕ → Refusal → FaultPlace) (means : ℕ → List ℕ → Answer A) (index : ℕ)
+    (items : List (List ℕ)) (behind : Option FaultPlace) → ((i : ℕ) (r : Refusal) → IsError (fault i r))
     → MaybeError behind → AreErrors (item_faults fault means index items behind)
 items_errors fault means index [] behind is last = listed behind last
 items_errors {A} fault means index (item ∷ items) behind is last =
@@ -223,23 +223,23 @@ items_errors {A} fault means index (item ∷ items) behind is last =
     (listed _ (refused_error (fault index) (means index item) (is index)))
     (items_errors fault means (index + 1) items behind is last)
 
-maybe : (test : Bool) (fault : Fault) → IsError fault
-    → MaybeError (let o : Option Fault = if test then Some fault else None in o)
+maybe : (test : Bool) (fault : FaultPlace) → IsError fault
+    → MaybeError (let o : Option FaultPlace = if test then Some fault else None in o)
 maybe true fault is = is
 maybe false fault is = tt
 
-behind_error : (fault : ℕ → Refusal → Fault) (index maximum : ℕ) (rest : List ℕ)
+behind_error : (fault : ℕ → Refusal → FaultPlace) (index maximum : ℕ) (rest : List ℕ)
     → ((i : ℕ) (r : Refusal) → IsError (fault i r)) → MaybeError (fault_behind fault index maximum rest)
 behind_error fault index maximum [] is = maybe (nat_lt index maximum) _ (is index _)
 behind_error fault index maximum (byte ∷ rest) is = is index _
 
-records_errors : {A : Type 0} (fault : ℕ → Refusal → Fault) (means : ℕ → List ℕ → Answer A) (table : Table)
+records_errors : {A : Type 0} (fault : ℕ → Refusal → FaultPlace) (means : ℕ → List ℕ → Answer A) (table : Table)
     → ((i : ℕ) (r : Refusal) → IsError (fault i r)) → AreErrors (record_faults fault means table)
 unfolding record_faults
 records_errors fault means table is = items_errors fault means table.header.minimum_index _ _ is
     (behind_error fault _ table.header.maximum_index _ is)
 
-table_errors : (part : Part) (number : ℕ) (within : Table → List Fault) (answer : Answer Table)
+table_errors : (part : Part) (number : ℕ) (within : Table → List FaultPlace) (answer : Answer Table)
     → ((table : Table) → AreErrors (within table)) → AreErrors (table_faults part number within answer)
 table_errors part number within (Ok table) are = are table
 table_errors part number within (Err refusal) are = (refl, tt)
@@ -247,25 +247,25 @@ table_errors part number within (Err refusal) are = (refl, tt)
 types_errors : (pages : PagesValue) (stream : List ℕ) → AreErrors (types_faults pages stream)
 unfolding types_faults
 types_errors pages stream = table_errors parts.Types 2 (type_faults pages) (table_of stream)
-    (λ table. records_errors (item_fault parts.Types 2 pages table) (type_in table) table (λ i r. refl))
+    (λ table. records_errors (item_fault parts.Types 2 pages table) (checked_type table) table (λ i r. refl))
 
 ids_errors : (pages : PagesValue) (stream : List ℕ) → AreErrors (ids_faults pages stream)
 unfolding ids_faults
 ids_errors pages stream = table_errors parts.Ids 4 (id_faults pages) (table_of stream)
-    (λ table. records_errors (item_fault parts.Ids 4 pages table) id_in table (λ i r. refl))
+    (λ table. records_errors (item_fault parts.Ids 4 pages table) checked_id table (λ i r. refl))
 
-all_in : (faults : List Fault) → AreErrors faults → errors_in faults ≡ faults
+all_in : (faults : List FaultPlace) → AreErrors faults → errors_in faults ≡ faults
 all_in [] are = refl
-all_in (fault ∷ faults) are = rw are.0 (ap (λ (l : List Fault). fault ∷ l) (all_in faults are.1))
+all_in (fault ∷ faults) are = rw are.0 (ap (λ (l : List FaultPlace). fault ∷ l) (all_in faults are.1))
 
 -- ---- the whole file
 
 role_added : (layout : LayoutValue) (file : List ℕ) (roles : Option DBIExtraStreams) (part : Part)
-    (faults : List Fault) → AreErrors faults → AreErrors (with_role layout file roles part faults)
+    (faults : List FaultPlace) → AreErrors faults → AreErrors (with_role layout file roles part faults)
 role_added layout file roles part faults are =
     with_one faults (role_fault layout file part roles) are (role_error layout file part roles)
 
-roles_added : (layout : LayoutValue) (file : List ℕ) (roles : Option DBIExtraStreams) (faults : List Fault)
+roles_added : (layout : LayoutValue) (file : List ℕ) (roles : Option DBIExtraStreams) (faults : List FaultPlace)
     → AreErrors faults → AreErrors (with_roles layout file roles faults)
 unfolding with_roles
 roles_added layout file roles faults are =

@@ -3,10 +3,10 @@ use Rattle.std.proofs.Common.{◌≡◌, ℕ, suc, ◌+◌, ◌-◌, ◌<◌, �
 use Rattle.std.specs.List.{flat_map, range_with_len}
 use Rattle.std.specs.Option.{option_to_list}
 use Rattle.pdb_msf.specs.Layout.{LayoutValue}
-use Rattle.pdb_validation.specs.Finding.{Fault}
+use Rattle.pdb_validation.specs.Finding.{FaultPlace}
 use Rattle.pdb_validation.specs.Streams.{bytes_fault, streams_faults}
 
-unfoldable pub faults_from : LayoutValue → List ℕ → ℕ → ℕ → List Fault
+unfoldable pub faults_from : LayoutValue → List ℕ → ℕ → ℕ → List FaultPlace
 faults_from layout file count n =
     flat_map (λ number. option_to_list (bytes_fault layout file number)) (range_with_len n (count - n))
 

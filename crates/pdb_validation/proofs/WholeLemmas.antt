@@ -21,8 +21,8 @@ use Rattle.pdb_tpi.specs.Steps.{walk, walk_rest}
 use Rattle.pdb_tpi.specs.Table.{Table, table_of}
 use Rattle.pdb_validation.proofs.RelationLemmas.{counted_none, none_with, uncounted, with_none}
 use Rattle.pdb_validation.proofs.SeverityLemmas.{refused_errors}
-use Rattle.pdb_validation.specs.Finding.{Fault, by_extent, error_count, errors_in, finding_view, stream_fault}
-use Rattle.pdb_validation.specs.IsWhole.{AreAnswered, AreIds, AreNames, AreTypes, HasRole, HasWholeNames, HasWholeParts}
+use Rattle.pdb_validation.specs.Finding.{FaultPlace, by_extent, error_count, errors_in, finding_view, stream_fault}
+use Rattle.pdb_validation.specs.IsWhole.{AreFaultless, AreWholeIds, AreNames, AreWholeTypes, HasRole, HasWholeNames, HasWholeParts}
 use Rattle.pdb_validation.specs.IsWhole.{HasWholeRecords, IfRead, IsNumbered, IsReadOrAbsent, IsThere, IsWhole}
 use Rattle.pdb_validation.specs.IsWhole.{IsWholeBehind}
 use Rattle.pdb_validation.specs.Names.{fault_of_answer, named_fault, names_fault, string_table_fault}
@@ -36,8 +36,8 @@ use Rattle.pdb_validation.proofs.NameLemmas.{names_whole, whole_from_names}
 use Rattle.pdb_validation.specs.Roles.{known_roles, numbered_fault, role_fault, role_index, role_problem, roles_fault}
 use Rattle.pdb_validation.specs.Sizes.{directory_size, nameable, streams_nameable, streams_size}
 use Rattle.pdb_validation.specs.Streams.{bytes_fault, fault_there, if_read, streams_faults, unless_absent}
-use Rattle.pdb_validation.specs.Tables.{fault_behind, id_faults, id_in, ids_faults, item_fault, item_faults}
-use Rattle.pdb_validation.specs.Tables.{missing_fault, record_faults, refusal_fault, table_faults, type_faults, type_in}
+use Rattle.pdb_validation.specs.Tables.{fault_behind, id_faults, checked_id, ids_faults, item_fault, item_faults}
+use Rattle.pdb_validation.specs.Tables.{missing_fault, record_faults, refusal_fault, table_faults, type_faults, checked_type}
 use Rattle.pdb_validation.specs.Tables.{types_faults}
 use Rattle.pdb_validation.specs.Whole.{faults_behind, faults_by, faults_of, faults_of_ids, faults_of_types, fixed_faults}
 use Rattle.pdb_validation.specs.Whole.{opened_faults, part_faults, refused_faults, sized_faults, with_role, with_roles}
@@ -49,31 +49,31 @@ use Rattle.pdb_validation.specs.declared.finding.Part.TheVariants as parts
 
 -- ---- lists of faults
 
-none_in : (o : Option Fault) → option_to_list o ≡ [] → o ≡ None
+none_in : (o : Option FaultPlace) → option_to_list o ≡ [] → o ≡ None
 none_in None is = refl
 none_in (Some fault) is = absurd cc
 
-front_none : (xs ys : List Fault) → xs ++ ys ≡ [] → xs ≡ []
+front_none : (xs ys : List FaultPlace) → xs ++ ys ≡ [] → xs ≡ []
 front_none [] ys is = refl
 front_none (x ∷ xs) ys is = absurd cc
 
-behind_none : (xs ys : List Fault) → xs ++ ys ≡ [] → ys ≡ []
+behind_none : (xs ys : List FaultPlace) → xs ++ ys ≡ [] → ys ≡ []
 behind_none [] ys is = is
 behind_none (x ∷ xs) ys is = absurd cc
 
-both_none : (xs : List Fault) (o : Option Fault) → xs ≡ [] → o ≡ None → xs ++ option_to_list o ≡ []
+both_none : (xs : List FaultPlace) (o : Option FaultPlace) → xs ≡ [] → o ≡ None → xs ++ option_to_list o ≡ []
 both_none xs o front none = rw (front, none) refl
 
-last_none : (xs : List Fault) (o : Option Fault) → xs ++ option_to_list o ≡ [] → o ≡ None
+last_none : (xs : List FaultPlace) (o : Option FaultPlace) → xs ++ option_to_list o ≡ [] → o ≡ None
 last_none xs o is = none_in o (behind_none xs (option_to_list o) is)
 
 -- nothing is told of a part exactly if it has no fault
-none_told : (extent : Extent) (faults : List Fault) → by_extent extent faults ≡ [] → faults ≡ []
+none_told : (extent : Extent) (faults : List FaultPlace) → by_extent extent faults ≡ [] → faults ≡ []
 none_told extents.First [] is = refl
 none_told extents.First (fault ∷ faults) is = absurd cc
 none_told extents.All faults is = is
 
-told_none : (extent : Extent) (faults : List Fault) → faults ≡ [] → by_extent extent faults ≡ []
+told_none : (extent : Extent) (faults : List FaultPlace) → faults ≡ [] → by_extent extent faults ≡ []
 told_none extents.First faults none = rw none refl
 told_none extents.All faults none = none
 
@@ -101,14 +101,14 @@ so_within : {A : Type 0} (nothing : A) (within : List ℕ → A) (So : List ℕ 
 so_within nothing within So none (Ok stream) is = none stream is
 so_within nothing within So none (Err refusal) is = refl
 
-there_so : (part : Part) (number : ℕ) (within : List ℕ → Option Fault) (So : List ℕ → Type 0)
+there_so : (part : Part) (number : ℕ) (within : List ℕ → Option FaultPlace) (So : List ℕ → Type 0)
     → ((stream : List ℕ) → within stream ≡ None → So stream) → (answer : Answer (List ℕ))
     → fault_there part number within answer ≡ None → IsThere So answer
 there_so part number within So so (Ok stream) is = so stream is
 there_so part number within So so (Err (stream_not_found n)) is = absurd cc
 there_so part number within So so (Err refusal) is = tt
 
-so_there : (part : Part) (number : ℕ) (within : List ℕ → Option Fault) (So : List ℕ → Type 0)
+so_there : (part : Part) (number : ℕ) (within : List ℕ → Option FaultPlace) (So : List ℕ → Type 0)
     → ((stream : List ℕ) → So stream → within stream ≡ None) → (answer : Answer (List ℕ)) → IsThere So answer
     → fault_there part number within answer ≡ None
 so_there part number within So none (Ok stream) is = none stream is
@@ -128,10 +128,10 @@ no_fault part number (Err refusal) is = absurd (false≢true is)
 -- ---- the streams
 
 -- the faults of streams, one at most for each number
-abbrev each : (ℕ → Option Fault) → List ℕ → List Fault
+abbrev each : (ℕ → Option FaultPlace) → List ℕ → List FaultPlace
 each fault numbers = flat_map (λ n. option_to_list (fault n)) numbers
 
-all_read : (fault : ℕ → Option Fault) (from count n : ℕ) → each fault (range_with_len from count) ≡ []
+all_read : (fault : ℕ → Option FaultPlace) (from count n : ℕ) → each fault (range_with_len from count) ≡ []
     → from ≤ n → n < from + count → fault n ≡ None
 all_read fault from zero n is least most = absurd (omega (arith, least, most))
 all_read fault from (suc count) n is least most =
@@ -143,7 +143,7 @@ all_read fault from (suc count) n is least most =
           rw same (none_in (fault from) (front_none (option_to_list (fault from)) others is))
     ]
 
-none_first : (fault : ℕ → Option Fault) (from count : ℕ) → ((n : ℕ) → from ≤ n → n < from + count → fault n ≡ None)
+none_first : (fault : ℕ → Option FaultPlace) (from count : ℕ) → ((n : ℕ) → from ≤ n → n < from + count → fault n ≡ None)
     → each fault (range_with_len from count) ≡ []
 none_first fault from zero none = refl
 none_first fault from (suc count) none =
@@ -208,32 +208,32 @@ streams_read layout file is n below = elim (cases_lt n (streams_nameable layout)
 
 -- ---- records
 
-none_refused : {A : Type 0} (fault : Refusal → Fault) (answer : Answer A) → refusal_fault fault answer ≡ None
+none_refused : {A : Type 0} (fault : Refusal → FaultPlace) (answer : Answer A) → refusal_fault fault answer ≡ None
     → IsOk answer
 none_refused fault (Ok x) is = refl
 none_refused fault (Err refusal) is = absurd cc
 
-ok_refused : {A : Type 0} (fault : Refusal → Fault) (answer : Answer A) → IsOk answer
+ok_refused : {A : Type 0} (fault : Refusal → FaultPlace) (answer : Answer A) → IsOk answer
     → refusal_fault fault answer ≡ None
 ok_refused fault (Ok x) is = refl
 ok_refused fault (Err refusal) is = absurd (false≢true is)
 
-some_none : (fault : Fault) → fault ∷ [] ≡ [] → ⊥
+some_none : (fault : FaultPlace) → fault ∷ [] ≡ [] → ⊥
 some_none fault is = cc
 
-some_is_none : (fault : Fault) → Some fault ≡ None → ⊥
+some_is_none : (fault : FaultPlace) → Some fault ≡ None → ⊥
 some_is_none fault is = cc
 
-not_missing : (fault : ℕ → Refusal → Fault) (index maximum : ℕ) → missing_fault fault index maximum ≡ None
+not_missing : (fault : ℕ → Refusal → FaultPlace) (index maximum : ℕ) → missing_fault fault index maximum ≡ None
     → maximum ≤ index
 not_missing fault index maximum is = elim (cases_lt index maximum) [
   | inl below ↦ let test = lt-ltb index maximum below in absurd (some_is_none _ (rw test at is))
   | inr past ↦ past
 ]
 
-records_answered : {A : Type 0} (fault : ℕ → Refusal → Fault) (means : ℕ → List ℕ → Answer A) (index : ℕ)
-    (items : List (List ℕ)) (behind : Option Fault)
-    → item_faults fault means index items behind ≡ [] → AreAnswered means index items × (behind ≡ None)
+records_answered : {A : Type 0} (fault : ℕ → Refusal → FaultPlace) (means : ℕ → List ℕ → Answer A) (index : ℕ)
+    (items : List (List ℕ)) (behind : Option FaultPlace)
+    → item_faults fault means index items behind ≡ [] → AreFaultless means index items × (behind ≡ None)
 records_answered fault means index [] behind is = (tt, none_in behind is)
 records_answered {A} fault means index (item ∷ items) behind is =
     let one = option_to_list (refusal_fault (fault index) (means index item)) in
@@ -241,24 +241,24 @@ records_answered {A} fault means index (item ∷ items) behind is =
     let others = records_answered fault means (index + 1) items behind (behind_none one more is) in
     ((none_refused (fault index) (means index item) (none_in _ (front_none one more is)), others.0), others.1)
 
-answered_records : {A : Type 0} (fault : ℕ → Refusal → Fault) (means : ℕ → List ℕ → Answer A) (index : ℕ)
-    (items : List (List ℕ)) (behind : Option Fault)
-    → AreAnswered means index items → behind ≡ None → item_faults fault means index items behind ≡ []
+answered_records : {A : Type 0} (fault : ℕ → Refusal → FaultPlace) (means : ℕ → List ℕ → Answer A) (index : ℕ)
+    (items : List (List ℕ)) (behind : Option FaultPlace)
+    → AreFaultless means index items → behind ≡ None → item_faults fault means index items behind ≡ []
 answered_records fault means index [] behind are none = rw none refl
 answered_records {A} fault means index (item ∷ items) behind are none =
     let one = ok_refused (fault index) (means index item) are.0 in
     rw one (answered_records fault means (index + 1) items behind are.1 none)
 
-none_behind : (fault : ℕ → Refusal → Fault) (index maximum : ℕ) (rest : List ℕ)
+none_behind : (fault : ℕ → Refusal → FaultPlace) (index maximum : ℕ) (rest : List ℕ)
     → fault_behind fault index maximum rest ≡ None → (rest ≡ []) × (maximum ≤ index)
 none_behind fault index maximum [] is = (refl, not_missing fault index maximum is)
 none_behind fault index maximum (byte ∷ rest) is = absurd cc
 
-behind_whole : (fault : ℕ → Refusal → Fault) (index maximum : ℕ) (rest : List ℕ) → rest ≡ [] → maximum ≤ index
+behind_whole : (fault : ℕ → Refusal → FaultPlace) (index maximum : ℕ) (rest : List ℕ) → rest ≡ [] → maximum ≤ index
     → fault_behind fault index maximum rest ≡ None
 behind_whole fault index maximum rest none least = let test = le-ltb index maximum least in rw (none, test) refl
 
-whole_records : {A : Type 0} (fault : ℕ → Refusal → Fault) (means : ℕ → List ℕ → Answer A) (table : Table)
+whole_records : {A : Type 0} (fault : ℕ → Refusal → FaultPlace) (means : ℕ → List ℕ → Answer A) (table : Table)
     → record_faults fault means table ≡ [] → HasWholeRecords means table
 unfolding record_faults
 whole_records fault means table is =
@@ -267,7 +267,7 @@ whole_records fault means table is =
     (walk_rest table) both.1 in
     record { records = both.0; ends = end.0; counted = end.1 }
 
-records_whole : {A : Type 0} (fault : ℕ → Refusal → Fault) (means : ℕ → List ℕ → Answer A) (table : Table)
+records_whole : {A : Type 0} (fault : ℕ → Refusal → FaultPlace) (means : ℕ → List ℕ → Answer A) (table : Table)
     → HasWholeRecords means table → record_faults fault means table ≡ []
 unfolding record_faults
 records_whole fault means table whole =
@@ -276,38 +276,38 @@ records_whole fault means table whole =
     (walk_rest table) whole.ends whole.counted)
 
 types_whole : (pages : PagesValue) (answer : Answer Table) → table_faults parts.Types 2 (type_faults pages) answer ≡ []
-    → AreTypes answer
-types_whole pages (Ok table) is = whole_records (item_fault parts.Types 2 pages table) (type_in table) table is
+    → AreWholeTypes answer
+types_whole pages (Ok table) is = whole_records (item_fault parts.Types 2 pages table) (checked_type table) table is
 types_whole pages (Err refusal) is = absurd cc
 
-whole_types : (pages : PagesValue) (answer : Answer Table) → AreTypes answer
+whole_types : (pages : PagesValue) (answer : Answer Table) → AreWholeTypes answer
     → table_faults parts.Types 2 (type_faults pages) answer ≡ []
-whole_types pages (Ok table) is = records_whole (item_fault parts.Types 2 pages table) (type_in table) table is
+whole_types pages (Ok table) is = records_whole (item_fault parts.Types 2 pages table) (checked_type table) table is
 whole_types pages (Err refusal) is = absurd is
 
 ids_whole : (pages : PagesValue) (answer : Answer Table) → table_faults parts.Ids 4 (id_faults pages) answer ≡ []
-    → AreIds answer
-ids_whole pages (Ok table) is = whole_records (item_fault parts.Ids 4 pages table) id_in table is
+    → AreWholeIds answer
+ids_whole pages (Ok table) is = whole_records (item_fault parts.Ids 4 pages table) checked_id table is
 ids_whole pages (Err refusal) is = absurd cc
 
-whole_ids : (pages : PagesValue) (answer : Answer Table) → AreIds answer
+whole_ids : (pages : PagesValue) (answer : Answer Table) → AreWholeIds answer
     → table_faults parts.Ids 4 (id_faults pages) answer ≡ []
-whole_ids pages (Ok table) is = records_whole (item_fault parts.Ids 4 pages table) id_in table is
+whole_ids pages (Ok table) is = records_whole (item_fault parts.Ids 4 pages table) checked_id table is
 whole_ids pages (Err refusal) is = absurd is
 
-types_stream : (pages : PagesValue) (stream : List ℕ) → types_faults pages stream ≡ [] → AreTypes (table_of stream)
+types_stream : (pages : PagesValue) (stream : List ℕ) → types_faults pages stream ≡ [] → AreWholeTypes (table_of stream)
 unfolding types_faults
 types_stream pages stream is = types_whole pages (table_of stream) is
 
-stream_types : (pages : PagesValue) (stream : List ℕ) → AreTypes (table_of stream) → types_faults pages stream ≡ []
+stream_types : (pages : PagesValue) (stream : List ℕ) → AreWholeTypes (table_of stream) → types_faults pages stream ≡ []
 unfolding types_faults
 stream_types pages stream is = whole_types pages (table_of stream) is
 
-ids_stream : (pages : PagesValue) (stream : List ℕ) → ids_faults pages stream ≡ [] → AreIds (table_of stream)
+ids_stream : (pages : PagesValue) (stream : List ℕ) → ids_faults pages stream ≡ [] → AreWholeIds (table_of stream)
 unfolding ids_faults
 ids_stream pages stream is = ids_whole pages (table_of stream) is
 
-stream_ids : (pages : PagesValue) (stream : List ℕ) → AreIds (table_of stream) → ids_faults pages stream ≡ []
+stream_ids : (pages : PagesValue) (stream : List ℕ) → AreWholeIds (table_of stream) → ids_faults pages stream ≡ []
 unfolding ids_faults
 stream_ids pages stream is = whole_ids pages (table_of stream) is
 
@@ -406,7 +406,7 @@ by_part layout file roles none parts.Roles = other_part layout file parts.Roles 
 by_part layout file roles none parts.Types = other_part layout file parts.Types roles (λ r. refl)
 by_part layout file roles none parts.Ids = other_part layout file parts.Ids roles (λ r. refl)
 
-roles_none : (layout : LayoutValue) (file : List ℕ) (roles : Option DBIExtraStreams) (faults : List Fault)
+roles_none : (layout : LayoutValue) (file : List ℕ) (roles : Option DBIExtraStreams) (faults : List FaultPlace)
     → with_roles layout file roles faults ≡ [] → (faults ≡ []) × NoneByRole layout file roles
 unfolding with_roles
 roles_none layout file roles faults is =
@@ -432,7 +432,7 @@ roles_none layout file roles faults is =
       },
     )
 
-none_roles : (layout : LayoutValue) (file : List ℕ) (roles : Option DBIExtraStreams) (faults : List Fault) → faults ≡ []
+none_roles : (layout : LayoutValue) (file : List ℕ) (roles : Option DBIExtraStreams) (faults : List FaultPlace) → faults ≡ []
     → ((part : Part) → role_fault layout file part roles ≡ None) → with_roles layout file roles faults ≡ []
 unfolding with_roles
 none_roles layout file roles faults none each =
@@ -489,14 +489,14 @@ none_fixed extent layout file none =
 -- ---- the whole file
 
 -- the parts behind a test have no errors, if the test fails, and no parts else
-behind_test : (small large : ℕ) (fault : Fault) (faults : List Fault) → is_tolerated fault.problem ≡ false
+behind_test : (small large : ℕ) (fault : FaultPlace) (faults : List FaultPlace) → is_tolerated fault.problem ≡ false
     → errors_in (if nat_lt small large then fault ∷ [] else faults) ≡ [] → (large ≤ small) × (errors_in faults ≡ [])
 behind_test small large fault faults wrong is = elim (cases_lt small large) [
   | inl under ↦ let test = lt-ltb small large under in absurd (some_none _ (rw (test, wrong) at is))
   | inr over ↦ let test = le-ltb small large over in (over, rw test at is)
 ]
 
-test_behind : (small large : ℕ) (fault : Fault) (faults : List Fault) → large ≤ small → errors_in faults ≡ []
+test_behind : (small large : ℕ) (fault : FaultPlace) (faults : List FaultPlace) → large ≤ small → errors_in faults ≡ []
     → errors_in (if nat_lt small large then fault ∷ [] else faults) ≡ []
 test_behind small large fault faults over none = let test = le-ltb small large over in rw test none
 
@@ -517,7 +517,7 @@ none_refused_of extent layout file fixed each =
     (none_fixed extent layout file fixed) each
 
 -- the relations between them
-record AreAgreed (extent : Extent) (layout : LayoutValue) (file : List ℕ) (faults : List Fault) : Type 0 where
+record AreAgreed (extent : Extent) (layout : LayoutValue) (file : List ℕ) (faults : List FaultPlace) : Type 0 where
   pub none : errors_in faults ≡ []
   pub pages : AreConsistent (container_relations file)
   pub types : AreConsistent (type_relations layout file)
@@ -525,7 +525,7 @@ record AreAgreed (extent : Extent) (layout : LayoutValue) (file : List ℕ) (fau
   pub names : AreConsistent (name_relations layout file)
   pub roles : AreConsistent (role_relations layout file)
 
-related_agree : (extent : Extent) (layout : LayoutValue) (file : List ℕ) (faults : List Fault)
+related_agree : (extent : Extent) (layout : LayoutValue) (file : List ℕ) (faults : List FaultPlace)
     → errors_in (related_faults extent layout file faults) ≡ [] → AreAgreed extent layout file faults
 unfolding related_faults
 related_agree extent layout file faults is =
@@ -536,7 +536,7 @@ related_agree extent layout file faults is =
     let pages = with_none extent layout (container_relations file) faults types.0 in
     record { none = pages.0; pages = pages.1; types = types.1; ids = ids.1; names = names.1; roles = roles.1 }
 
-agreed : (extent : Extent) (layout : LayoutValue) (file : List ℕ) (faults : List Fault)
+agreed : (extent : Extent) (layout : LayoutValue) (file : List ℕ) (faults : List FaultPlace)
     → AreAgreed extent layout file faults → errors_in (related_faults extent layout file faults) ≡ []
 unfolding related_faults
 agreed extent layout file faults are =
@@ -563,9 +563,9 @@ no_part_faults extent layout file is =
       roles = within_so None (λ stream. fault_of_answer parts.Roles 3 (extra_streams_of stream))
           (λ stream. IsOk (extra_streams_of stream))
           (λ stream. answers parts.Roles 3 (extra_streams_of stream)) (stream_by layout file 3 None) fixed.roles;
-      types = within_so [] (types_faults (stream_pages layout 2)) (λ stream. AreTypes (table_of stream))
+      types = within_so [] (types_faults (stream_pages layout 2)) (λ stream. AreWholeTypes (table_of stream))
           (types_stream (stream_pages layout 2)) (stream_by layout file 2 None) fixed.types;
-      ids = within_so [] (ids_faults (stream_pages layout 4)) (λ stream. AreIds (table_of stream))
+      ids = within_so [] (ids_faults (stream_pages layout 4)) (λ stream. AreWholeIds (table_of stream))
           (ids_stream (stream_pages layout 4)) (stream_by layout file 4 None) fixed.ids;
       by_role = λ part. role_whole layout file part (known_roles layout file)
           (by_part layout file (known_roles layout file) all.1 part);
@@ -589,9 +589,9 @@ whole_parts extent layout file whole =
       roles = so_within None (λ stream. fault_of_answer parts.Roles 3 (extra_streams_of stream))
           (λ stream. IsOk (extra_streams_of stream))
           (λ stream. no_fault parts.Roles 3 (extra_streams_of stream)) (stream_by layout file 3 None) whole.roles;
-      types = so_within [] (types_faults (stream_pages layout 2)) (λ stream. AreTypes (table_of stream))
+      types = so_within [] (types_faults (stream_pages layout 2)) (λ stream. AreWholeTypes (table_of stream))
           (stream_types (stream_pages layout 2)) (stream_by layout file 2 None) whole.types;
-      ids = so_within [] (ids_faults (stream_pages layout 4)) (λ stream. AreIds (table_of stream))
+      ids = so_within [] (ids_faults (stream_pages layout 4)) (λ stream. AreWholeIds (table_of stream))
           (stream_ids (stream_pages layout 4)) (stream_by layout file 4 None) whole.ids;
     } in
     let none = none_refused_of extent layout file fixed
@@ -656,7 +656,7 @@ pub whole_file : (extent : Extent) (file : List ℕ) → IsWhole file → errors
 unfolding faults_of
 whole_file extent file whole = whole_behind_header extent file (file_head file) (opened_by file whole.parts) whole
 
-abbrev said : List Fault → Answer (List Fault)
+abbrev said : List FaultPlace → Answer (List FaultPlace)
 said faults = Ok faults
 
 pub whole_findings : {X : Type 0} (items : X → List Finding) (result : Result X Error) (extent : Extent)

@@ -12,7 +12,7 @@ use Rattle.pdb_validation.specs.declared.finding.Part.TheVariants as parts
 
 -- a part of a file in which something is wrong: the number of the stream, the index of the record, and the byte of
 -- the stream and of the file at which the fault is, if there are such, and what is wrong
-pub record Fault : Type 0 where
+pub record FaultPlace : Type 0 where
   pub part : Part
   pub stream : Option ℕ
   pub index : Option ℕ
@@ -20,7 +20,7 @@ pub record Fault : Type 0 where
   pub file_byte : Option ℕ
   pub problem : ProblemValue
 
-abbrev pub finding_view : Finding → Fault
+abbrev pub finding_view : Finding → FaultPlace
 finding_view finding = record {
   part = finding.part;
   stream = finding.stream;
@@ -31,7 +31,7 @@ finding_view finding = record {
 }
 
 -- the fault of a part that a stream holds
-abbrev pub stream_fault : Part → ℕ → ProblemValue → Fault
+abbrev pub stream_fault : Part → ℕ → ProblemValue → FaultPlace
 stream_fault part stream problem = record {
   part = part;
   stream = Some stream;
@@ -42,7 +42,7 @@ stream_fault part stream problem = record {
 }
 
 -- the fault of a record of a stream, which begins at that byte of the stream and of the file
-abbrev pub record_fault : Part → ℕ → ℕ → ℕ → Option ℕ → ProblemValue → Fault
+abbrev pub record_fault : Part → ℕ → ℕ → ℕ → Option ℕ → ProblemValue → FaultPlace
 record_fault part stream index byte file_byte problem = record {
   part = part;
   stream = Some stream;
@@ -53,7 +53,7 @@ record_fault part stream index byte file_byte problem = record {
 }
 
 -- the fault of a part that no stream holds
-abbrev pub file_fault : Part → ProblemValue → Fault
+abbrev pub file_fault : Part → ProblemValue → FaultPlace
 file_fault part problem = record {
   part = part;
   stream = None;
@@ -64,25 +64,25 @@ file_fault part problem = record {
 }
 
 -- those of some faults that are errors
-abbrev pub errors_in : List Fault → List Fault
+abbrev pub errors_in : List FaultPlace → List FaultPlace
 errors_in faults = filter (λ fault. not (is_tolerated fault.problem)) faults
 
 -- how many of some faults are warnings, and how many are errors
-abbrev pub warning_count : List Fault → ℕ
+abbrev pub warning_count : List FaultPlace → ℕ
 warning_count faults = length (filter (λ fault. is_tolerated fault.problem) faults)
 
-abbrev pub error_count : List Fault → ℕ
+abbrev pub error_count : List FaultPlace → ℕ
 error_count faults = length faults - warning_count faults
 
 -- ---- how much is told of a part
 
 -- the faults of a part that are told: the first of them, or every one
-abbrev pub by_extent : Extent → List Fault → List Fault
+abbrev pub by_extent : Extent → List FaultPlace → List FaultPlace
 by_extent extents.First faults = take 1 faults
 by_extent extents.All faults = faults
 
 -- whether no more of a part is told than what is found of it, if anything is
-abbrev pub is_enough : Extent → Option Fault → Bool
+abbrev pub is_enough : Extent → Option FaultPlace → Bool
 is_enough extents.First (Some fault) = true
 is_enough extent fault = false
 
@@ -117,7 +117,7 @@ abbrev pub code_by : Part → Option ℕ → ProblemValue → List ℕ
 code_by part index (failure refusal) = part_code part ++ record_code index ++ error_code refusal
 code_by part index (inconsistent what) = inconsistency_code what
 
-abbrev pub fault_code : Fault → List ℕ
+abbrev pub fault_code : FaultPlace → List ℕ
 fault_code fault = code_by fault.part fault.index fault.problem
 
 abbrev pub code_text : Code → List ℕ

@@ -14,7 +14,7 @@ use Rattle.pdb_validation.specs.Relations.{AreConsistent, container_relations, n
 use Rattle.pdb_validation.specs.Relations.{id_relations, type_relations}
 use Rattle.pdb_validation.specs.Roles.{known_roles, role_index, role_problem}
 use Rattle.pdb_validation.specs.Sizes.{directory_size, streams_size}
-use Rattle.pdb_validation.specs.Tables.{id_in, type_in}
+use Rattle.pdb_validation.specs.Tables.{checked_id, checked_type}
 use Rattle.pdb_validation.specs.declared.finding.Part.{Part}
 
 -- The bytes of a stream can be read, or there is no such stream.
@@ -35,25 +35,25 @@ IsThere So (Err (stream_not_found n)) = ⊥
 IsThere So (Err refusal) = ⊤
 
 -- Each of some items, of which the first has that index, is answered by a definition.
-abbrev pub AreAnswered : {A : Type 0} → (ℕ → List ℕ → Answer A) → ℕ → List (List ℕ) → Type 0
-AreAnswered means index [] = ⊤
-AreAnswered means index (item ∷ items) = IsOk (means index item) × AreAnswered means (index + 1) items
+abbrev pub AreFaultless : {A : Type 0} → (ℕ → List ℕ → Answer A) → ℕ → List (List ℕ) → Type 0
+AreFaultless means index [] = ⊤
+AreFaultless means index (item ∷ items) = IsOk (means index item) × AreFaultless means (index + 1) items
 
 -- Each record of a table is answered by a definition, nothing is left behind the records, and there is a record for
 -- each index that the header counts.
 pub record HasWholeRecords {A : Type 0} (means : ℕ → List ℕ → Answer A) (table : Table) : Type 0 where
-  pub records : AreAnswered means table.header.minimum_index (walk table)
+  pub records : AreFaultless means table.header.minimum_index (walk table)
   pub ends : walk_rest table ≡ []
   pub counted : table.header.maximum_index ≤ table.header.minimum_index + length (walk table)
 
 -- a table of types, and a table of ids
-abbrev pub AreTypes : Answer Table → Type 0
-AreTypes (Ok table) = HasWholeRecords (type_in table) table
-AreTypes (Err refusal) = ⊥
+abbrev pub AreWholeTypes : Answer Table → Type 0
+AreWholeTypes (Ok table) = HasWholeRecords (checked_type table) table
+AreWholeTypes (Err refusal) = ⊥
 
-abbrev pub AreIds : Answer Table → Type 0
-AreIds (Ok table) = HasWholeRecords id_in table
-AreIds (Err refusal) = ⊥
+abbrev pub AreWholeIds : Answer Table → Type 0
+AreWholeIds (Ok table) = HasWholeRecords checked_id table
+AreWholeIds (Err refusal) = ⊥
 
 -- The bytes of a stream are a string table, and there is a name at each byte of its names.
 abbrev pub HasWholeNames : Answer (List ℕ) → Type 0
@@ -88,8 +88,8 @@ pub record HasWholeParts (layout : LayoutValue) (file : List ℕ) : Type 0 where
   pub streams : (n : ℕ) → n < 0xffff → IsReadOrAbsent (stream_by layout file n None)
   pub names : IsThere (λ stream. AreNames layout file (string_table_number stream)) (stream_by layout file 1 None)
   pub roles : IfRead (λ stream. IsOk (extra_streams_of stream)) (stream_by layout file 3 None)
-  pub types : IfRead (λ stream. AreTypes (table_of stream)) (stream_by layout file 2 None)
-  pub ids : IfRead (λ stream. AreIds (table_of stream)) (stream_by layout file 4 None)
+  pub types : IfRead (λ stream. AreWholeTypes (table_of stream)) (stream_by layout file 2 None)
+  pub ids : IfRead (λ stream. AreWholeIds (table_of stream)) (stream_by layout file 4 None)
   pub by_role : (part : Part) → HasRole layout file part (known_roles layout file)
   pub pages_agree : AreConsistent (container_relations file)
   pub types_agree : AreConsistent (type_relations layout file)

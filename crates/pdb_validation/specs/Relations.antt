@@ -21,7 +21,7 @@ use Rattle.pdb_consistency.specs.Sections.{section_mismatches}
 use Rattle.pdb_consistency.specs.StringTable.{names_mismatches_in}
 use Rattle.pdb_consistency.specs.declared.mismatch.Extent.{Extent}
 use Rattle.pdb_consistency.specs.declared.mismatch.Mismatch.{Mismatch}
-use Rattle.pdb_validation.specs.Finding.{Fault}
+use Rattle.pdb_validation.specs.Finding.{FaultPlace}
 use Rattle.pdb_validation.specs.Names.{string_table_number}
 use Rattle.pdb_validation.specs.Places.{file_byte, stream_pages}
 use Rattle.pdb_validation.specs.Problem.{inconsistent}
@@ -32,19 +32,19 @@ use Rattle.pdb_validation.specs.declared.finding.Part.TheVariants as parts
 -- ---- what is told
 
 -- the byte of the file that is a byte of a stream, if there are such
-abbrev pub place_of : LayoutValue → Option ℕ → Option ℕ → Option ℕ
-place_of layout None byte = None
-place_of layout (Some number) None = None
-place_of layout (Some number) (Some byte) = file_byte (stream_pages layout number) byte
+abbrev pub file_place : LayoutValue → Option ℕ → Option ℕ → Option ℕ
+file_place layout None byte = None
+file_place layout (Some number) None = None
+file_place layout (Some number) (Some byte) = file_byte (stream_pages layout number) byte
 
 -- what is inconsistent, as a fault of a part
-abbrev pub mismatch_fault : LayoutValue → Part → Mismatch → Fault
+abbrev pub mismatch_fault : LayoutValue → Part → Mismatch → FaultPlace
 mismatch_fault layout part mismatch = record {
   part = part;
   stream = mismatch.stream;
   index = mismatch.index;
   byte = mismatch.byte;
-  file_byte = place_of layout mismatch.stream mismatch.byte;
+  file_byte = file_place layout mismatch.stream mismatch.byte;
   problem = inconsistent mismatch.what;
 }
 
@@ -57,12 +57,12 @@ abbrev pub relation : Part → List Mismatch → Relation
 relation part mismatches = record { part = part; mismatches = mismatches }
 
 -- what is told of a relation: the first error, or else the first warning; or everything
-abbrev pub relation_faults : Extent → LayoutValue → Relation → List Fault
+abbrev pub relation_faults : Extent → LayoutValue → Relation → List FaultPlace
 relation_faults extent layout related =
     map (mismatch_fault layout related.part) (asked_of extent related.mismatches)
 
 -- faults, and behind them those of relations
-abbrev pub with_relations : Extent → LayoutValue → List Relation → List Fault → List Fault
+abbrev pub with_relations : Extent → LayoutValue → List Relation → List FaultPlace → List FaultPlace
 with_relations extent layout [] faults = faults
 with_relations extent layout (related ∷ more) faults =
     with_relations extent layout more (faults ++ relation_faults extent layout related)
@@ -87,12 +87,12 @@ abbrev pub in_table : (Table → List Mismatch) → Answer (List ℕ) → List M
 in_table within stream = if_answered (λ bytes. if_answered within (table_of bytes)) stream
 
 -- the end of the indexes of types; each index is below it, if there is no table of types
-abbrev pub end_of : Answer Table → ℕ
-end_of (Ok table) = table.header.maximum_index
-end_of (Err refusal) = 0xffffffff
+abbrev pub end_of_types : Answer Table → ℕ
+end_of_types (Ok table) = table.header.maximum_index
+end_of_types (Err refusal) = 0xffffffff
 
 abbrev pub end_in : Answer (List ℕ) → ℕ
-end_in (Ok stream) = end_of (table_of stream)
+end_in (Ok stream) = end_of_types (table_of stream)
 end_in (Err refusal) = 0xffffffff
 
 unfoldable pub types_end : LayoutValue → List ℕ → ℕ
@@ -184,7 +184,7 @@ role_relations layout file =
     ∷ relation parts.OriginalSectionHeaders (sections_relation layout file parts.OriginalSectionHeaders) ∷ []
 
 -- faults, and behind them those of all relations
-unfoldable pub related_faults : Extent → LayoutValue → List ℕ → List Fault → List Fault
+unfoldable pub related_faults : Extent → LayoutValue → List ℕ → List FaultPlace → List FaultPlace
 related_faults extent layout file faults =
     with_relations extent layout (role_relations layout file)
     (with_relations extent layout (name_relations layout file)

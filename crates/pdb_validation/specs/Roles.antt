@@ -13,7 +13,7 @@ use Rattle.pdb_frames.specs.Merge.{by_heads}
 use Rattle.pdb_frames.specs.Table.{frame_table_of}
 use Rattle.pdb_frames.specs.declared.frame_data.FrameData.{FrameData}
 use Rattle.pdb_space.specs.Omap.{OmapValue, omap_table_of}
-use Rattle.pdb_validation.specs.Finding.{Fault, stream_fault}
+use Rattle.pdb_validation.specs.Finding.{FaultPlace, stream_fault}
 use Rattle.pdb_validation.specs.Names.{fault_of_answer}
 use Rattle.pdb_validation.specs.Problem.{ProblemValue, failure, inconsistent}
 use Rattle.pdb_validation.specs.Streams.{fault_there, if_read}
@@ -78,26 +78,26 @@ role_index parts.NewFrames roles = roles.framedata.0
 role_index other roles = no_stream
 
 -- the fault of the stream with a number; none, if there is no number
-abbrev pub numbered_fault : LayoutValue → List ℕ → Part → Option ℕ → Option Fault
+abbrev pub numbered_fault : LayoutValue → List ℕ → Part → Option ℕ → Option FaultPlace
 numbered_fault layout file part None = None
 numbered_fault layout file part (Some number) =
     fault_there part number (λ stream. option_map (stream_fault part number) (role_problem part stream))
     (stream_by layout file number None)
 
 -- the fault of the stream of a role, if the roles are known
-abbrev pub role_fault : LayoutValue → List ℕ → Part → Option DBIExtraStreams → Option Fault
+abbrev pub role_fault : LayoutValue → List ℕ → Part → Option DBIExtraStreams → Option FaultPlace
 role_fault layout file part None = None
 role_fault layout file part (Some roles) = numbered_fault layout file part (stream_number (role_index part roles))
 
 -- the roles that stream 3 gives, if its bytes can be read and give roles
-abbrev pub roles_in : Answer (List ℕ) → Option DBIExtraStreams
-roles_in (Ok stream) = result_ok (extra_streams_of stream)
-roles_in (Err refusal) = None
+abbrev pub roles_of_stream : Answer (List ℕ) → Option DBIExtraStreams
+roles_of_stream (Ok stream) = result_ok (extra_streams_of stream)
+roles_of_stream (Err refusal) = None
 
 unfoldable pub known_roles : LayoutValue → List ℕ → Option DBIExtraStreams
-known_roles layout file = roles_in (stream_by layout file 3 None)
+known_roles layout file = roles_of_stream (stream_by layout file 3 None)
 
 -- the fault of stream 3, whose header or roles cannot be read
-unfoldable pub roles_fault : LayoutValue → List ℕ → Option Fault
+unfoldable pub roles_fault : LayoutValue → List ℕ → Option FaultPlace
 roles_fault layout file = if_read None (λ stream. fault_of_answer parts.Roles 3 (extra_streams_of stream))
     (stream_by layout file 3 None)

@@ -6,7 +6,7 @@ use Rattle.pdb_base.specs.Answer.{Answer}
 use Rattle.pdb_base.specs.Refusal.{refusal_of, stream_not_found}
 use Rattle.pdb_base.specs.declared.error.Error.{Error}
 use Rattle.pdb_msf.specs.Layout.{LayoutValue, stream_by}
-use Rattle.pdb_validation.specs.Finding.{Fault, stream_fault}
+use Rattle.pdb_validation.specs.Finding.{FaultPlace, stream_fault}
 use Rattle.pdb_validation.specs.Problem.{failure}
 use Rattle.pdb_validation.specs.declared.finding.Part.{Part}
 use Rattle.pdb_validation.specs.declared.finding.Part.TheVariants as parts
@@ -23,22 +23,22 @@ if_read nothing within (Ok stream) = within stream
 if_read nothing within (Err refusal) = nothing
 
 -- the same for a stream that must be there
-abbrev pub fault_there : Part → ℕ → (List ℕ → Option Fault) → Answer (List ℕ) → Option Fault
+abbrev pub fault_there : Part → ℕ → (List ℕ → Option FaultPlace) → Answer (List ℕ) → Option FaultPlace
 fault_there part number within (Ok stream) = within stream
 fault_there part number within (Err (stream_not_found n)) =
     Some (stream_fault part number (failure (stream_not_found n)))
 fault_there part number within (Err refusal) = None
 
 -- the fault of the bytes of a stream; none, if there is no stream of that number
-abbrev pub unless_absent : ℕ → Answer (List ℕ) → Option Fault
+abbrev pub unless_absent : ℕ → Answer (List ℕ) → Option FaultPlace
 unless_absent number (Ok stream) = None
 unless_absent number (Err (stream_not_found n)) = None
 unless_absent number (Err refusal) = Some (stream_fault parts.Stream number (failure refusal))
 
-unfoldable pub bytes_fault : LayoutValue → List ℕ → ℕ → Option Fault
+unfoldable pub bytes_fault : LayoutValue → List ℕ → ℕ → Option FaultPlace
 bytes_fault layout file number = unless_absent number (stream_by layout file number None)
 
 -- the faults of the first streams whose bytes can't be read
-unfoldable pub streams_faults : LayoutValue → List ℕ → ℕ → List Fault
+unfoldable pub streams_faults : LayoutValue → List ℕ → ℕ → List FaultPlace
 streams_faults layout file count =
     flat_map (λ number. option_to_list (bytes_fault layout file number)) (range_with_len 0 count)

@@ -15,7 +15,7 @@ use Rattle.pdb_tpi.specs.Steps.{WalkPosition, walk, walk_rest}
 use Rattle.pdb_tpi.specs.Table.{Table, table_of}
 use Rattle.pdb_tpi.specs.Walk.{fault_of}
 use Rattle.pdb_values.specs.TypeValue.{TypeValue, field_list}
-use Rattle.pdb_validation.specs.Finding.{Fault, record_fault, stream_fault}
+use Rattle.pdb_validation.specs.Finding.{FaultPlace, record_fault, stream_fault}
 use Rattle.pdb_validation.specs.Places.{PagesValue, file_byte}
 use Rattle.pdb_validation.specs.Problem.{failure}
 use Rattle.pdb_validation.specs.declared.finding.Part.{Part}
@@ -54,23 +54,23 @@ unless_unread kind (Ok x) = Ok tt
 unless_unread kind (Err refusal) = if is_not_read kind refusal then Ok tt else Err refusal
 
 -- The record of a type is one, and the list that continues it is below it, if there is one; or its kind is not read.
-unfoldable pub type_in : Table → ℕ → List ℕ → Answer (Unit {0})
-type_in table index item = unless_unread (kind_of item) (read_in table index item)
+unfoldable pub checked_type : Table → ℕ → List ℕ → Answer (Unit {0})
+checked_type table index item = unless_unread (kind_of item) (read_in table index item)
 
 -- The record of an id is one, or its kind is not read.
-unfoldable pub id_in : ℕ → List ℕ → Answer (Unit {0})
-id_in index item = unless_unread (kind_of item) (id_of item)
+unfoldable pub checked_id : ℕ → List ℕ → Answer (Unit {0})
+checked_id index item = unless_unread (kind_of item) (id_of item)
 
 -- ---- all records
 
 -- the fault of an error
-abbrev pub refusal_fault : {A : Type 0} → (Refusal → Fault) → Answer A → Option Fault
+abbrev pub refusal_fault : {A : Type 0} → (Refusal → FaultPlace) → Answer A → Option FaultPlace
 refusal_fault fault (Ok x) = None
 refusal_fault fault (Err refusal) = Some (fault refusal)
 
 -- The faults of the items that have an error, and then the fault behind the items. The first item has that index.
-abbrev pub item_faults : {A : Type 0} → (ℕ → Refusal → Fault) → (ℕ → List ℕ → Answer A) → ℕ → List (List ℕ)
-    → Option Fault → List Fault
+abbrev pub item_faults : {A : Type 0} → (ℕ → Refusal → FaultPlace) → (ℕ → List ℕ → Answer A) → ℕ → List (List ℕ)
+    → Option FaultPlace → List FaultPlace
 item_faults fault means index [] behind = option_to_list behind
 item_faults fault means index (item ∷ items) behind =
     option_to_list (refusal_fault (fault index) (means index item)) ++ item_faults fault means (index + 1) items behind
@@ -80,25 +80,25 @@ abbrev pub byte_of : Table → ℕ → ℕ
 byte_of table index = item_position table (index - table.header.minimum_index)
 
 -- the fault of the record of an index, which begins at that byte of a stream that has those pages
-abbrev pub fault_at : Part → ℕ → PagesValue → ℕ → ℕ → Refusal → Fault
+abbrev pub fault_at : Part → ℕ → PagesValue → ℕ → ℕ → Refusal → FaultPlace
 fault_at part stream pages index byte refusal =
     record_fault part stream index byte (file_byte pages byte) (failure refusal)
 
 -- the same for the record of an index of a table
-abbrev pub item_fault : Part → ℕ → PagesValue → Table → ℕ → Refusal → Fault
+abbrev pub item_fault : Part → ℕ → PagesValue → Table → ℕ → Refusal → FaultPlace
 item_fault part stream pages table index refusal = fault_at part stream pages index (byte_of table index) refusal
 
 -- the fault that a table has no item of an index that its header counts
-abbrev pub missing_fault : (ℕ → Refusal → Fault) → ℕ → ℕ → Option Fault
+abbrev pub missing_fault : (ℕ → Refusal → FaultPlace) → ℕ → ℕ → Option FaultPlace
 missing_fault fault index maximum = if nat_lt index maximum then Some (fault index unexpected_eof) else None
 
 -- the fault behind the items of a table: bytes that begin no item, or an item that is missing
-abbrev pub fault_behind : (ℕ → Refusal → Fault) → ℕ → ℕ → List ℕ → Option Fault
+abbrev pub fault_behind : (ℕ → Refusal → FaultPlace) → ℕ → ℕ → List ℕ → Option FaultPlace
 fault_behind fault index maximum [] = missing_fault fault index maximum
 fault_behind fault index maximum (byte ∷ rest) = Some (fault index (fault_of (byte ∷ rest)))
 
 -- the faults of the records of a table
-unfoldable pub record_faults : {A : Type 0} → (ℕ → Refusal → Fault) → (ℕ → List ℕ → Answer A) → Table → List Fault
+unfoldable pub record_faults : {A : Type 0} → (ℕ → Refusal → FaultPlace) → (ℕ → List ℕ → Answer A) → Table → List FaultPlace
 record_faults fault means table =
     item_faults fault means table.header.minimum_index (walk table)
     (fault_behind fault (table.header.minimum_index + length (walk table)) table.header.maximum_index (walk_rest table))
@@ -106,24 +106,24 @@ record_faults fault means table =
 -- ---- the tables
 
 -- the table in a stream, and a walk before its first record
-unfoldable pub opened_table : List ℕ → Answer WalkPosition
-opened_table stream = table_of stream >>= λ table. Ok (first_stand table)
+unfoldable pub walk_before_records : List ℕ → Answer WalkPosition
+walk_before_records stream = table_of stream >>= λ table. Ok (first_stand table)
 
 -- the faults of a table: that of its header, or those of its records
-abbrev pub table_faults : Part → ℕ → (Table → List Fault) → Answer Table → List Fault
+abbrev pub table_faults : Part → ℕ → (Table → List FaultPlace) → Answer Table → List FaultPlace
 table_faults part number within (Ok table) = within table
 table_faults part number within (Err refusal) = stream_fault part number (failure refusal) ∷ []
 
 -- the faults of the records of a table of types, and of a table of ids
-abbrev pub type_faults : PagesValue → Table → List Fault
-type_faults pages table = record_faults (item_fault parts.Types 2 pages table) (type_in table) table
+abbrev pub type_faults : PagesValue → Table → List FaultPlace
+type_faults pages table = record_faults (item_fault parts.Types 2 pages table) (checked_type table) table
 
-abbrev pub id_faults : PagesValue → Table → List Fault
-id_faults pages table = record_faults (item_fault parts.Ids 4 pages table) id_in table
+abbrev pub id_faults : PagesValue → Table → List FaultPlace
+id_faults pages table = record_faults (item_fault parts.Ids 4 pages table) checked_id table
 
 -- the faults of the table of types in a stream that has those pages, and of the table of ids
-unfoldable pub types_faults : PagesValue → List ℕ → List Fault
+unfoldable pub types_faults : PagesValue → List ℕ → List FaultPlace
 types_faults pages stream = table_faults parts.Types 2 (type_faults pages) (table_of stream)
 
-unfoldable pub ids_faults : PagesValue → List ℕ → List Fault
+unfoldable pub ids_faults : PagesValue → List ℕ → List FaultPlace
 ids_faults pages stream = table_faults parts.Ids 4 (id_faults pages) (table_of stream)

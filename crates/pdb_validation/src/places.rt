@@ -4,7 +4,7 @@ ghost use Rattle.std.specs.Prelude.{◌≡◌, ◌<◌, Ok, IfOk, OnOk};
 ghost use Rattle.pdb_base.specs.Answer.{Answers};
 ghost use Rattle.pdb_base.specs.Memory.{FailsOnlyForMemory};
 ghost use Rattle.pdb_validation.specs.Places.{file_byte, stream_pages};
-ghost use Rattle.pdb_validation.specs.Relations.{place_of};
+ghost use Rattle.pdb_validation.specs.Relations.{file_place};
 
 use crate::sizes::size_or_none;
 use pdb_base::{Error, Result};
@@ -118,7 +118,7 @@ impl LastPages {
     ) -> Result<Option<u64>>
         requires sized { 0 < layout.now.head.geometry.page_size }
         requires last { self.old.pages ≡ stream_pages layout.now self.old.number }
-        ensures place { IfOk result (λ place. place ≡ place_of layout.now stream byte) }
+        ensures place { IfOk result (λ place. place ≡ file_place layout.now stream byte) }
         ensures last { OnOk result (self.new.pages ≡ stream_pages layout.now self.new.number) }
         ensures memory { FailsOnlyForMemory result }
     {

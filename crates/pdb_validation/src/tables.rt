@@ -8,9 +8,9 @@ ghost use Rattle.pdb_base.specs.declared.error.Error.{Error};
 ghost use Rattle.pdb_tpi.specs.Item.{item_bytes, index_of};
 ghost use Rattle.pdb_values.specs.TypeView.{type_value};
 ghost use Rattle.pdb_validation.specs.Finding.{by_extent, finding_view};
-ghost use Rattle.pdb_validation.specs.Tables.{continued_in, continues_at, fault_at, id_faults, id_in, ids_faults};
-ghost use Rattle.pdb_validation.specs.Tables.{missing_fault, opened_table, read_in, refusal_fault};
-ghost use Rattle.pdb_validation.specs.Tables.{refusal_in, fail_with, type_faults, type_in, types_faults, unless_unread};
+ghost use Rattle.pdb_validation.specs.Tables.{continued_in, continues_at, fault_at, id_faults, checked_id, ids_faults};
+ghost use Rattle.pdb_validation.specs.Tables.{missing_fault, walk_before_records, read_in, refusal_fault};
+ghost use Rattle.pdb_validation.specs.Tables.{refusal_in, fail_with, type_faults, checked_type, types_faults, unless_unread};
 ghost use Rattle.pdb_validation.specs.declared.finding.Part.TheVariants as parts;
 
 use crate::finding::{Finding, Part, add, add_until, in_stream};
@@ -86,14 +86,14 @@ fn unless_unread(kind: u16, error: Error) -> Option<Error>
 }
 
 /// Returns the error of the record of a type, if it has one.
-#[tactic(auto, unfolding(crate::specs::Tables::type_in))]
+#[tactic(auto, unfolding(crate::specs::Tables::checked_type))]
 fn type_error(
     alloc: Global,
     types: &OpenTable<TypeIndex>,
     item: &Item<'_, TypeIndex>,
 ) -> Result<Option<Error>>
     ensures { Answers (option_map refusal_of) result
-        (Ok (refusal_in (type_in types.now.table (index_of item.now).0 (item_bytes item.now)))) }
+        (Ok (refusal_in (checked_type types.now.table (index_of item.now).0 (item_bytes item.now)))) }
 {
     match read_type(alloc, types, item) {
         Ok(()) => Ok(None),
@@ -103,10 +103,10 @@ fn type_error(
 }
 
 /// Returns the error of the record of an id, if it has one.
-#[tactic(auto, unfolding(crate::specs::Tables::id_in))]
+#[tactic(auto, unfolding(crate::specs::Tables::checked_id))]
 fn id_error(alloc: Global, item: &Item<'_, IdIndex>) -> Result<Option<Error>>
     ensures { Answers (option_map refusal_of) result
-        (Ok (refusal_in (id_in (index_of item.now).0 (item_bytes item.now)))) }
+        (Ok (refusal_in (checked_id (index_of item.now).0 (item_bytes item.now)))) }
 {
     match item.parse(alloc) {
         Ok(_) => Ok(None),
@@ -148,7 +148,7 @@ fn check_type(
 ) -> Result<Option<Finding>>
     ensures { Answers (option_map finding_view) result
         (Ok (refusal_fault (fault_at parts.Types 2 pages.now index byte)
-        (type_in types.now.table (index_of item.now).0 (item_bytes item.now)))) }
+        (checked_type types.now.table (index_of item.now).0 (item_bytes item.now)))) }
 {
     match type_error(alloc, types, item)? {
         Some(error) => Ok(Some(at_record(Part::Types, TYPE_STREAM, pages, index, byte, error))),
@@ -166,7 +166,7 @@ fn check_id(
 ) -> Result<Option<Finding>>
     ensures { Answers (option_map finding_view) result
         (Ok (refusal_fault (fault_at parts.Ids 4 pages.now index byte)
-        (id_in (index_of item.now).0 (item_bytes item.now)))) }
+        (checked_id (index_of item.now).0 (item_bytes item.now)))) }
 {
     match id_error(alloc, item)? {
         Some(error) => Ok(Some(at_record(Part::Ids, ID_STREAM, pages, index, byte, error))),
@@ -264,9 +264,9 @@ fn add_id_records(
 }
 
 /// Opens the table of types in a stream, with the places of all its records.
-#[tactic(auto, unfolding(crate::specs::Tables::opened_table))]
+#[tactic(auto, unfolding(crate::specs::Tables::walk_before_records))]
 fn open_types(alloc: Global, stream: Stream) -> Result<OpenTable<TypeIndex>>
-    ensures { Answers (λ table. table) result (opened_table stream) }
+    ensures { Answers (λ table. table) result (walk_before_records stream) }
 {
     let table = TypeInformation::parse(stream)?;
     let maximum = table.header().maximum_index;
@@ -277,7 +277,7 @@ fn open_types(alloc: Global, stream: Stream) -> Result<OpenTable<TypeIndex>>
 
 /// Adds the findings of the table of types in a stream that has those pages: that of its header, or
 /// those of its records.
-#[tactic(auto, unfolding(crate::specs::Tables::opened_table, crate::specs::Tables::types_faults))]
+#[tactic(auto, unfolding(crate::specs::Tables::walk_before_records, crate::specs::Tables::types_faults))]
 pub(crate) fn add_types(
     alloc: Global,
     stream: Stream,

@@ -15,7 +15,7 @@ use Rattle.pdb_msf.specs.Header.{Head}
 use Rattle.pdb_output.specs.Output.{OutputState, Writes, done_of}
 use Rattle.pdbdump_rows.specs.declared.form.Form.{Form}
 use Rattle.pdbdump_cli.specs.Answers.{answered_text, answers_text, are_answers, is_answer, next_reply}
-use Rattle.pdbdump_cli.specs.Asked.{AreAnswered, AreLinesOf, IsAnsweredThen, IsAsked}
+use Rattle.pdbdump_cli.specs.Asked.{AreAnswered, AreAnswerLines, IsAnsweredThen, IsAsked}
 use Rattle.pdbdump_cli.specs.Questions.{Asking, asking_of, asking, queries_in}
 use Rattle.pdbdump_cli.specs.declared.question.Question.{Question}
 
@@ -103,7 +103,7 @@ all_end questions i left all over = rw (drop_all i questions over) refl
 
 -- what was written is what was asked
 pub asked_by : (form : Form) (file questions lines : List ℕ) (all : Bool) (old new : OutputState)
-    (result : Result Bool Error) → AreLinesOf form file questions lines all
+    (result : Result Bool Error) → AreAnswerLines form file questions lines all
     → Writes lines old new (done_of result) → IfOk result (λ told. told ≡ all)
     → IsAsked form file questions old new result
 asked_by form file questions lines all old new (Ok told) are writes is = (lines, rw is are, writes)

@@ -7,7 +7,7 @@ use Rattle.std.proofs.lemmas.Bool.{false≢true}
 use Rattle.std.proofs.lemmas.Grind.{flat_map-append}
 use Rattle.std.proofs.lemmas.List.{append-nil, map-append, take_more}
 use Rattle.std.proofs.lemmas.List.Elements.{filter-append}
-use Rattle.pdb_validation.specs.Finding.{Fault, finding_view, warning_count}
+use Rattle.pdb_validation.specs.Finding.{FaultPlace, finding_view, warning_count}
 use Rattle.pdb_validation.specs.Problem.{is_tolerated}
 use Rattle.pdb_validation.specs.declared.finding.Finding.{Finding}
 use Rattle.pdbdump_cli.specs.Validated.{HasPassed, IsJudged}
@@ -30,7 +30,7 @@ asked_with words (path ∷ paths) options known is said some =
     unfold validate_of in rw (any_said is_unknown words ∙ known, sym said, is) refl
 
 -- the line of one finding more
-pub lines_more : (text : Fault → List ℕ) (findings : List Finding) (i : ℕ) (d : Finding) → i < length findings
+pub lines_more : (text : FaultPlace → List ℕ) (findings : List Finding) (i : ℕ) (d : Finding) → i < length findings
     → flat_map text (map finding_view (take (i + 1) findings)) ≡ flat_map text (map finding_view (take i findings)) ++ text (finding_view (get_or findings i d))
 lines_more text findings i d within =
     ap (λ (some : List Finding). flat_map text (map finding_view some)) (take_more findings i d within)
@@ -46,17 +46,17 @@ pub warnings_more : (findings : List Finding) (i : ℕ) (d : Finding) → i < le
 warnings_more findings i d within =
     ap (λ (some : List Finding). warning_count (map finding_view some)) (take_more findings i d within)
     ∙ ap warning_count (map-append finding_view (take i findings) (get_or findings i d ∷ []))
-    ∙ ap (λ (l : List Fault). length l) (filter-append (λ (fault : Fault). is_tolerated fault.problem)
+    ∙ ap (λ (l : List FaultPlace). length l) (filter-append (λ (fault : FaultPlace). is_tolerated fault.problem)
     (map finding_view (take i findings)) (finding_view (get_or findings i d) ∷ []))
-    ∙ length-append (filter (λ (fault : Fault). is_tolerated fault.problem) (map finding_view (take i findings)))
-    (filter (λ (fault : Fault). is_tolerated fault.problem) (finding_view (get_or findings i d) ∷ []))
+    ∙ length-append (filter (λ (fault : FaultPlace). is_tolerated fault.problem) (map finding_view (take i findings)))
+    (filter (λ (fault : FaultPlace). is_tolerated fault.problem) (finding_view (get_or findings i d) ∷ []))
 
 -- the file has passed
-pub judged_passed : (is_strict : Bool) (faults : List Fault) (ended : ℕ) → HasPassed is_strict faults
+pub judged_passed : (is_strict : Bool) (faults : List FaultPlace) (ended : ℕ) → HasPassed is_strict faults
     → IsJudged is_strict faults ended ended
 judged_passed is_strict faults ended has = record { passed = λ h. refl; other = λ not. absurd (not has) }
 
 -- it has not
-pub judged_other : (is_strict : Bool) (faults : List Fault) (ended : ℕ) → ¬ HasPassed is_strict faults
+pub judged_other : (is_strict : Bool) (faults : List FaultPlace) (ended : ℕ) → ¬ HasPassed is_strict faults
     → IsJudged is_strict faults ended 1
 judged_other is_strict faults ended not = record { passed = λ has. absurd (not has); other = λ h. refl }

@@ -39,7 +39,7 @@ AreAnswered form file head (question ∷ questions) lines all =
     IsAnsweredThen form file head question (AreAnswered form file head questions) lines all
 
 -- the lines of all answers to the questions of a text, and whether all are answered
-pub record AreLinesOf (form : Form) (file questions : List ℕ) (lines : List ℕ) (all : Bool) : Type 0 where
+pub record AreAnswerLines (form : Form) (file questions : List ℕ) (lines : List ℕ) (all : Bool) : Type 0 where
   pub head : Head
   pub is_head : file_head file ≡ Ok head
   pub are_answered : AreAnswered form file head (questions_in questions) lines all
@@ -48,9 +48,9 @@ pub record AreLinesOf (form : Form) (file questions : List ℕ) (lines : List �
 -- whether all are answered. Or the file is refused, or memory was refused before the first line, and
 -- nothing was written; or the lines were cut short.
 abbrev pub IsAsked : Form → List ℕ → List ℕ → OutputState → OutputState → Result Bool Error → Type 0
-IsAsked form file questions old new (Ok all) = (lines : List ℕ) × AreLinesOf form file questions lines all
+IsAsked form file questions old new (Ok all) = (lines : List ℕ) × AreAnswerLines form file questions lines all
     × Gets old new lines
 IsAsked form file questions old new (Err e) =
     ((file_head file ≡ Err (refusal_of e)) × (new ≡ old))
-    ⊎ (((e ≡ OutOfMemory) × (new ≡ old)) ⊎ ((lines : List ℕ) × (all : Bool) × AreLinesOf form file questions lines all
+    ⊎ (((e ≡ OutOfMemory) × (new ≡ old)) ⊎ ((lines : List ℕ) × (all : Bool) × AreAnswerLines form file questions lines all
     × IsCutShort lines old new e))

@@ -1,7 +1,7 @@
 -- What the program does with questions about a file, and how it ends.
 use Rattle.std.specs.Prelude.{◌≡◌, ℕ, Bool, true, false, List, Option, Result, Ok, Err, IfSome}
 use Rattle.pdb_base.specs.declared.error.Error.{Error}
-use Rattle.pdb_cli.specs.Channels.{IsTold, IsUnread}
+use Rattle.pdb_cli.specs.Channels.{IsFaultReported, IsUnread}
 use Rattle.pdb_output.specs.Output.{OutputState, done_of}
 use Rattle.pdbdump_rows.specs.declared.form.Form.{Form}
 use Rattle.pdbdump_cli.specs.Asked.{IsAsked}
@@ -17,7 +17,7 @@ status_of (Err fault) ended = ended
 -- output; or it asked the questions in one input of the file in another, flushed the output, and ended as
 -- behind a listing. If the bytes of either input are known, they are those questions or that file.
 pub data AreServed (form : Form) (had_file had_questions : Option (List ℕ)) (out out' err err' : OutputState) (status : ℕ) : Type 0 where
-  unread : (fault : Error) → IsUnread fault → out' ≡ out → IsTold fault err err' status → AreServed form had_file had_questions out out' err err' status
+  unread : (fault : Error) → IsUnread fault → out' ≡ out → IsFaultReported fault err err' status → AreServed form had_file had_questions out out' err err' status
   asked : (file questions : List ℕ) (written : OutputState) (result : Result Bool Error) (ended : ℕ) → IfSome had_file (λ bytes. file ≡ bytes)
       → IfSome had_questions (λ bytes. questions ≡ bytes) → IsAsked form file questions out written result → IsEnded (done_of result) written out' err err' ended
       → status ≡ status_of result ended → AreServed form had_file had_questions out out' err err' status

@@ -4,7 +4,7 @@ use Rattle.pdb_base.specs.declared.error.Error.{Error}
 use Rattle.pdb_base.specs.declared.error.Error.TheVariants.{OutOfMemory}
 use Rattle.pdb_base.specs.Answer.{Answer}
 use Rattle.pdb_base.specs.Refusal.{refusal_of}
-use Rattle.pdb_cli.specs.Channels.{IsTold, IsUnread}
+use Rattle.pdb_cli.specs.Channels.{IsFaultReported, IsUnread}
 use Rattle.pdb_cli.specs.Words.{number_of}
 use Rattle.pdb_msf.specs.Header.{Head, file_head}
 use Rattle.pdb_output.specs.Output.{OutputState}
@@ -35,6 +35,6 @@ pub data IsExtracted (asked : ExtractValue) (file : List ℕ) (out out' : Output
 -- a part of the bytes of a stream, flushed the output, and ended. If the bytes of the input are known, these are
 -- the file.
 pub data IsExtractServed (asked : ExtractValue) (had : Option (List ℕ)) (out out' err err' : OutputState) (status : ℕ) : Type 0 where
-  unread : (fault : Error) → IsUnread fault → out' ≡ out → IsTold fault err err' status → IsExtractServed asked had out out' err err' status
+  unread : (fault : Error) → IsUnread fault → out' ≡ out → IsFaultReported fault err err' status → IsExtractServed asked had out out' err err' status
   done : (file : List ℕ) (written : OutputState) (result : Result (Unit {0}) Error) → IfSome had (λ bytes. file ≡ bytes)
       → IsExtracted asked file out written result → IsEnded result written out' err err' status → IsExtractServed asked had out out' err err' status

@@ -14,7 +14,7 @@ use Rattle.pdbdump_rows.specs.Row.{ShownRow, flag, number, text}
 use Rattle.pdbdump_cli.specs.declared.finding_lines.Tally.{Tally}
 use Rattle.pdbdump_cli.specs.declared.names.TheConstants.{BYTE, CODE, ERRORS, FILE, FILE_BYTE, PART, PROBLEM, SEVERITY}
 use Rattle.pdbdump_cli.specs.declared.names.TheConstants.{STREAM, WARNINGS, WHOLE}
-use Rattle.pdb_validation.specs.Finding.{Fault, error_count, fault_code, part_code, warning_count}
+use Rattle.pdb_validation.specs.Finding.{FaultPlace, error_count, fault_code, part_code, warning_count}
 use Rattle.pdb_validation.specs.Problem.{ProblemValue, failure, inconsistent, inconsistency_text, is_tolerated}
 
 -- the words for a fault: whether it is an error or a warning
@@ -22,7 +22,7 @@ abbrev pub severity : Bool → List ℕ
 severity true = codes "warning"
 severity false = codes "error"
 
-abbrev pub severity_of : Fault → List ℕ
+abbrev pub severity_of : FaultPlace → List ℕ
 severity_of fault = severity (is_tolerated fault.problem)
 
 -- what is wrong, in words; the text of an error of the source says only that it is one
@@ -38,7 +38,7 @@ pub record Counts : Type 0 where
 abbrev pub tally_view : Tally → Counts
 tally_view tally = record { errors = tally.errors; warnings = tally.warnings }
 
-abbrev pub counts_of : List Fault → Counts
+abbrev pub counts_of : List FaultPlace → Counts
 counts_of faults = record { errors = error_count faults; warnings = warning_count faults }
 
 -- ---- text
@@ -60,21 +60,21 @@ finding_place stream index byte file_byte =
     ++ labelled_number (codes ", file byte ") file_byte ++ codes "]"
 
 -- where a fault is, as far as it has a place
-abbrev pub place_of : Option ℕ → Option ℕ → Option ℕ → Option ℕ → List ℕ
-place_of None index byte file_byte = []
-place_of (Some stream) index byte file_byte = finding_place stream index byte file_byte
+abbrev pub finding_place_text : Option ℕ → Option ℕ → Option ℕ → Option ℕ → List ℕ
+finding_place_text None index byte file_byte = []
+finding_place_text (Some stream) index byte file_byte = finding_place stream index byte file_byte
 
-abbrev pub place_text : Fault → List ℕ
-place_text fault = place_of fault.stream fault.index fault.byte fault.file_byte
+abbrev pub place_text : FaultPlace → List ℕ
+place_text fault = finding_place_text fault.stream fault.index fault.byte fault.file_byte
 
 -- what is said of a fault before its place: how severe it is, its code, and what is wrong
-unfoldable pub fault_text : List ℕ → List ℕ → List ℕ → List ℕ
-fault_text severity code words = codes ": " ++ severity ++ codes " " ++ code ++ codes ": " ++ words
+unfoldable pub finding_text : List ℕ → List ℕ → List ℕ → List ℕ
+finding_text severity code words = codes ": " ++ severity ++ codes " " ++ code ++ codes ": " ++ words
 
 -- the line of a fault of the file with a path
-unfoldable pub fault_line : List ℕ → Fault → List ℕ
+unfoldable pub fault_line : List ℕ → FaultPlace → List ℕ
 fault_line path fault =
-    path ++ fault_text (severity_of fault) (fault_code fault) (problem_words fault.problem) ++ place_text fault
+    path ++ finding_text (severity_of fault) (fault_code fault) (problem_words fault.problem) ++ place_text fault
     ++ line_feed ∷ []
 
 -- a number of things
@@ -101,7 +101,7 @@ file_line path counts =
 -- ---- JSON
 
 -- a fault of the file with a path as a row
-unfoldable pub fault_shown : List ℕ → Fault → ShownRow
+unfoldable pub fault_shown : List ℕ → FaultPlace → ShownRow
 fault_shown path fault =
     (FILE.now, text path) ∷ (SEVERITY.now, text (severity_of fault)) ∷ (CODE.now, text (fault_code fault))
     ∷ (PART.now, text (part_code fault.part)) ∷ (STREAM.now, optional_number fault.stream)
@@ -117,7 +117,7 @@ file_shown path counts =
 -- ---- both
 
 -- the line of a fault, which is an object in JSON
-abbrev pub fault_in : Form → List ℕ → Fault → List ℕ
+abbrev pub fault_in : Form → List ℕ → FaultPlace → List ℕ
 fault_in forms.Text path fault = fault_line path fault
 fault_in forms.Json path fault = row_text forms.Json (fault_shown path fault)
 
@@ -127,10 +127,10 @@ file_in forms.Text path counts = file_line path counts
 file_in forms.Json path counts = row_text forms.Json (file_shown path counts)
 
 -- the lines of the faults of a file, and that of the file behind them
-unfoldable pub validate_lines : Form → List ℕ → List Fault → List ℕ
+unfoldable pub validate_lines : Form → List ℕ → List FaultPlace → List ℕ
 validate_lines form path faults = flat_map (fault_in form path) faults ++ file_in form path (counts_of faults)
 
 -- nothing, if only the status is asked for
-abbrev pub lines_unless : Bool → Form → List ℕ → List Fault → List ℕ
+abbrev pub lines_unless : Bool → Form → List ℕ → List FaultPlace → List ℕ
 lines_unless true form path faults = []
 lines_unless false form path faults = validate_lines form path faults

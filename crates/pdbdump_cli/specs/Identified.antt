@@ -4,7 +4,7 @@ use Rattle.pdb_base.specs.declared.error.Error.{Error}
 use Rattle.pdb_base.specs.declared.error.Error.TheVariants.{OutOfMemory}
 use Rattle.pdb_base.specs.Answer.{Answer, ◌>>=◌}
 use Rattle.pdb_base.specs.Refusal.{refusal_of}
-use Rattle.pdb_cli.specs.Channels.{IsTold, IsUnread}
+use Rattle.pdb_cli.specs.Channels.{IsFaultReported, IsUnread}
 use Rattle.pdb_identity.specs.Format.{format_of}
 use Rattle.pdb_identity.specs.Identity.{file_identity}
 use Rattle.pdb_identity.specs.declared.format.Format.{Format}
@@ -28,14 +28,14 @@ IsExpected (Some word) identity = IsKey word identity
 
 -- The line of what identifies a file was written, or cut short; and the result says whether the file is the
 -- expected one.
-pub record IsFound (form : Form) (asked : IdentifyValue) (identity : Identity) (out out' : OutputState) (result : Result Bool Error) : Type 0 where
+pub record IsIdentityShown (form : Form) (asked : IdentifyValue) (identity : Identity) (out out' : OutputState) (result : Result Bool Error) : Type 0 where
   pub writes : Writes (identity_line form asked.style asked.name identity) out out' (done_of result)
   pub expected : IfOk result (λ is_expected. IsTrue is_expected ↔ IsExpected asked.expected identity)
 
 -- What `id` does with a file: what identifies it was found and written; or it is refused, or memory for it, and
 -- nothing is written.
 pub data IsIdentified (form : Form) (asked : IdentifyValue) (file : List ℕ) (out out' : OutputState) (result : Result Bool Error) : Type 0 where
-  found : (identity : Identity) → identity_in file ≡ Ok identity → IsFound form asked identity out out' result → IsIdentified form asked file out out' result
+  found : (identity : Identity) → identity_in file ≡ Ok identity → IsIdentityShown form asked identity out out' result → IsIdentified form asked file out out' result
   refused : (fault : Error) → result ≡ Err fault → (identity_in file ≡ Err (refusal_of fault)) ⊎ (fault ≡ OutOfMemory) → out' ≡ out → IsIdentified form asked file out out' result
 
 -- what is written of a file of another format than the one that is read
@@ -62,7 +62,7 @@ pub data IsConcluded (result : Result Bool Error) (written out' err err' : Outpu
 -- no output; or it identified the file, flushed the output, and ended. If the bytes of the input are known, these
 -- are the file.
 pub data IsIdServed (form : Form) (asked : IdentifyValue) (had : Option (List ℕ)) (out out' err err' : OutputState) (status : ℕ) : Type 0 where
-  unread : (fault : Error) → IsUnread fault → out' ≡ out → IsTold fault err err' status → IsIdServed form asked had out out' err err' status
+  unread : (fault : Error) → IsUnread fault → out' ≡ out → IsFaultReported fault err err' status → IsIdServed form asked had out out' err err' status
   other : (file text : List ℕ) → IfSome had (λ bytes. file ≡ bytes) → other_format (format_of file) ≡ Some text → out' ≡ out → GetsUnlessFailed err err' text → status ≡ 1
       → IsIdServed form asked had out out' err err' status
   identified : (file : List ℕ) (written : OutputState) (result : Result Bool Error) → IfSome had (λ bytes. file ≡ bytes) → other_format (format_of file) ≡ None

@@ -1,8 +1,8 @@
 -- What `layout` does with a file, and how the program ends.
 use Rattle.std.specs.Prelude.{◌≡◌, ℕ, Bool, true, false, List, Option, Result, Ok, Err, IfOk, IfSome}
 use Rattle.pdb_base.specs.declared.error.Error.{Error}
-use Rattle.pdb_cli.specs.Channels.{IsTold, IsUnread}
-use Rattle.pdbdump_layouts.specs.Shown.{IsAnswered}
+use Rattle.pdb_cli.specs.Channels.{IsFaultReported, IsUnread}
+use Rattle.pdbdump_layouts.specs.Shown.{IsCallAnswered}
 use Rattle.pdb_msf.specs.Header.{Head, file_head}
 use Rattle.pdb_output.specs.Output.{OutputState}
 use Rattle.pdbdump_cli.specs.Served.{IsEnded}
@@ -11,7 +11,7 @@ use Rattle.pdbdump_cli.specs.Served.{IsEnded}
 -- told on the error channel, and false if something was.
 pub record AreLaidOut (file : List ℕ) (result : Result Bool Error) (err told : OutputState) : Type 0 where
   pub opens : IfOk result (λ whole. (head : Head) × (file_head file ≡ Ok head))
-  pub answered : IsAnswered result err told
+  pub answered : IsCallAnswered result err told
 
 -- How the program ends behind layouts: as behind a listing, but with status 1 if something was told.
 abbrev pub IsLayoutEnded : Result Bool Error → OutputState → OutputState → OutputState → OutputState → ℕ → Type 0
@@ -22,6 +22,6 @@ IsLayoutEnded (Err fault) written out' told err' status = IsEnded (Err fault) wr
 -- What the program did for `layout`: it reported why the input can't be read, and wrote no output; or it showed
 -- layouts, flushed the output, and ended. If the bytes of the input are known, these are the file.
 pub data IsLayoutServed (had : Option (List ℕ)) (out out' err err' : OutputState) (status : ℕ) : Type 0 where
-  unread : (fault : Error) → IsUnread fault → out' ≡ out → IsTold fault err err' status → IsLayoutServed had out out' err err' status
+  unread : (fault : Error) → IsUnread fault → out' ≡ out → IsFaultReported fault err err' status → IsLayoutServed had out out' err err' status
   laid_out : (file : List ℕ) (written told : OutputState) (result : Result Bool Error) → IfSome had (λ bytes. file ≡ bytes)
       → AreLaidOut file result err told → IsLayoutEnded result written out' told err' status → IsLayoutServed had out out' err err' status

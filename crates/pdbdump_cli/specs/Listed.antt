@@ -3,7 +3,7 @@ use Rattle.std.specs.Prelude.{◌≡◌, ◌⊎◌, ℕ, List, Option, Some, Non
 use Rattle.pdb_base.specs.declared.error.Error.{Error}
 use Rattle.pdb_base.specs.declared.error.Error.TheVariants.{OutOfMemory}
 use Rattle.pdb_base.specs.Refusal.{refusal_of}
-use Rattle.pdbdump_tables.specs.Lines.{type_line, id_line, type_at, id_at}
+use Rattle.pdbdump_tables.specs.Lines.{type_line, id_line, type_lines_at, id_lines_at}
 use Rattle.pdbdump_tables.specs.Listed as records
 use Rattle.pdbdump_tables.specs.Given.{map_in}
 use Rattle.pdbdump_tables.specs.Mapped.{IsMapped}
@@ -33,12 +33,12 @@ pub data IsListedIn (listed : List ℕ → OutputState → OutputState → Resul
 -- the types of a table, or the one of an index
 abbrev pub AreTypes : Form → Option ℕ → List ℕ → OutputState → OutputState → Result (Unit {0}) Error → Type 0
 AreTypes form None stream = records.IsTableListed (type_line form) stream
-AreTypes form (Some index) stream = records.IsShown (type_at form index stream)
+AreTypes form (Some index) stream = records.IsShown (type_lines_at form index stream)
 
 -- the ids of a table, or the one of an index
 abbrev pub AreIds : Form → Option ℕ → List ℕ → OutputState → OutputState → Result (Unit {0}) Error → Type 0
 AreIds form None stream = records.IsTableListed (id_line form) stream
-AreIds form (Some index) stream = records.IsShown (id_at form index stream)
+AreIds form (Some index) stream = records.IsShown (id_lines_at form index stream)
 
 -- what a command does with a file with this header
 abbrev pub DoesIn : Form → Command → List ℕ → Head → OutputState → OutputState → Result (Unit {0}) Error → Type 0

@@ -19,8 +19,8 @@ is_blank byte = byte == 32 || byte == 9
 abbrev pub pieces : (ℕ → Bool) → List ℕ → List (List ℕ)
 pieces ends bytes = filter (λ piece. not (length piece == 0)) (slice_split ends bytes)
 
-abbrev pub lines_of : List ℕ → List (List ℕ)
-lines_of text = pieces ends_line text
+abbrev pub text_lines : List ℕ → List (List ℕ)
+text_lines text = pieces ends_line text
 
 abbrev pub words_of : List ℕ → List (List ℕ)
 words_of line = pieces is_blank line
@@ -47,7 +47,7 @@ asking line = (line, query_in line)
 
 -- the questions of a text
 unfoldable pub questions_in : List ℕ → List Asking
-questions_in text = map asking (lines_of text)
+questions_in text = map asking (text_lines text)
 
 -- the queries that questions ask
 abbrev pub queries_in : List Asking → List Query

@@ -2,10 +2,10 @@
 use Rattle.std.specs.Prelude.{◌≡◌, ◌↔◌, ℕ, Bool, IsTrue, List, Option, Result, IfSome}
 use Rattle.pdb_base.specs.declared.error.Error.{Error}
 use Rattle.pdb_base.specs.declared.error.Error.TheVariants.{OutOfMemory}
-use Rattle.pdb_cli.specs.Channels.{IsTold, IsUnread}
+use Rattle.pdb_cli.specs.Channels.{IsFaultReported, IsUnread}
 use Rattle.pdb_output.specs.Output.{OutputState, Writes}
 use Rattle.pdbdump_rows.specs.declared.form.Form.{Form}
-use Rattle.pdb_validation.specs.Finding.{Fault, error_count, warning_count}
+use Rattle.pdb_validation.specs.Finding.{FaultPlace, error_count, warning_count}
 use Rattle.pdb_validation.specs.IsWhole.{IsWhole}
 use Rattle.pdb_validation.specs.Whole.{faults_of}
 use Rattle.pdbdump_cli.specs.FindingLines.{lines_unless}
@@ -13,12 +13,12 @@ use Rattle.pdbdump_cli.specs.declared.command.ValidateOptions.{ValidateOptions}
 use Rattle.pdbdump_cli.specs.Served.{IsEnded}
 
 -- There is no error among the faults of a file, and no warning either where that counts too.
-pub record HasPassed (is_strict : Bool) (faults : List Fault) : Type 0 where
+pub record HasPassed (is_strict : Bool) (faults : List FaultPlace) : Type 0 where
   pub no_error : error_count faults ≡ 0
   pub no_warning : IsTrue is_strict → warning_count faults ≡ 0
 
 -- The status is that of the end of the program for a file that has passed, and 1 for one that hasn't.
-pub record IsJudged (is_strict : Bool) (faults : List Fault) (ended status : ℕ) : Type 0 where
+pub record IsJudged (is_strict : Bool) (faults : List FaultPlace) (ended status : ℕ) : Type 0 where
   pub passed : HasPassed is_strict faults → status ≡ ended
   pub other : ¬ HasPassed is_strict faults → status ≡ 1
 
@@ -40,14 +40,14 @@ pub data IsValidated (options : ValidateOptions) (form : Form) (path file : List
     (status : ℕ) : Type 0 where
   concluded : IsConcluded options form path file out out' err err' status
       → IsValidated options form path file out out' err err' status
-  lacking : out' ≡ out → IsTold OutOfMemory err err' status
+  lacking : out' ≡ out → IsFaultReported OutOfMemory err err' status
       → IsValidated options form path file out out' err err' status
 
 -- What the program did for `validate`: it reported why the input can't be read, and wrote no output; or it validated
 -- the file. If the bytes of the input are known, these are the file.
 pub data IsValidateServed (options : ValidateOptions) (form : Form) (path : List ℕ) (had : Option (List ℕ))
     (out out' err err' : OutputState) (status : ℕ) : Type 0 where
-  unread : (fault : Error) → IsUnread fault → out' ≡ out → IsTold fault err err' status
+  unread : (fault : Error) → IsUnread fault → out' ≡ out → IsFaultReported fault err err' status
       → IsValidateServed options form path had out out' err err' status
   validated : (file : List ℕ) → IfSome had (λ bytes. file ≡ bytes)
       → IsValidated options form path file out out' err err' status

@@ -9,7 +9,7 @@ ghost use Rattle.pdbdump_rows.specs.Row.{value_shown};
 ghost use Rattle.pdb_validation.specs.Finding.{fault_code, finding_view, warning_count};
 ghost use Rattle.pdb_validation.specs.Problem.{is_tolerated, problem_view};
 ghost use Rattle.pdbdump_cli.specs.FindingLines.{count_of_things, counts_if_any, counts_of, counts_text, fault_in, fault_line};
-ghost use Rattle.pdbdump_cli.specs.FindingLines.{fault_shown, fault_text, file_in, file_line, file_shown};
+ghost use Rattle.pdbdump_cli.specs.FindingLines.{fault_shown, finding_text, file_in, file_line, file_shown};
 ghost use Rattle.pdbdump_cli.specs.FindingLines.{label_and_number, labelled_number, lines_unless, finding_place, place_text};
 ghost use Rattle.pdbdump_cli.specs.FindingLines.{problem_words, severity, tally_view, validate_lines, whole_text};
 
@@ -102,9 +102,9 @@ fn severity(problem: &Problem) -> &'static str
 }
 
 /// Appends what is said of a finding before its place.
-#[tactic(auto, unfolding(crate::specs::FindingLines::fault_text))]
+#[tactic(auto, unfolding(crate::specs::FindingLines::finding_text))]
 fn push_words(severity: &str, code: &str, words: &[u8], out: &mut Vec<u8>) -> Result<()>
-    ensures ok { OnOk result (out.new.items ≡ out.old.items ++ fault_text severity.now code.now words.now) }
+    ensures ok { OnOk result (out.new.items ≡ out.old.items ++ finding_text severity.now code.now words.now) }
     ensures memory { FailsOnlyForMemory result }
 {
     out.extend_from_slice(b": ")?;

@@ -5,7 +5,7 @@ ghost use Rattle.std.specs.Option.{option_map};
 ghost use Rattle.pdb_base.specs.Answer.{Answers};
 ghost use Rattle.pdb_base.specs.Memory.{FailsOnlyForMemory};
 ghost use Rattle.pdbdump_cli.specs.IdWords.{identify_view};
-ghost use Rattle.pdbdump_cli.specs.Identified.{IsConcluded, IsExpected, IsFound, IsIdServed, IsIdentified, identity_in, other_format};
+ghost use Rattle.pdbdump_cli.specs.Identified.{IsConcluded, IsExpected, IsIdentityShown, IsIdServed, IsIdentified, identity_in, other_format};
 
 use crate::command::Identify;
 use crate::served::end;
@@ -69,7 +69,7 @@ fn write_found<W: Write>(
     form: Form,
     out: &mut Output<W>,
 ) -> Result<bool>
-    ensures { IsFound form (identify_view asked.now) identity.now out.old out.new result }
+    ensures { IsIdentityShown form (identify_view asked.now) identity.now out.old out.new result }
 {
     let is_expected = is_expected(alloc, asked.expected, identity)?;
     write_identity(alloc, asked.style, asked.name, identity, form, out)?;

@@ -3,7 +3,7 @@
 ghost use Rattle.std.specs.Prelude.{◌≡◌, map, IfOk};
 ghost use Rattle.std.specs.Option.{option_map};
 ghost use Rattle.pdb_base.specs.Memory.{FailsOnlyForMemory};
-ghost use Rattle.pdbdump_cli.specs.Questions.{asking_of, lines_of, query_in, questions_in, texts_of, words_of};
+ghost use Rattle.pdbdump_cli.specs.Questions.{asking_of, text_lines, query_in, questions_in, texts_of, words_of};
 
 use pdb_cli::query;
 use pdb_container::{Error, Query, Result};
@@ -21,7 +21,7 @@ pub struct Question<'t> {
 
 /// Returns the lines of a text, without the empty ones.
 fn lines_of<'t>(alloc: Global, text: &'t [u8]) -> Result<Vec<&'t [u8]>>
-    ensures lines { IfOk result (λ lines. map (λ line. line.now) lines.items ≡ lines_of text.now) }
+    ensures lines { IfOk result (λ lines. map (λ line. line.now) lines.items ≡ text_lines text.now) }
     ensures memory { FailsOnlyForMemory result }
 {
     let lines = text

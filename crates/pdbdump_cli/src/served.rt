@@ -1,7 +1,7 @@
 //! The program between its channels: what it reads, what it writes, and how it ends.
 
 ghost use Rattle.std.specs.Prelude.{◌↔◌, IsTrue};
-ghost use Rattle.pdbdump_cli.specs.Served.{IsClosed, IsEnded, IsServed};
+ghost use Rattle.pdbdump_cli.specs.Served.{IsClosed, IsEnded, IsCommandServed};
 
 use crate::command::Command;
 use crate::listed::list;
@@ -50,7 +50,7 @@ pub fn serve<I: Read, O: Write, E: Write>(
     out: &mut Output<O>,
     err: &mut Output<E>,
 ) -> u8
-    ensures { IsServed form command (I.remaining input.old) out.old out.new err.old err.new result }
+    ensures { IsCommandServed form command (I.remaining input.old) out.old out.new err.old err.new result }
 {
     match read_all(alloc, input) {
         Ok(file) => {

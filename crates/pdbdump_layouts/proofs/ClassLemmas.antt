@@ -13,7 +13,7 @@ use Rattle.pdb_tpi.specs.Record.{type_of}
 use Rattle.pdb_tpi.specs.Steps.{nth_item}
 use Rattle.pdb_tpi.specs.Table.{Table}
 use Rattle.pdb_tpi.proofs.StepLemmas.{nth_further}
-use Rattle.pdb_types.specs.Layout.{LayoutValue, layout_of, layout_value}
+use Rattle.pdb_types.specs.Layout.{ClassLayout, layout_of_type, layout_value}
 use Rattle.pdb_types.specs.TypeAt.{type_at}
 use Rattle.pdb_types.specs.declared.layout.Layout.{Layout}
 use Rattle.pdb_values.specs.TypeValue.{TypeValue}
@@ -41,19 +41,19 @@ pub along_other : (table : Table) (start k index : ℕ) (value : TypeValue) (oth
     → k < 16 → type_at table index ≡ Ok value → Some other ≡ modified_type value → LeadsOn table start (k + 1) other
 along_other table start k index value other leads below is has =
     by_one table start k index (Ok value) leads below is
-    ∙ ap (λ (o : Option ℕ). option_map_or (layout_along (16 - (k + 1)) table) o (layout_of table index)) (sym has)
+    ∙ ap (λ (o : Option ℕ). option_map_or (layout_along (16 - (k + 1)) table) o (layout_of_type table index)) (sym has)
 
 -- a type without one
 pub along_last : (table : Table) (start k index : ℕ) (value : TypeValue) → LeadsOn table start k index → k < 16
-    → type_at table index ≡ Ok value → None ≡ modified_type value → class_layout table start ≡ layout_of table index
+    → type_at table index ≡ Ok value → None ≡ modified_type value → class_layout table start ≡ layout_of_type table index
 along_last table start k index value leads below is has =
     by_one table start k index (Ok value) leads below is
-    ∙ ap (λ (o : Option ℕ). option_map_or (layout_along (16 - (k + 1)) table) o (layout_of table index)) (sym has)
+    ∙ ap (λ (o : Option ℕ). option_map_or (layout_along (16 - (k + 1)) table) o (layout_of_type table index)) (sym has)
 
 -- a type that is refused
 pub along_refused : (table : Table) (start k index : ℕ) (e : Error) → LeadsOn table start k index → k < 16
     → (type_at table index ≡ Err (refusal_of e)) ⊎ (e ≡ OutOfMemory)
-    → Answers {X = Option Layout} {Y = Option LayoutValue} (option_map layout_value) (Err e) (class_layout table start)
+    → Answers {X = Option Layout} {Y = Option ClassLayout} (option_map layout_value) (Err e) (class_layout table start)
 along_refused table start k index e leads below (inl is) =
     inl (by_one table start k index (Err (refusal_of e)) leads below is)
 along_refused table start k index e leads below (inr memory) = inr memory

@@ -12,14 +12,14 @@ use Rattle.pdb_tpi.specs.Table.{Table}
 use Rattle.pdb_types.specs.Layout.{HasGaps, layout_value}
 use Rattle.pdb_types.specs.declared.layout.Layout.{Layout}
 use Rattle.pdbdump_layouts.specs.Classes.{class_layout}
-use Rattle.pdbdump_layouts.specs.Expanded.{AreExpandedRows, AreShown, FollowsRow, HasClass, HasNoClass, IsBetween}
+use Rattle.pdbdump_layouts.specs.Expanded.{AreExpandedRows, AreRowsShown, FollowsRow, HasClass, HasNoClass, IsBetween}
 use Rattle.pdbdump_layouts.specs.Expanded.{IsExpanded}
 use Rattle.pdbdump_layouts.specs.Expanded.{ends, follows_cut, holds, inner_start, inner_type, leaves_out, none, rows_at}
 use Rattle.pdbdump_layouts.specs.LayoutRow.{AreRowsOf}
 
 -- a row of the class itself
 one_shown : (depth deepest left : ℕ) (row : ShownRow) (old : List ShownRow) → row.depth ≡ depth → depth ≤ deepest
-    → AreShown depth deepest (row.row ∷ []) left left old (old ++ row ∷ [])
+    → AreRowsShown depth deepest (row.row ∷ []) left left old (old ++ row ∷ [])
 one_shown depth deepest left row old same deep = record {
   added = row ∷ [];
   is = refl;
@@ -30,8 +30,8 @@ one_shown depth deepest left row old same deep = record {
 
 -- rows behind rows
 more_shown : (depth deepest left mid left' : ℕ) (rows others : List LayoutRow) (old between new : List ShownRow)
-    → AreShown depth deepest rows left mid old between → AreShown depth deepest others mid left' between new
-    → AreShown depth deepest (rows ++ others) left left' old new
+    → AreRowsShown depth deepest rows left mid old between → AreRowsShown depth deepest others mid left' between new
+    → AreRowsShown depth deepest (rows ++ others) left left' old new
 more_shown depth deepest left mid left' rows others old between new first second = record {
   added = first.added ++ second.added;
   is = second.is ∙ (ap (λ x. x ++ second.added) first.is ∙ append_assoc old first.added second.added);
@@ -42,7 +42,7 @@ more_shown depth deepest left mid left' rows others old between new first second
 }
 
 -- no rows
-pub none_shown : (depth deepest left : ℕ) (old : List ShownRow) → AreShown depth deepest [] left left old old
+pub none_shown : (depth deepest left : ℕ) (old : List ShownRow) → AreRowsShown depth deepest [] left left old old
 none_shown depth deepest left old = record {
   added = [];
   is = sym (append-nil old);
@@ -63,7 +63,7 @@ none_at depth deepest (row ∷ rows) between =
 -- rows of a class within a row
 pub within : (depth deepest below left mid left' : ℕ) (rows : List LayoutRow) (old new : List ShownRow)
     → below ≡ deepest → length rows + mid ≤ left
-    → AreShown (depth + 1) below rows mid left' old new → AreShown depth deepest [] left left' old new
+    → AreRowsShown (depth + 1) below rows mid left' old new → AreRowsShown depth deepest [] left left' old new
 within depth deepest below left mid left' rows old new same few shown = record {
   added = shown.added;
   is = shown.is;
@@ -75,8 +75,8 @@ within depth deepest below left mid left' rows old new same few shown = record {
 -- a row and those of the classes within it, behind rows
 pub step_shown : (depth deepest left mid left' : ℕ) (rows all : List LayoutRow) (row : ShownRow)
     (old between new : List ShownRow) → row.depth ≡ depth → depth ≤ deepest → all ≡ rows ++ row.row ∷ []
-    → AreShown depth deepest rows left mid old between
-    → AreShown depth deepest [] mid left' (between ++ row ∷ []) new → AreShown depth deepest all left left' old new
+    → AreRowsShown depth deepest rows left mid old between
+    → AreRowsShown depth deepest [] mid left' (between ++ row ∷ []) new → AreRowsShown depth deepest all left left' old new
 step_shown depth deepest left mid left' rows all row old between new same deep are first second =
     rw are (more_shown depth deepest left mid left' rows (row.row ∷ []) old between new first
     (more_shown depth deepest mid mid left' (row.row ∷ []) [] between (between ++ row ∷ []) new

@@ -8,8 +8,8 @@ use Rattle.std.proofs.lemmas.Bool.{cases_lt, or_cases}
 use Rattle.std.proofs.lemmas.Bool.Decides.{Decides-eqb}
 use Rattle.std.proofs.lemmas.List.{drop-drop, drop_at, length-append, length-drop, nil_from_length, take-append-drop}
 use Rattle.std.proofs.lemmas.List.Elements.{All-head, All-tail}
-use Rattle.pdbdump_layouts.specs.Cut.{Lacks}
-use Rattle.pdbdump_layouts.specs.Pattern.{IsFirst, IsNowhere, Means, StandsFor, behind}
+use Rattle.pdbdump_layouts.specs.Cut.{LacksByte}
+use Rattle.pdbdump_layouts.specs.Pattern.{IsFirst, IsNowhere, Means, StandsFor, behind_signs}
 
 -- what a pattern means and then what another does is what both mean together
 joined : (p q a b : List ℕ) → Means p a → Means q b → Means (p ++ q) (a ++ b)
@@ -72,13 +72,13 @@ stands_for sign byte e = elim (or_cases (sign == 63) (sign == byte) e) [
   | inr same ↦ inr (inr (ap (λ x. x ∷ []) (sym ((Decides-eqb sign byte).0 same))))
 ]
 
-behind_is : (signs text rest : List ℕ) → behind signs text ≡ Some rest → IsBehind signs text rest
-unfolding behind Means
+behind_is : (signs text rest : List ℕ) → behind_signs signs text ≡ Some rest → IsBehind signs text rest
+unfolding behind_signs Means
 behind_is [] text rest e = let same : text ≡ rest = cc in
     record { front = []; is = same; long = refl; means = refl }
 behind_is (sign ∷ signs) [] rest e = cc
 behind_is (sign ∷ signs) (byte ∷ bytes) rest e =
-    let both = if_some (sign == 63 || sign == byte) (behind signs bytes) rest e in
+    let both = if_some (sign == 63 || sign == byte) (behind_signs signs bytes) rest e in
     let others : IsBehind signs bytes rest = behind_is signs bytes rest both.1 in
     record {
       front = byte ∷ others.front;
@@ -94,12 +94,12 @@ behind_is (sign ∷ signs) (byte ∷ bytes) rest e =
     }
 
 -- signs without a star stand for one text in front of another at most
-behind_parts : (signs front rest : List ℕ) → Lacks 42 signs → Means signs front
-    → behind signs (front ++ rest) ≡ Some rest
-unfolding behind Means
+behind_parts : (signs front rest : List ℕ) → LacksByte 42 signs → Means signs front
+    → behind_signs signs (front ++ rest) ≡ Some rest
+unfolding behind_signs Means
 behind_parts [] front rest lacks m = rw m refl
 behind_parts (sign ∷ signs) front rest lacks m =
-    let others : behind signs (m.behind ++ rest) ≡ Some rest
+    let others : behind_signs signs (m.behind ++ rest) ≡ Some rest
     = behind_parts signs m.behind rest (All-tail (λ x. x ≢ 42) sign signs lacks) m.means in
     rw m.is (elim m.stands [
       | inl star ↦ absurd (All-head (λ x. x ≢ 42) sign signs lacks star)
@@ -110,7 +110,7 @@ behind_parts (sign ∷ signs) front rest lacks m =
     ])
 
 -- what is behind signs is the rest of the text
-behind_rest : (signs text rest : List ℕ) → behind signs text ≡ Some rest → rest ≡ drop (length signs) text
+behind_rest : (signs text rest : List ℕ) → behind_signs signs text ≡ Some rest → rest ≡ drop (length signs) text
 behind_rest signs text rest e =
     let is : IsBehind signs text rest = behind_is signs text rest e in
     rw is.is (sym (drop_at is.front rest (length signs) is.long))
@@ -118,26 +118,26 @@ behind_rest signs text rest e =
 -- what is behind signs without a star for which a text has bytes at its start
 record Leaves (signs others text : List ℕ) : Type 0 where
   rest : List ℕ
-  found : behind signs text ≡ Some rest
+  found : behind_signs signs text ≡ Some rest
   means : Means others rest
 
-leaves : (signs others text : List ℕ) → Lacks 42 signs → Means (signs ++ others) text → Leaves signs others text
+leaves : (signs others text : List ℕ) → LacksByte 42 signs → Means (signs ++ others) text → Leaves signs others text
 leaves signs others text lacks m =
     let split : AreParts signs others text = parts signs others text m in
     record {
       rest = split.back;
-      found = ap (behind signs) split.are ∙ behind_parts signs split.front split.back lacks split.first;
+      found = ap (behind_signs signs) split.are ∙ behind_parts signs split.front split.back lacks split.first;
       means = split.second;
     }
 
 -- a text that doesn't begin with bytes for which signs stand
-none_begins : (signs others text : List ℕ) → Lacks 42 signs → behind signs text ≡ None
+none_begins : (signs others text : List ℕ) → LacksByte 42 signs → behind_signs signs text ≡ None
     → Means (signs ++ others) text → ⊥
 none_begins signs others text lacks none m =
     let left : Leaves signs others text = leaves signs others text lacks m in cc
 
 -- a text that begins with them is what others stand for besides if what is behind them is
-begun : (signs others text rest : List ℕ) → Lacks 42 signs → behind signs text ≡ Some rest
+begun : (signs others text rest : List ℕ) → LacksByte 42 signs → behind_signs signs text ≡ Some rest
     → Means (signs ++ others) text ↔ Means others rest
 begun signs others text rest lacks found =
     let is : IsBehind signs text rest = behind_is signs text rest found in (
@@ -153,10 +153,10 @@ record AreFound (signs others text : List ℕ) : Type 0 where
   before : List ℕ
   back : List ℕ
   within : length before ≤ length text
-  found : behind signs (drop (length before) text) ≡ Some back
+  found : behind_signs signs (drop (length before) text) ≡ Some back
   second : Means others back
 
-found_parts : (signs others text : List ℕ) → Lacks 42 signs → Means (42 ∷ (signs ++ others)) text
+found_parts : (signs others text : List ℕ) → LacksByte 42 signs → Means (42 ∷ (signs ++ others)) text
     → AreFound signs others text
 unfolding Means
 found_parts signs others text lacks m =
@@ -165,26 +165,26 @@ found_parts signs others text lacks m =
       before = m.bytes;
       back = left.rest;
       within = omega (arith, length-append m.bytes m.behind, ap length m.is);
-      found = rw m.is (ap (behind signs) (drop_at m.bytes m.behind (length m.bytes) refl) ∙ left.found);
+      found = rw m.is (ap (behind_signs signs) (drop_at m.bytes m.behind (length m.bytes) refl) ∙ left.found);
       second = left.means;
     }
 
 -- nothing of the text is what they stand for if no place begins with the signs
-none_found : (signs others text : List ℕ) → Lacks 42 signs → IsNowhere signs text
+none_found : (signs others text : List ℕ) → LacksByte 42 signs → IsNowhere signs text
     → Means (42 ∷ (signs ++ others)) text → ⊥
 none_found signs others text lacks none m =
     let found : AreFound signs others text = found_parts signs others text lacks m in
-    let none' : behind signs (drop (length found.before) text) ≡ None = none (length found.before) found.within in
+    let none' : behind_signs signs (drop (length found.before) text) ≡ None = none (length found.before) found.within in
     cc
 
 -- what is behind a later place is behind the first place too
 later : (signs text first other : List ℕ) (place at : ℕ) → IsFirst signs text first place
-    → at ≤ length text → behind signs (drop at text) ≡ Some other → (k : ℕ) × (other ≡ drop k first)
+    → at ≤ length text → behind_signs signs (drop at text) ≡ Some other → (k : ℕ) × (other ≡ drop k first)
 later signs text first other place at is within found =
     let one : first ≡ drop (length signs) (drop place text) = behind_rest signs (drop place text) first is.found in
     let two : other ≡ drop (length signs) (drop at text) = behind_rest signs (drop at text) other found in
     let after : place ≤ at = elim (cases_lt at place) [
-      | inl before ↦ let none : behind signs (drop at text) ≡ None = is.before at before in cc
+      | inl before ↦ let none : behind_signs signs (drop at text) ≡ None = is.before at before in cc
       | inr after ↦ after
     ] in
     let same : at + length signs ≡ (place + length signs) + (at - place) = omega arith in (
@@ -200,7 +200,7 @@ later signs text first other place at is within found =
     )
 
 -- between two stars the first place is the best
-first_found : (signs others text rest : List ℕ) (place : ℕ) → Lacks 42 signs → IsFirst signs text rest place
+first_found : (signs others text rest : List ℕ) (place : ℕ) → LacksByte 42 signs → IsFirst signs text rest place
     → Means (42 ∷ (signs ++ 42 ∷ others)) text ↔ Means (42 ∷ others) rest
 unfolding Means
 first_found signs others text rest place lacks first = (
@@ -220,7 +220,7 @@ first_found signs others text rest place lacks first = (
 
 -- a pattern that ends with signs without a star, behind a star
 ended : (signs text rest : List ℕ) → length signs ≤ length text
-    → behind signs (drop (length text - length signs) text) ≡ Some rest → Means (42 ∷ signs) text
+    → behind_signs signs (drop (length text - length signs) text) ≡ Some rest → Means (42 ∷ signs) text
 unfolding Means
 ended signs text rest room found =
     let start = length text - length signs in
@@ -238,11 +238,11 @@ ended signs text rest room found =
     }
 
 -- where such a text ends with them
-pub end_of : (signs text : List ℕ) → Lacks 42 signs → Means (42 ∷ signs) text
-    → (length signs ≤ length text) × (behind signs (drop (length text - length signs) text) ≡ Some [])
+pub end_of : (signs text : List ℕ) → LacksByte 42 signs → Means (42 ∷ signs) text
+    → (length signs ≤ length text) × (behind_signs signs (drop (length text - length signs) text) ≡ Some [])
 unfolding Means
 end_of signs text lacks m =
-    let found : behind signs (m.behind ++ []) ≡ Some [] = behind_parts signs m.behind [] lacks m.means in
+    let found : behind_signs signs (m.behind ++ []) ≡ Some [] = behind_parts signs m.behind [] lacks m.means in
     let is : IsBehind signs (m.behind ++ []) [] = behind_is signs (m.behind ++ []) [] found in
     let whole : length text ≡ length m.bytes + length m.behind = ap length m.is ∙ length-append m.bytes m.behind in
     let long : length m.behind ≡ length signs
@@ -250,35 +250,35 @@ end_of signs text lacks m =
     let at : length text - length signs ≡ length m.bytes = omega arith in
     let rest : drop (length text - length signs) text ≡ m.behind
     = rw (at, m.is) (drop_at m.bytes m.behind (length m.bytes) refl) in
-    (omega arith, ap (behind signs) (rest ∙ sym (append-nil m.behind)) ∙ found)
+    (omega arith, ap (behind_signs signs) (rest ∙ sym (append-nil m.behind)) ∙ found)
 
 -- whether a text ends with what signs stand for is whether a star and then these mean it
-pub ends : {X : Type 0} (view : X → List ℕ) (signs text : List ℕ) (found : Option X) → Lacks 42 signs
-    → length signs ≤ length text → option_map view found ≡ behind signs (drop (length text - length signs) text)
+pub ends : {X : Type 0} (view : X → List ℕ) (signs text : List ℕ) (found : Option X) → LacksByte 42 signs
+    → length signs ≤ length text → option_map view found ≡ behind_signs signs (drop (length text - length signs) text)
     → IsTrue (is_some found) ↔ Means (42 ∷ signs) text
 ends view signs text (Some x) lacks room is = (λ yes. ended signs text (view x) room (sym is), λ m. refl)
 ends view signs text None lacks room is = (
   λ no. cc,
   λ m.
-      let some : behind signs (drop (length text - length signs) text) ≡ Some [] = (end_of signs text lacks m).1 in
+      let some : behind_signs signs (drop (length text - length signs) text) ≡ Some [] = (end_of signs text lacks m).1 in
       cc,
 )
 
 -- the same with a further part of the pattern before it
-pub found_on : {A : Type 0} (pattern signs others text rest : List ℕ) → A ↔ Means (42 ∷ pattern) text → Lacks 42 signs
+pub found_on : {A : Type 0} (pattern signs others text rest : List ℕ) → A ↔ Means (42 ∷ pattern) text → LacksByte 42 signs
     → pattern ≡ signs ++ 42 ∷ others → (place : ℕ) × IsFirst signs text rest place → A ↔ Means (42 ∷ others) rest
 found_on pattern signs others text rest same lacks is first =
     let more = first_found signs others text rest first.0 lacks first.1 in
     (λ a. more.0 (rw is at (same.0 a)), λ m. same.1 (rw is (more.1 m)))
 
-pub stopped_on : {A : Type 0} (pattern signs others text : List ℕ) → A ↔ Means (42 ∷ pattern) text → Lacks 42 signs
+pub stopped_on : {A : Type 0} (pattern signs others text : List ℕ) → A ↔ Means (42 ∷ pattern) text → LacksByte 42 signs
     → pattern ≡ signs ++ 42 ∷ others → IsNowhere signs text → A → ⊥
 stopped_on pattern signs others text same lacks is nowhere a =
     none_found signs (42 ∷ others) text lacks nowhere (rw is at (same.0 a))
 
 -- a pattern that begins with signs without a star
-pub begun_with : {A : Type 0} (pattern signs others text rest : List ℕ) → A ↔ Means others rest → Lacks 42 signs
-    → pattern ≡ signs ++ others → behind signs text ≡ Some rest → A ↔ Means pattern text
+pub begun_with : {A : Type 0} (pattern signs others text rest : List ℕ) → A ↔ Means others rest → LacksByte 42 signs
+    → pattern ≡ signs ++ others → behind_signs signs text ≡ Some rest → A ↔ Means pattern text
 begun_with pattern signs others text rest same lacks is found =
     let more = begun signs others text rest lacks found in
     (λ a. rw is (more.1 (same.0 a)), λ m. same.1 (more.0 (rw is at m)))
@@ -290,8 +290,8 @@ pub left_of : {X : Type 0} (view : X → List ℕ) (byte : ℕ) (text front : Li
 left_of view byte text front (Some rest) is = (byte ∷ view rest, is)
 left_of view byte text front None is = ([], is ∙ sym (append-nil front))
 
-pub none_with : (pattern signs text : List ℕ) → Lacks 42 signs → (others : List ℕ) × (pattern ≡ signs ++ others)
-    → behind signs text ≡ None → Means pattern text → ⊥
+pub none_with : (pattern signs text : List ℕ) → LacksByte 42 signs → (others : List ℕ) × (pattern ≡ signs ++ others)
+    → behind_signs signs text ≡ None → Means pattern text → ⊥
 none_with pattern signs text lacks others none m = none_begins signs others.0 text lacks none (rw others.1 at m)
 
 -- the pattern of no sign means no bytes

@@ -10,7 +10,7 @@ use Rattle.pdbdump_rows.specs.declared.form.Form.{Form}
 use Rattle.pdb_tpi.specs.Table.{Table, table_of}
 use Rattle.pdb_types.specs.Definition.{whole_table}
 use Rattle.pdbdump_layouts.specs.Shown.{Accounts, AreLayoutsShown, AreNamesMeant, AreTypesShown, IsNameMeant, IsShowResult}
-use Rattle.pdbdump_layouts.specs.Shown.{IsTold, IsTypeShown, IsWritten, ShowState, Tells}
+use Rattle.pdbdump_layouts.specs.Shown.{IsMessageTold, IsTypeShown, IsTextWritten, ShowState, TellsMessages}
 use Rattle.pdbdump_layouts.specs.declared.options.Options.{Options}
 
 -- ---- faults of the table
@@ -34,28 +34,28 @@ walk_refused stream names options form out err table e read (inr memory) = IsSho
 -- nothing was told, and it is known as before if all is there; or something was told, and not all is there
 abbrev IsAccounted : ShowState → ShowState → Type 0
 IsAccounted old new = ((new.progress.is_whole ≡ old.progress.is_whole) × (new.err ≡ old.err))
-    ⊎ ((new.progress.is_whole ≡ false) × Tells old.err new.err)
+    ⊎ ((new.progress.is_whole ≡ false) × TellsMessages old.err new.err)
 
-tells_more : (old mid new : OutputState) → Tells old mid → Tells mid new → Tells old new
+tells_more : (old mid new : OutputState) → TellsMessages old mid → TellsMessages mid new → TellsMessages old new
 tells_more old mid new first (Tells.one new' message gets) = Tells.more mid new message first gets
 tells_more old mid new first (Tells.more between new' message then gets) =
     Tells.more between new message (tells_more old mid between first then) gets
 
 both : (old mid new : ShowState) → IsAccounted old mid → IsAccounted mid new → IsAccounted old new
 both old mid new (inl quiet) (inl quiet') = inl (quiet'.0 ∙ quiet.0, quiet'.1 ∙ quiet.1)
-both old mid new (inl quiet) (inr told) = inr (told.0, subst (λ from. Tells from new.err) quiet.1 told.1)
+both old mid new (inl quiet) (inr told) = inr (told.0, subst (λ from. TellsMessages from new.err) quiet.1 told.1)
 both old mid new (inr told) (inl quiet) =
-    inr (quiet.0 ∙ told.0, subst (λ to. Tells old.err to) (sym quiet.1) told.1)
+    inr (quiet.0 ∙ told.0, subst (λ to. TellsMessages old.err to) (sym quiet.1) told.1)
 both old mid new (inr told) (inr told') = inr (told'.0, tells_more old.err mid.err new.err told.1 told'.1)
 
 same : (old new : ShowState) → new ≡ old → IsAccounted old new
 same old new is =
     inl (ap (λ (s : ShowState). s.progress.is_whole) is, ap (λ (s : ShowState). s.err) is)
 
-wrote : (text : List ℕ) (old new : ShowState) → IsWritten text old new → IsAccounted old new
+wrote : (text : List ℕ) (old new : ShowState) → IsTextWritten text old new → IsAccounted old new
 wrote text old new is = inl (is.whole, is.silent)
 
-told_of : (old new : ShowState) → IsTold old new → IsAccounted old new
+told_of : (old new : ShowState) → IsMessageTold old new → IsAccounted old new
 told_of old new is = inr (is.part, Tells.one new.err is.message is.told)
 
 of_type : (table : Table) (options : Options) (form : Form) (index : ℕ) (old new : ShowState)

@@ -22,8 +22,8 @@ use Rattle.pdb_base.specs.Refusal.{refusal_of}
 use Rattle.pdbdump_layouts.specs.Classes.{AreClasses, class_layout}
 use Rattle.pdbdump_layouts.specs.Pattern.{is_sign}
 use Rattle.pdbdump_layouts.specs.Shown.{Accounts, AreLayoutsShown, AreNamesMeant, AreTypesNamed, AreTypesShown, HasLayout}
-use Rattle.pdbdump_layouts.specs.Shown.{IsNameMeant, IsStopped, IsTold, IsTypeShown, IsWritten, ShowState, Tells, by_name}
-use Rattle.pdbdump_layouts.specs.Shown.{by_pattern, is_wanted, member, no_class, nothing, one, refused, separator, types}
+use Rattle.pdbdump_layouts.specs.Shown.{IsNameMeant, IsStopped, IsMessageTold, IsTypeShown, IsTextWritten, ShowState, TellsMessages, by_name}
+use Rattle.pdbdump_layouts.specs.Shown.{by_pattern, is_wanted, member, no_class, nothing, one, refused, layout_separator, types}
 use Rattle.pdbdump_layouts.specs.Shown.{unwanted, unwritten, written}
 use Rattle.pdbdump_layouts.specs.declared.options.Options.{Options}
 use Rattle.pdbdump_layouts.specs.declared.show.Progress.{Progress}
@@ -86,7 +86,7 @@ meant_member table name found line progress out out' err (Err e) named gets = tt
 
 pub meant_nothing : (table : Table) (name found : List ℕ) (progress progress' : Progress) (out err err' : OutputState)
     → AreTypesNamed table name []
-    → ((out : OutputState) → IsTold (record { progress = progress; out = out; err = err })
+    → ((out : OutputState) → IsMessageTold (record { progress = progress; out = out; err = err })
     (record { progress = progress'; out = out; err = err' }))
     → IsNameMeant table name found (record { progress = progress; out = out; err = err })
     (record { progress = progress'; out = out; err = err' }) found
@@ -104,7 +104,7 @@ names_more table names all name first between found old mid new are before meant
 pub type_written : (table : Table) (options : Options) (form : Form) (index : ℕ) (layout : Layout) (text : List ℕ)
     (progress progress' : Progress) (out out' err : OutputState) (result : Result (Unit {0}) Error)
     → HasLayout table index layout → is_wanted options layout ≡ true
-    → OnOk result (Gets out out' (separator form progress.has_shown ++ text))
+    → OnOk result (Gets out out' (layout_separator form progress.has_shown ++ text))
     → OnOk result (progress'.has_shown ≡ true) → progress'.is_whole ≡ progress.is_whole
     → OnOk result (IsTypeShown table options form index (record { progress = progress; out = out; err = err })
     (record { progress = progress'; out = out'; err = err }))
@@ -131,7 +131,7 @@ ordered_by found ranks ranks' sorted (Err e) same also moved is = tt
 pub type_refused : (table : Table) (options : Options) (form : Form) (index : ℕ) (fault : Error)
     (progress progress' : Progress) (out err err' : OutputState) (result : Result (Unit {0}) Error)
     → (class_layout table index ≡ Err (refusal_of fault)) ⊎ (fault ≡ OutOfMemory)
-    → OnOk result ((out : OutputState) → IsTold (record { progress = progress; out = out; err = err })
+    → OnOk result ((out : OutputState) → IsMessageTold (record { progress = progress; out = out; err = err })
     (record { progress = progress'; out = out; err = err' })) → OnOk result (fault ≢ OutOfMemory)
     → OnOk result (IsTypeShown table options form index (record { progress = progress; out = out; err = err })
     (record { progress = progress'; out = out; err = err' }))

@@ -5,7 +5,7 @@ use Rattle.std.specs.Option.{option_map_or}
 use Rattle.pdb_base.specs.Answer.{Answer, ◌>>=◌}
 use Rattle.pdb_tpi.specs.Table.{Table}
 use Rattle.pdb_types.specs.Definition.{indexes_of}
-use Rattle.pdb_types.specs.Layout.{LayoutValue, layout_of}
+use Rattle.pdb_types.specs.Layout.{ClassLayout, layout_of_type}
 use Rattle.pdb_types.specs.TypeAt.{type_at}
 use Rattle.pdb_flags.specs.TypeProperties.{forward_reference}
 use Rattle.pdb_values.specs.Text.{text_bytes}
@@ -23,43 +23,43 @@ modified_type (plain value) = plain_unmodified value
 modified_type value = None
 
 -- the layout of a type, if `others` says those of types without a modifier
-abbrev pub layout_or : Table → (ℕ → Answer (Option LayoutValue)) → ℕ → TypeValue → Answer (Option LayoutValue)
-layout_or table others index value = option_map_or others (modified_type value) (layout_of table index)
+abbrev pub layout_or : Table → (ℕ → Answer (Option ClassLayout)) → ℕ → TypeValue → Answer (Option ClassLayout)
+layout_or table others index value = option_map_or others (modified_type value) (layout_of_type table index)
 
 -- the layout of a type or of the one without its modifiers, along at most so many types
-unfoldable pub layout_along : ℕ → Table → ℕ → Answer (Option LayoutValue)
+unfoldable pub layout_along : ℕ → Table → ℕ → Answer (Option ClassLayout)
 layout_along zero table index = Ok None
 layout_along (suc most) table index = type_at table index >>= layout_or table (layout_along most table) index
 
 -- the layout of a class or a union, also of one with up to 15 modifiers
-abbrev pub class_layout : Table → ℕ → Answer (Option LayoutValue)
+abbrev pub class_layout : Table → ℕ → Answer (Option ClassLayout)
 class_layout table index = layout_along 16 table index
 
 -- what the record of a class or a union says of it: its name, and whether it is only declared
-pub record ClassValue : Type 0 where
+pub record NamedClass : Type 0 where
   pub name : List ℕ
   pub is_forward : Bool
 
 -- the value of a `Class`
-abbrev pub class_value : Class → ClassValue
-class_value said = record { name = text_bytes said.name; is_forward = said.is_forward }
+abbrev pub named_class : Class → NamedClass
+named_class said = record { name = text_bytes said.name; is_forward = said.is_forward }
 
 -- what a record says of a class or a union
-abbrev pub plain_class : PlainValue → Option ClassValue
+abbrev pub plain_class : PlainValue → Option NamedClass
 plain_class (class value) = Some (record { name = value.name; is_forward = forward_reference value.properties })
 plain_class (union value) = Some (record { name = value.name; is_forward = forward_reference value.properties })
 plain_class value = None
 
-abbrev pub class_of : TypeValue → Option ClassValue
+abbrev pub class_of : TypeValue → Option NamedClass
 class_of (plain value) = plain_class value
 class_of value = None
 
 -- the class or union that a type defines; a record that can't be read defines none
-abbrev pub if_defined : ClassValue → Option ClassValue
-if_defined said = if said.is_forward then None else Some said
+abbrev pub unless_declared : NamedClass → Option NamedClass
+unless_declared said = if said.is_forward then None else Some said
 
-abbrev pub class_defined : Answer TypeValue → Option ClassValue
-class_defined (Ok value) = option_map_or if_defined (class_of value) None
+abbrev pub class_defined : Answer TypeValue → Option NamedClass
+class_defined (Ok value) = option_map_or unless_declared (class_of value) None
 class_defined (Err refusal) = None
 
 -- whether a name is wanted: any is if there is no pattern

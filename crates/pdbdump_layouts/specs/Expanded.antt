@@ -25,7 +25,7 @@ IsBetween depth deepest row = (depth ≤ row.depth) × (row.depth ≤ deepest)
 
 -- Rows of a class that is so deep are appended, with those of classes within it, which are at most so deep. Of the
 -- rows that may be shown of these, no more are left than are not taken.
-pub record AreShown (depth deepest : ℕ) (rows : List LayoutRow) (left left' : ℕ) (old new : List ShownRow)
+pub record AreRowsShown (depth deepest : ℕ) (rows : List LayoutRow) (left left' : ℕ) (old new : List ShownRow)
     : Type 0 where
   pub added : List ShownRow
   pub is : new ≡ old ++ added

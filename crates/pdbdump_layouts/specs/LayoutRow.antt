@@ -16,15 +16,15 @@ row_bits (rows.Field field) = field_span field
 row_bits (rows.Gap gap) = gap.bits
 
 -- the row of a field, and that of a gap
-abbrev pub field_row : LayoutField → LayoutRow
-field_row field = rows.Field field
+abbrev pub layout_field_row : LayoutField → LayoutRow
+layout_field_row field = rows.Field field
 
-abbrev pub gap_row : Gap → LayoutRow
-gap_row gap = rows.Gap gap
+abbrev pub layout_gap_row : Gap → LayoutRow
+layout_gap_row gap = rows.Gap gap
 
 -- a row for each field of a layout, and then one for each gap
 abbrev pub unsorted_rows : Layout → List LayoutRow
-unsorted_rows layout = map field_row layout.fields.items ++ map gap_row layout.gaps.items
+unsorted_rows layout = map layout_field_row layout.fields.items ++ map layout_gap_row layout.gaps.items
 
 -- where a row begins
 abbrev pub row_start : LayoutRow → ℕ

@@ -25,9 +25,9 @@ role_word virtual_function_pointer = codes "vfptr"
 role_word (member name) = codes "member"
 
 -- the name of a field, which only a data member has
-abbrev pub role_name : FieldRole → Option (List ℕ)
-role_name (member name) = Some name
-role_name role = None
+abbrev pub member_name : FieldRole → Option (List ℕ)
+member_name (member name) = Some name
+member_name role = None
 
 -- the size of a field in bytes, if something says it; or the bit at which a bit field begins, and how many it has
 abbrev pub extent_fields : Extent → ShownRow
@@ -37,25 +37,25 @@ extent_fields extents.Unknown = []
 
 -- of a pointer to a table of virtual bases: the virtual base class of which it tells, whether the class itself names
 -- that, and its position in the table
-abbrev pub virtual_base_fields : FieldRole → ShownRow
-virtual_base_fields (virtual_base_pointer class) =
+abbrev pub virtual_base_object : FieldRole → ShownRow
+virtual_base_object (virtual_base_pointer class) =
     (VIRTUAL_BASE.now, hexadecimal class.base_class.0)
     ∷ (DIRECT.now, flag class.direct)
     ∷ (POSITION.now, number class.position)
     ∷ []
-virtual_base_fields role = []
+virtual_base_object role = []
 
 -- a field that begins at an offset, with its type and its declaration as texts
 unfoldable pub field_object : ℕ → ℕ → FieldValue → List ℕ → List ℕ → ShownRow
 field_object depth offset field type declaration =
     (KIND.now, text (role_word field.place.role))
     ∷ (DEPTH.now, number depth)
-    ∷ (NAME.now, optional_text (role_name field.place.role))
+    ∷ (NAME.now, optional_text (member_name field.place.role))
     ∷ (TYPE_INDEX.now, hexadecimal field.place.field_type.0)
     ∷ (TYPE.now, text type)
     ∷ (DECLARATION.now, text declaration)
     ∷ (OFFSET.now, number offset)
-    ∷ extent_fields field.extent ++ virtual_base_fields field.place.role
+    ∷ extent_fields field.extent ++ virtual_base_object field.place.role
 
 -- ---- gaps
 

@@ -11,30 +11,30 @@ abbrev pub StandsFor : ℕ → List ℕ → Type 0
 StandsFor sign bytes = (sign ≡ 42) ⊎ (((byte : ℕ) × (sign ≡ 63) × (bytes ≡ byte ∷ [])) ⊎ (bytes ≡ sign ∷ []))
 
 -- A text is what a sign and then others stand for.
-pub record Begins (sign : ℕ) (others : List ℕ → Type 0) (text : List ℕ) : Type 0 where
+pub record BeginsWithSign (sign : ℕ) (others : List ℕ → Type 0) (text : List ℕ) : Type 0 where
   pub bytes : List ℕ
   pub behind : List ℕ
-  pub is : text ≡ bytes ++ behind
+  pub is : text ≡ bytes ++ behind_signs
   pub stands : StandsFor sign bytes
-  pub means : others behind
+  pub means : others behind_signs
 
 -- a name is one that a pattern means: what its signs stand for, one behind another
 unfoldable pub Means : List ℕ → List ℕ → Type 0
 Means [] name = name ≡ []
-Means (sign ∷ signs) name = Begins sign (Means signs) name
+Means (sign ∷ signs) name = BeginsWithSign sign (Means signs) name
 
 -- what is behind the bytes that signs without `*` stand for, if a text begins with such bytes
-unfoldable pub behind : List ℕ → List ℕ → Option (List ℕ)
-behind [] text = Some text
-behind (sign ∷ signs) [] = None
-behind (sign ∷ signs) (byte ∷ bytes) = if sign == 63 || sign == byte then behind signs bytes else None
+unfoldable pub behind_signs : List ℕ → List ℕ → Option (List ℕ)
+behind_signs [] text = Some text
+behind_signs (sign ∷ signs) [] = None
+behind_signs (sign ∷ signs) (byte ∷ bytes) = if sign == 63 || sign == byte then behind_signs signs bytes else None
 
 -- at no place of a text such signs stand for what is there
 abbrev pub IsNowhere : List ℕ → List ℕ → Type 0
-IsNowhere signs text = (place : ℕ) → place ≤ length text → behind signs (drop place text) ≡ None
+IsNowhere signs text = (place : ℕ) → place ≤ length text → behind_signs signs (drop place text) ≡ None
 
 -- the first place of a text where they do, and what is behind that
 pub record IsFirst (signs text rest : List ℕ) (place : ℕ) : Type 0 where
   pub within : place ≤ length text
-  pub found : behind signs (drop place text) ≡ Some rest
-  pub before : (other : ℕ) → other < place → behind signs (drop other text) ≡ None
+  pub found : behind_signs signs (drop place text) ≡ Some rest
+  pub before : (other : ℕ) → other < place → behind_signs signs (drop other text) ≡ None

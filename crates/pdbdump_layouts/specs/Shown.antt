@@ -23,8 +23,8 @@ use Rattle.pdbdump_layouts.specs.declared.options.Order.{Order}
 use Rattle.pdbdump_layouts.specs.declared.show.Progress.{Progress}
 
 -- the table of types in a stream, if it can be walked to its end
-abbrev pub opened_table : List ℕ → Answer Table
-opened_table stream = table_of stream >>= whole_table
+abbrev pub walked_table : List ℕ → Answer Table
+walked_table stream = table_of stream >>= whole_table
 
 -- how far layouts are shown, and both channels
 pub record ShowState : Type 0 where
@@ -41,13 +41,13 @@ abbrev pub IsStopped : {A : Type 0} → OutputState → Result A Error → Type 
 IsStopped out result = IfErr result (λ e. IsFailed out e ⊎ (e ≡ OutOfMemory))
 
 -- A text is written to the output, and nothing to the error channel.
-pub record IsWritten (text : List ℕ) (old new : ShowState) : Type 0 where
+pub record IsTextWritten (text : List ℕ) (old new : ShowState) : Type 0 where
   pub written : Gets old.out new.out text
   pub silent : new.err ≡ old.err
   pub whole : new.progress.is_whole ≡ old.progress.is_whole
 
 -- A message is written to the error channel, unless that fails, and nothing to the output. Then not all is there.
-pub record IsTold (old new : ShowState) : Type 0 where
+pub record IsMessageTold (old new : ShowState) : Type 0 where
   pub message : List ℕ
   pub told : GetsUnlessFailed old.err new.err message
   pub kept : new.out ≡ old.out
@@ -66,9 +66,9 @@ abbrev pub is_wanted : Options → Layout → Bool
 is_wanted options layout = not options.has_holes || nat_lt 0 (totals_of layout.gaps.items).holes
 
 -- what is written between two layouts: a line feed, if they are texts
-abbrev pub separator : Form → Bool → List ℕ
-separator forms.Text true = 10 ∷ []
-separator form has_shown = []
+abbrev pub layout_separator : Form → Bool → List ℕ
+layout_separator forms.Text true = 10 ∷ []
+layout_separator form has_shown = []
 
 -- A type is shown: its layout is not wanted; or its text is written; or a message is, since it has no layout, or its
 -- layout or a text of it is refused.
@@ -76,12 +76,12 @@ pub data IsTypeShown (table : Table) (options : Options) (form : Form) (index : 
   unwanted : (layout : Layout) → HasLayout table index layout → is_wanted options layout ≡ false → new ≡ old
       → IsTypeShown table options form index old new
   written : (layout : Layout) (text : List ℕ) → HasLayout table index layout → is_wanted options layout ≡ true
-      → IsWritten (separator form old.progress.has_shown ++ text) old new → new.progress.has_shown ≡ true
+      → IsTextWritten (layout_separator form old.progress.has_shown ++ text) old new → new.progress.has_shown ≡ true
       → IsTypeShown table options form index old new
-  no_class : class_layout table index ≡ Ok None → IsTold old new → IsTypeShown table options form index old new
-  refused : (refusal : Refusal) → class_layout table index ≡ Err refusal → IsTold old new
+  no_class : class_layout table index ≡ Ok None → IsMessageTold old new → IsTypeShown table options form index old new
+  refused : (refusal : Refusal) → class_layout table index ≡ Err refusal → IsMessageTold old new
       → IsTypeShown table options form index old new
-  unwritten : (layout : Layout) → HasLayout table index layout → is_wanted options layout ≡ true → IsTold old new
+  unwritten : (layout : Layout) → HasLayout table index layout → is_wanted options layout ≡ true → IsMessageTold old new
       → IsTypeShown table options form index old new
 
 -- types are shown one after another
@@ -105,9 +105,9 @@ pub data AreTypesNamed (table : Table) (name : List ℕ) : List ℕ → Type 0 w
 pub data IsNameMeant (table : Table) (name found : List ℕ) (old new : ShowState) : List ℕ → Type 0 where
   types : (indexes : List ℕ) → AreTypesNamed table name indexes → 0 < length indexes → new ≡ old
       → IsNameMeant table name found old new (found ++ indexes)
-  member : (line : List ℕ) → AreTypesNamed table name [] → IsWritten line old new
+  member : (line : List ℕ) → AreTypesNamed table name [] → IsTextWritten line old new
       → new.progress.has_shown ≡ old.progress.has_shown → IsNameMeant table name found old new found
-  nothing : AreTypesNamed table name [] → IsTold old new → IsNameMeant table name found old new found
+  nothing : AreTypesNamed table name [] → IsMessageTold old new → IsNameMeant table name found old new found
 
 -- the same of names one after another
 pub data AreNamesMeant (table : Table) : List (List ℕ) → List ℕ → List ℕ → ShowState → ShowState → Type 0 where
@@ -145,11 +145,11 @@ pub record AreLayoutsShown (table : Table) (names : List (List ℕ)) (options : 
 -- anything is written; or why it ended early.
 pub data IsShowResult (stream : List ℕ) (names : List (List ℕ)) (options : Options) (form : Form)
     (out out' err err' : OutputState) : Result Bool Error → Type 0 where
-  shown : (table : Table) (progress : Progress) → opened_table stream ≡ Ok table
+  shown : (table : Table) (progress : Progress) → walked_table stream ≡ Ok table
       → AreLayoutsShown table names options form (before_all out err)
       (record { progress = progress; out = out'; err = err' })
       → IsShowResult stream names options form out out' err err' (Ok progress.is_whole)
-  refused : (fault : Error) → opened_table stream ≡ Err (refusal_of fault) → out' ≡ out → err' ≡ err
+  refused : (fault : Error) → walked_table stream ≡ Err (refusal_of fault) → out' ≡ out → err' ≡ err
       → IsShowResult stream names options form out out' err err' (Err fault)
   stopped : (fault : Error) → IsFailed out' fault ⊎ (fault ≡ OutOfMemory)
       → IsShowResult stream names options form out out' err err' (Err fault)
@@ -157,16 +157,16 @@ pub data IsShowResult (stream : List ℕ) (names : List (List ℕ)) (options : O
 -- ---- whether anything was told
 
 -- one or more messages were written to an output, unless it failed
-pub data Tells (old : OutputState) : OutputState → Type 0 where
-  one : (new : OutputState) (message : List ℕ) → GetsUnlessFailed old new message → Tells old new
-  more : (told new : OutputState) (message : List ℕ) → Tells old told → GetsUnlessFailed told new message
-      → Tells old new
+pub data TellsMessages (old : OutputState) : OutputState → Type 0 where
+  one : (new : OutputState) (message : List ℕ) → GetsUnlessFailed old new message → TellsMessages old new
+  more : (told new : OutputState) (message : List ℕ) → TellsMessages old told → GetsUnlessFailed told new message
+      → TellsMessages old new
 
 -- All that was asked for is there, and nothing was told; or not all is, and something was told.
 abbrev pub Accounts : OutputState → OutputState → Bool → Type 0
 Accounts err err' true = err' ≡ err
-Accounts err err' false = Tells err err'
+Accounts err err' false = TellsMessages err err'
 
 -- the same of a call that may fail
-abbrev pub IsAnswered : Result Bool Error → OutputState → OutputState → Type 0
-IsAnswered result err err' = IfOk result (Accounts err err')
+abbrev pub IsCallAnswered : Result Bool Error → OutputState → OutputState → Type 0
+IsCallAnswered result err err' = IfOk result (Accounts err err')

@@ -11,7 +11,7 @@ ghost use Rattle.pdb_types.specs.TypeAt.{type_at};
 ghost use Rattle.pdb_values.specs.Text.{text_bytes};
 ghost use Rattle.pdb_values.specs.TypeView.{type_value};
 ghost use Rattle.pdbdump_layouts.specs.Classes.{AreClasses, IsClassIn, IsNameWanted, class_defined};
-ghost use Rattle.pdbdump_layouts.specs.Classes.{class_layout, class_of, class_value, modified_type};
+ghost use Rattle.pdbdump_layouts.specs.Classes.{class_layout, class_of, named_class, modified_type};
 
 use crate::pattern::matches;
 use pdb_base::{Error, RawString, Result, TypeIndex};
@@ -47,7 +47,7 @@ fn class_word(kind: ClassKind) -> &'static str {
 
 /// Returns what a record says of a class or a union, or None if it is of neither.
 pub(crate) fn class_of<'t>(value: &TypeData<'t>) -> Option<Class<'t>>
-    ensures { option_map class_value result ≡ class_of (type_value value.now) }
+    ensures { option_map named_class result ≡ class_of (type_value value.now) }
 {
     match value {
         TypeData::Class(class) => Some(Class {
@@ -66,7 +66,7 @@ pub(crate) fn class_of<'t>(value: &TypeData<'t>) -> Option<Class<'t>>
 
 /// Returns the class or union that a record defines, or None if it defines none.
 fn defined_class<'t>(value: &TypeData<'t>) -> Option<Class<'t>>
-    ensures { option_map class_value result ≡ class_defined (Ok (type_value value.now)) }
+    ensures { option_map named_class result ≡ class_defined (Ok (type_value value.now)) }
 {
     let class = class_of(value)?;
     if class.is_forward {
@@ -78,7 +78,7 @@ fn defined_class<'t>(value: &TypeData<'t>) -> Option<Class<'t>>
 /// Returns the class or union that a record defines, or None if it defines none. A record that can't
 /// be read defines none.
 fn class_defined<'t>(alloc: Global, item: &Type<'t>) -> Result<Option<Class<'t>>>
-    ensures class { IfOk result (λ class. option_map class_value class
+    ensures class { IfOk result (λ class. option_map named_class class
         ≡ class_defined (type_of (index_of item.now).0 (item_bytes item.now))) }
     ensures memory { FailsOnlyForMemory result }
 {

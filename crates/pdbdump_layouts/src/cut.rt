@@ -1,12 +1,12 @@
 //! Texts that are cut in two.
 
 ghost use Rattle.std.specs.Prelude.{◌≡◌, ◌≤◌, ◌++◌, ◌∷◌, MatchOption, drop, length};
-ghost use Rattle.pdbdump_layouts.specs.Cut.{Lacks};
+ghost use Rattle.pdbdump_layouts.specs.Cut.{LacksByte};
 
 /// Cuts a text at the first place of a byte: returns what is before it, and what is behind it if it
 /// is there.
 pub(crate) fn cut_at(byte: u8, text: &[u8]) -> (&[u8], Option<&[u8]>)
-    ensures lacks { Lacks byte result.0.now }
+    ensures lacks { LacksByte byte result.0.now }
     ensures parts { MatchOption result.1 (text.now ≡ result.0.now)
         (λ behind. text.now ≡ result.0.now ++ byte ∷ behind.now) }
 {

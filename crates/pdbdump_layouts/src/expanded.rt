@@ -3,7 +3,7 @@
 ghost use Rattle.std.specs.Prelude.{◌≡◌, [], ◌+◌, ◌<◌, ◌≤◌, min, true, if◌then◌else◌, IfOk};
 ghost use Rattle.std.specs.Prelude.{IsTrue, OnOk};
 ghost use Rattle.std.specs.Option.{option_map};
-ghost use Rattle.pdbdump_layouts.specs.Expanded.{AreExpanded, AreExpandedRows, AreShown, FollowsRow};
+ghost use Rattle.pdbdump_layouts.specs.Expanded.{AreExpanded, AreExpandedRows, AreRowsShown, FollowsRow};
 ghost use Rattle.pdbdump_layouts.specs.Expanded.{inner_start, inner_type};
 
 use crate::classes::class_layout;
@@ -127,7 +127,7 @@ fn push_inner<'t>(
 ) -> Result<()>
     requires { outer.depth ≤ min budget.old.asked MOST_DEPTH }
     ensures asked { budget.new.asked ≡ budget.old.asked }
-    ensures rows { OnOk result (AreShown outer.entry.depth budget.old.asked [] budget.old.most budget.new.most
+    ensures rows { OnOk result (AreRowsShown outer.entry.depth budget.old.asked [] budget.old.most budget.new.most
         shown.old.items shown.new.items) }
     ensures follows { OnOk result (FollowsRow definitions.now budget.old.asked outer.entry
         budget.old.is_cut budget.new.is_cut shown.old.items shown.new.items) }
@@ -172,7 +172,7 @@ fn push_rows<'t>(
 ) -> Result<()>
     requires { depth ≤ min budget.old.asked MOST_DEPTH }
     ensures asked { budget.new.asked ≡ budget.old.asked }
-    ensures rows { OnOk result (AreShown depth budget.old.asked rows.now budget.old.most budget.new.most
+    ensures rows { OnOk result (AreRowsShown depth budget.old.asked rows.now budget.old.most budget.new.most
         shown.old.items shown.new.items) }
     ensures expanded { OnOk result (AreExpandedRows definitions.now budget.old.asked depth start
         budget.old.is_cut budget.new.is_cut rows.now shown.old.items shown.new.items) }

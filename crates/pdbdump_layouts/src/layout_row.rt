@@ -2,7 +2,7 @@
 
 ghost use Rattle.std.specs.Prelude.{◌≡◌, ◌++◌, map, IfOk, OnOk};
 ghost use Rattle.pdb_base.specs.Memory.{FailsOnlyForMemory};
-ghost use Rattle.pdbdump_layouts.specs.LayoutRow.{AreRowsOf, field_row, gap_row, row_bits, unsorted_rows};
+ghost use Rattle.pdbdump_layouts.specs.LayoutRow.{AreRowsOf, layout_field_row, layout_gap_row, row_bits, unsorted_rows};
 
 use pdb_base::Result;
 use pdb_types::{Gap, Layout, LayoutField, Span};
@@ -32,7 +32,7 @@ impl<'t> LayoutRow<'t> {
 
 /// Appends a `LayoutRow` for each field.
 fn push_field_rows<'t>(rows: &mut Vec<LayoutRow<'t>>, fields: &[LayoutField<'t>]) -> Result<()>
-    ensures ok { OnOk result (rows.new.items ≡ rows.old.items ++ map field_row fields.now) }
+    ensures ok { OnOk result (rows.new.items ≡ rows.old.items ++ map layout_field_row fields.now) }
     ensures memory { FailsOnlyForMemory result }
 {
     for field in fields {
@@ -43,7 +43,7 @@ fn push_field_rows<'t>(rows: &mut Vec<LayoutRow<'t>>, fields: &[LayoutField<'t>]
 
 /// Appends a `LayoutRow` for each gap.
 fn push_gap_rows<'t>(rows: &mut Vec<LayoutRow<'t>>, gaps: &[Gap]) -> Result<()>
-    ensures ok { OnOk result (rows.new.items ≡ rows.old.items ++ map gap_row gaps.now) }
+    ensures ok { OnOk result (rows.new.items ≡ rows.old.items ++ map layout_gap_row gaps.now) }
     ensures memory { FailsOnlyForMemory result }
 {
     for gap in gaps {

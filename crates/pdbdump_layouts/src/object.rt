@@ -7,7 +7,7 @@ ghost use Rattle.pdbdump_rows.specs.Line.{ShowsFields};
 ghost use Rattle.pdb_types.specs.FieldPlace.{field_role};
 ghost use Rattle.pdb_types.specs.Layout.{field_value};
 ghost use Rattle.pdbdump_layouts.specs.Object.{extent_fields, field_object, gap_object, gap_word};
-ghost use Rattle.pdbdump_layouts.specs.Object.{role_name, role_word, virtual_base_fields};
+ghost use Rattle.pdbdump_layouts.specs.Object.{member_name, role_word, virtual_base_object};
 
 use crate::gap_place::gap_place;
 use crate::names::{BIT, BITS, DECLARATION, DEPTH, TYPE, TYPE_INDEX, VIRTUAL_BASE};
@@ -30,7 +30,7 @@ fn role_word(kind: &FieldKind<'_>) -> &'static str
 
 /// Returns the name of a field, which only a data member has.
 fn role_name<'t>(kind: &FieldKind<'t>) -> Option<RawString<'t>>
-    ensures { option_map text_bytes result ≡ role_name (field_role kind.now) }
+    ensures { option_map text_bytes result ≡ member_name (field_role kind.now) }
 {
     match kind {
         FieldKind::Member(name) => Some(*name),
@@ -56,7 +56,7 @@ fn show_extent(line: &mut Line, extent: &Extent) -> Result<()>
 /// Adds which virtual base class a field leads to, if it leads to one: whether the class itself
 /// names it, and its position in the table of virtual bases.
 fn show_virtual_base(line: &mut Line, kind: &FieldKind<'_>) -> Result<()>
-    ensures { ShowsFields (virtual_base_fields (field_role kind.now)) line.old line.new result }
+    ensures { ShowsFields (virtual_base_object (field_role kind.now)) line.old line.new result }
 {
     match kind {
         FieldKind::VirtualBasePointer(base) => {

@@ -3,8 +3,8 @@
 ghost use Rattle.std.specs.Prelude.{◌≡◌, ◌↔◌, ◌∷◌, ℕ, IsTrue, MatchOption};
 ghost use Rattle.std.specs.List.{list_any};
 ghost use Rattle.std.specs.Option.{option_map};
-ghost use Rattle.pdbdump_layouts.specs.Cut.{Lacks};
-ghost use Rattle.pdbdump_layouts.specs.Pattern.{IsFirst, IsNowhere, Means, behind, is_sign};
+ghost use Rattle.pdbdump_layouts.specs.Cut.{LacksByte};
+ghost use Rattle.pdbdump_layouts.specs.Pattern.{IsFirst, IsNowhere, Means, behind_signs, is_sign};
 
 use crate::cut::{cut_at, text_from};
 
@@ -17,9 +17,9 @@ pub(crate) fn is_pattern(name: &[u8]) -> bool
 
 /// Matches these signs, none of which is `*`, with the first bytes of a text, and returns what is
 /// behind those bytes, or None if they don't match.
-#[tactic(auto, unfolding(crate::specs::Pattern::behind))]
+#[tactic(auto, unfolding(crate::specs::Pattern::behind_signs))]
 fn behind<'n>(signs: &[u8], text: &'n [u8]) -> Option<&'n [u8]>
-    ensures { option_map (λ rest. rest.now) result ≡ behind signs.now text.now }
+    ensures { option_map (λ rest. rest.now) result ≡ behind_signs signs.now text.now }
 {
     let mut rest = text;
     for sign in signs {
@@ -51,7 +51,7 @@ fn behind_first<'n>(signs: &[u8], text: &'n [u8]) -> Option<&'n [u8]>
 
 /// Returns whether the last bytes of a text match these signs.
 fn ends_with(signs: &[u8], text: &[u8]) -> bool
-    ensures { Lacks 42 signs.now → (IsTrue result ↔ Means (42 ∷ signs.now) text.now) }
+    ensures { LacksByte 42 signs.now → (IsTrue result ↔ Means (42 ∷ signs.now) text.now) }
 {
     if text.len() < signs.len() {
         return false;

@@ -7,9 +7,9 @@ ghost use Rattle.pdb_base.specs.declared.error.Error.TheVariants.{OutOfMemory};
 ghost use Rattle.pdb_output.specs.Output.{Gets, OutputState};
 ghost use Rattle.pdb_tpi.specs.Table.{table_of};
 ghost use Rattle.pdbdump_layouts.specs.Shown.{AreFirst, AreLayoutsShown, AreNamesMeant, AreOrdered};
-ghost use Rattle.pdbdump_layouts.specs.Shown.{AreTypesShown, HasLayout, IsAnswered};
-ghost use Rattle.pdbdump_layouts.specs.Shown.{IsNameMeant, IsShowResult, IsStopped, IsTold};
-ghost use Rattle.pdbdump_layouts.specs.Shown.{IsTypeShown, is_wanted, separator};
+ghost use Rattle.pdbdump_layouts.specs.Shown.{AreTypesShown, HasLayout, IsCallAnswered};
+ghost use Rattle.pdbdump_layouts.specs.Shown.{IsNameMeant, IsShowResult, IsStopped, IsMessageTold};
+ghost use Rattle.pdbdump_layouts.specs.Shown.{IsTypeShown, is_wanted, layout_separator};
 
 use crate::c_style::c_text;
 use crate::classes::{class_layout, class_of, classes_in, type_at};
@@ -77,7 +77,7 @@ fn tell<E: Write>(
     progress: &mut Progress,
     err: &mut Output<E>,
 ) -> Result<()>
-    ensures told { OnOk result ((out : OutputState) → IsTold
+    ensures told { OnOk result ((out : OutputState) → IsMessageTold
         (record { progress = progress.old; out = out; err = err.old })
         (record { progress = progress.new; out = out; err = err.new })) }
     ensures memory { FailsOnlyForMemory result }
@@ -99,7 +99,7 @@ fn tell_index<E: Write>(
     progress: &mut Progress,
     err: &mut Output<E>,
 ) -> Result<()>
-    ensures told { OnOk result ((out : OutputState) → IsTold
+    ensures told { OnOk result ((out : OutputState) → IsMessageTold
         (record { progress = progress.old; out = out; err = err.old })
         (record { progress = progress.new; out = out; err = err.new })) }
     ensures memory { FailsOnlyForMemory result }
@@ -117,7 +117,7 @@ fn tell_fault<E: Write>(
     progress: &mut Progress,
     err: &mut Output<E>,
 ) -> Result<()>
-    ensures told { OnOk result ((out : OutputState) → IsTold
+    ensures told { OnOk result ((out : OutputState) → IsMessageTold
         (record { progress = progress.old; out = out; err = err.old })
         (record { progress = progress.new; out = out; err = err.new })) }
     ensures other { OnOk result (fault.now ≢ OutOfMemory) }
@@ -141,7 +141,7 @@ fn is_wanted(layout: &Layout<'_>, options: &Options) -> bool
 
 /// Returns what is written between two layouts: a line feed, if they are texts.
 fn separator(form: Form, has_shown: bool) -> &'static [u8]
-    ensures { result.now ≡ separator form has_shown }
+    ensures { result.now ≡ layout_separator form has_shown }
 {
     match form {
         Form::Text if has_shown => b"\n",
@@ -157,7 +157,7 @@ fn write_layout<O: Write>(
     out: &mut Output<O>,
 ) -> Result<()>
     ensures written { OnOk result
-        (Gets out.old out.new (separator form progress.old.has_shown ++ text.now)) }
+        (Gets out.old out.new (layout_separator form progress.old.has_shown ++ text.now)) }
     ensures shown { OnOk result (progress.new.has_shown ≡ true) }
     ensures whole { progress.new.is_whole ≡ progress.old.is_whole }
     ensures stopped { IsStopped out.new result }
@@ -502,7 +502,7 @@ pub fn show_layouts<O: Write, E: Write>(
 ) -> Result<bool>
     ensures shown { IsShowResult stream (map (λ name. name.now) names.now) options.now form
         out.old out.new err.old err.new result }
-    ensures answered { IsAnswered result err.old err.new }
+    ensures answered { IsCallAnswered result err.old err.new }
 {
     let types = learn_table(alloc, stream)?;
     let definitions = Definitions::new(alloc, &types)?;

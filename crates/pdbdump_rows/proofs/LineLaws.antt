@@ -12,7 +12,7 @@ use Rattle.pdbdump_rows.specs.declared.form.Form.{Form}
 use Rattle.pdbdump_rows.specs.declared.form.Form.TheVariants.{Text, Json}
 use Rattle.pdbdump_rows.specs.Laws.{IsEscape, IsLine, short, long, is_hexadecimal, is_short}
 use Rattle.pdbdump_rows.specs.Lines.{field_line, field_text, fields_text, front_text, index_text, is_leading, is_shown}
-use Rattle.pdbdump_rows.specs.Lines.{kind_text, list_text, row_text, separate, separator, value_text}
+use Rattle.pdbdump_rows.specs.Lines.{shown_leaf_text, list_text, row_text, separate, separator, value_text}
 use Rattle.pdbdump_rows.specs.Row as rows
 use Rattle.pdbdump_rows.specs.Row.{ShownField, ShownRow, ShownValue}
 use Rattle.pdbdump_rows.specs.Text.{escape, is_escaped, in_quotes, shown_char, shown_text}
@@ -131,7 +131,7 @@ value_printable : (form : Form) (value : ShownValue) → printable (value_text f
 value_printable form (rows.number n) = digits_printable 10 n
 value_printable form (rows.signed z) = signed_printable z
 value_printable form (rows.hexadecimal n) = index_printable form n
-value_printable form (rows.kind leaf) = quoted_printable form (kind_text leaf)
+value_printable form (rows.kind leaf) = quoted_printable form (shown_leaf_text leaf)
 value_printable form (rows.flag true) = refl
 value_printable form (rows.flag false) = refl
 value_printable form (rows.text bytes) = quoted_printable form bytes

@@ -25,9 +25,9 @@ begun_full Text = record { form = Text; is_full = true; bytes = []; is_empty = t
 begun_full Json = begun Json
 
 -- what stands before the first field, and behind the last
-abbrev pub opening : Form → List ℕ
-opening Text = []
-opening Json = codes "{"
+abbrev pub line_opening : Form → List ℕ
+line_opening Text = []
+line_opening Json = codes "{"
 
 abbrev pub ending : Form → List ℕ
 ending Text = line_feed ∷ []
@@ -35,7 +35,7 @@ ending Json = codes "}" ++ line_feed ∷ []
 
 -- what stands between the bytes of a line and its next field
 abbrev pub between : LineState → List ℕ
-between line = if line.is_empty then opening line.form else separator line.form
+between line = if line.is_empty then line_opening line.form else separator line.form
 
 -- what a field adds that its form shows
 abbrev pub field_bytes : LineState → ShownField → List ℕ
@@ -54,7 +54,7 @@ all_shown line (field ∷ row) = all_shown (add_field line field) row
 
 -- what the end of a line adds
 abbrev pub end_bytes : LineState → List ℕ
-end_bytes line = if line.is_full then [] else (if line.is_empty then opening line.form else []) ++ ending line.form
+end_bytes line = if line.is_full then [] else (if line.is_empty then line_opening line.form else []) ++ ending line.form
 
 -- the bytes of a line that has ended
 unfoldable pub line_bytes : LineState → List ℕ
@@ -66,9 +66,9 @@ ShowsFields row old new (Ok done) = new ≡ all_shown old row
 ShowsFields row old new (Err e) = e ≡ OutOfMemory
 
 -- A line has ended with this text; or memory was refused.
-abbrev pub Ends : List ℕ → LineState → Result (Unit {0}) Error → Type 0
-Ends text new (Ok done) = new.bytes ≡ text
-Ends text new (Err e) = e ≡ OutOfMemory
+abbrev pub EndsLine : List ℕ → LineState → Result (Unit {0}) Error → Type 0
+EndsLine text new (Ok done) = new.bytes ≡ text
+EndsLine text new (Err e) = e ≡ OutOfMemory
 
 -- Bytes were added to others; or memory was refused.
 abbrev pub Adds : List ℕ → List ℕ → List ℕ → Result (Unit {0}) Error → Type 0
@@ -79,9 +79,9 @@ Adds text old new (Err e) = e ≡ OutOfMemory
 pub record IsLineEnded (old : LineState) (added : Result (Unit {0}) Error) (new : LineState)
     (result : Result (Unit {0}) Error) : Type 0 where
   pub row : (form : Form) (start : LineState) (row : ShownRow) → ShowsFields row start old added → start ≡ begun form
-      → Ends (row_text form row) new result
+      → EndsLine (row_text form row) new result
   pub full : (form : Form) (start : LineState) (row : ShownRow) → ShowsFields row start old added → start ≡ begun_full form
-      → Ends (full_text form row) new result
+      → EndsLine (full_text form row) new result
 
 -- The line of the fields that were added was written, whichever they are; or it was cut short.
 pub record IsLineWritten (line : LineState) (added : Result (Unit {0}) Error) (old new : OutputState)

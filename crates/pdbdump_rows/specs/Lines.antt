@@ -36,15 +36,15 @@ named_leaf leaf (Some name) = name
 named_leaf leaf None = codes "0x" ++ four_digits leaf
 
 -- how a leaf is shown
-unfoldable pub kind_text : ℕ → List ℕ
-kind_text leaf = named_leaf leaf (leaf_text leaf)
+unfoldable pub shown_leaf_text : ℕ → List ℕ
+shown_leaf_text leaf = named_leaf leaf (leaf_text leaf)
 
 -- what a field shows
 abbrev pub value_text : Form → ShownValue → List ℕ
 value_text form (rows.number n) = decimal n
 value_text form (rows.signed z) = signed_decimal z
 value_text form (rows.hexadecimal n) = index_text form n
-value_text form (rows.kind leaf) = in_quotes form (kind_text leaf)
+value_text form (rows.kind leaf) = in_quotes form (shown_leaf_text leaf)
 value_text form (rows.flag true) = codes "true"
 value_text form (rows.flag false) = codes "false"
 value_text form (rows.text bytes) = in_quotes form bytes

@@ -2,7 +2,7 @@
 
 ghost use Rattle.std.specs.Prelude.{◌≡◌};
 ghost use Rattle.pdb_values.specs.TypeView.{type_value};
-ghost use Rattle.pdbdump_rows.specs.EntryRows.{base_class_leaf, class_leaf, field_row, leaf_of, virtual_base_leaf};
+ghost use Rattle.pdbdump_rows.specs.EntryRows.{base_class_leaf, class_leaf, field_row, shown_leaf, virtual_base_leaf};
 ghost use Rattle.pdbdump_rows.specs.Line.{ShowsFields};
 
 use crate::line::Line;
@@ -47,7 +47,7 @@ fn virtual_base_leaf(base: VirtualBaseClassType) -> u16
 
 /// Returns the record kind that today's compilers write for a type like this.
 fn leaf_of(data: &TypeData<'_>) -> u16
-    ensures { result ≡ leaf_of (type_value «data».now) }
+    ensures { result ≡ shown_leaf (type_value «data».now) }
 {
     match data {
         TypeData::Primitive(_) => LF_NULL,

@@ -1,7 +1,7 @@
 //! A line that is written field by field.
 
 ghost use Rattle.std.specs.Prelude.{◌≡◌, ◌∷◌, []};
-ghost use Rattle.pdbdump_rows.specs.Line.{Ends, IsLineAppended, IsLineEnded, IsLineWritten, ShowsFields, begun, begun_full, line_bytes};
+ghost use Rattle.pdbdump_rows.specs.Line.{EndsLine, IsLineAppended, IsLineEnded, IsLineWritten, ShowsFields, begun, begun_full, line_bytes};
 ghost use Rattle.pdbdump_rows.specs.Row.{value_shown};
 
 use crate::form::Form;
@@ -94,7 +94,7 @@ impl Line {
     /// Ends the line, with its line feed.
     #[tactic(auto, unfolding(crate::specs::Line::line_bytes))]
     fn end(&mut self) -> Result<()>
-        ensures { Ends (line_bytes self.old) self.new result }
+        ensures { EndsLine (line_bytes self.old) self.new result }
     {
         if self.is_full {
             return Ok(());

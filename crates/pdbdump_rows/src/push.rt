@@ -2,8 +2,8 @@
 
 ghost use Rattle.std.specs.Prelude.{◌≡◌, ◌++◌, if◌then◌else◌, [], codes, map, not, OnOk};
 ghost use Rattle.pdb_base.specs.Memory.{FailsOnlyForMemory};
-ghost use Rattle.pdbdump_rows.specs.Line.{ending, opening};
-ghost use Rattle.pdbdump_rows.specs.Lines.{field_line, field_text, index_text, is_leading, is_none, is_shown_value, kind_text, list_text, separator, value_text};
+ghost use Rattle.pdbdump_rows.specs.Line.{ending, line_opening};
+ghost use Rattle.pdbdump_rows.specs.Lines.{field_line, field_text, index_text, is_leading, is_none, is_shown_value, shown_leaf_text, list_text, separator, value_text};
 ghost use Rattle.pdbdump_rows.specs.Row.{value_shown};
 ghost use Rattle.pdbdump_rows.specs.Text.{in_quotes};
 ghost use Rattle.pdbdump_rows.specs.Words.{words_beside_true};
@@ -27,9 +27,9 @@ fn push_index(form: Form, number: u32, out: &mut Vec<u8>) -> Result<()>
 }
 
 /// Appends a record kind by its name, or in hexadecimal if it has none.
-#[tactic(auto, unfolding(crate::specs::Lines::kind_text))]
+#[tactic(auto, unfolding(crate::specs::Lines::shown_leaf_text))]
 fn push_kind(form: Form, leaf: u16, out: &mut Vec<u8>) -> Result<()>
-    ensures ok { OnOk result (out.new.items ≡ out.old.items ++ in_quotes form (kind_text leaf)) }
+    ensures ok { OnOk result (out.new.items ≡ out.old.items ++ in_quotes form (shown_leaf_text leaf)) }
     ensures memory { FailsOnlyForMemory result }
 {
     match leaf_name(leaf) {
@@ -176,7 +176,7 @@ fn push_field(form: Form, name: &str, value: &Value<'_>, out: &mut Vec<u8>) -> R
 
 /// Returns what is written before the first field of a line.
 fn opening(form: Form) -> &'static [u8]
-    ensures { result.now ≡ opening form }
+    ensures { result.now ≡ line_opening form }
 {
     match form {
         Form::Text => b"",
@@ -213,7 +213,7 @@ pub(crate) fn push_next(
     out: &mut Vec<u8>,
 ) -> Result<()>
     ensures ok { OnOk result (out.new.items ≡ out.old.items
-        ++ ((if is_first then opening form else separator form) ++ field_text form (name.now, value_shown value.now))) }
+        ++ ((if is_first then line_opening form else separator form) ++ field_text form (name.now, value_shown value.now))) }
     ensures memory { FailsOnlyForMemory result }
 {
     let before = if is_first {
@@ -228,7 +228,7 @@ pub(crate) fn push_next(
 /// Appends the end of a line, which may have no field.
 pub(crate) fn push_end(form: Form, is_empty: bool, out: &mut Vec<u8>) -> Result<()>
     ensures ok { OnOk result (out.new.items ≡ out.old.items
-        ++ ((if is_empty then opening form else []) ++ ending form)) }
+        ++ ((if is_empty then line_opening form else []) ++ ending form)) }
     ensures memory { FailsOnlyForMemory result }
 {
     if is_empty {

@@ -9,7 +9,7 @@ use Rattle.std.proofs.lemmas.Bool.{cases_Bool, eqb-true, eqb-false, ne_eqb}
 use Rattle.std.proofs.lemmas.Bool.Decides.{nat_tests}
 use Rattle.std.proofs.lemmas.List.{append-nil}
 use Rattle.std.proofs.lemmas.List.Sorted.{All-permutation}
-use Rattle.pdbdump_tables.specs.Kinds.{count_of, equally, kinds_of, of_count, present, by_frequency}
+use Rattle.pdbdump_tables.specs.Kinds.{count_of, equally, kinds_of, of_count, occurring_kinds, by_frequency}
 use Rattle.pdbdump_tables.specs.declared.kinds.KindCount.{KindCount}
 
 -- the kinds of which there are so many
@@ -86,7 +86,7 @@ grouped_same (suc most) kinds others same =
     ∙ ap (λ (rest : List KindCount). of (suc most) others ++ rest) (grouped_same most kinds others same)
 
 of_present : (count : ℕ → ℕ) (n : ℕ) (leaves : List ℕ)
-    → of (suc n) (present count leaves) ≡ equally count (suc n) leaves
+    → of (suc n) (occurring_kinds count leaves) ≡ equally count (suc n) leaves
 of_present count n [] = refl
 of_present count n (leaf ∷ leaves) = elim (cases_Bool (count leaf == 0)) [
   | inl none ↦
@@ -97,18 +97,18 @@ of_present count n (leaf ∷ leaves) = elim (cases_Bool (count leaf == 0)) [
   | inr some ↦ elim (cases_Bool (count leaf == suc n)) [
     | inl same ↦
         let is : count leaf ≡ suc n = eqb-true (count leaf) (suc n) same in
-        rw (some, same) (ap (λ (m : ℕ). of_count m leaf ∷ of (suc n) (present count leaves)) is
+        rw (some, same) (ap (λ (m : ℕ). of_count m leaf ∷ of (suc n) (occurring_kinds count leaves)) is
         ∙ ap (λ (rest : List KindCount). of_count (suc n) leaf ∷ rest) (of_present count n leaves))
     | inr other ↦ rw (some, other) (of_present count n leaves)
   ]
 ]
 
 grouped_present : (count : ℕ → ℕ) (most : ℕ)
-    → grouped most (present count (range_with_len 0 0x10000)) ≡ by_frequency count most
+    → grouped most (occurring_kinds count (range_with_len 0 0x10000)) ≡ by_frequency count most
 unfolding by_frequency
 grouped_present count zero = refl
 grouped_present count (suc most) =
-    ap (λ (front : List KindCount). front ++ grouped most (present count (range_with_len 0 0x10000)))
+    ap (λ (front : List KindCount). front ++ grouped most (occurring_kinds count (range_with_len 0 0x10000)))
     (of_present count most (range_with_len 0 0x10000))
     ∙ ap (λ (rest : List KindCount). equally count (suc most) (range_with_len 0 0x10000) ++ rest)
     (grouped_present count most)
@@ -166,7 +166,7 @@ of_tied kinds others stable n =
     sym (tied kinds) ∙ stable (of_count n 0) ∙ tied others
 
 present_within : (count : ℕ → ℕ) (most : ℕ) (leaves : List ℕ) → ((leaf : ℕ) → count leaf ≤ most)
-    → Within most (present count leaves)
+    → Within most (occurring_kinds count leaves)
 present_within count most [] few = tt
 present_within count most (leaf ∷ leaves) few = elim (cases_Bool (count leaf == 0)) [
   | inl none ↦ rw none (present_within count most leaves few)
@@ -183,7 +183,7 @@ all_within most (kind ∷ kinds) within (suc k) d below = all_within most kinds 
 
 -- the kinds that there are, sorted by how frequent they are, and where they are equally frequent as before
 pub ranked_sorted : (count : ℕ → ℕ) (most : ℕ) (all kinds : List KindCount) → ((leaf : ℕ) → count leaf ≤ most)
-    → all ≡ present count (range_with_len 0 0x10000) → IsPermutation all kinds
+    → all ≡ occurring_kinds count (range_with_len 0 0x10000) → IsPermutation all kinds
     → ((k : ℕ) (d : KindCount) → 0 ≤ k → k + 1 < length kinds
     → is_above (get_or kinds (k + 1) d) (get_or kinds k d) ≡ false)
     → ((kind : KindCount) → filter (ties kind) kinds ≡ filter (ties kind) all) → kinds ≡ by_frequency count most
@@ -201,30 +201,30 @@ ranked_sorted count most all kinds few is moved up stable =
 -- ---- the kinds that there are, leaf by leaf
 
 abbrev behind : (ℕ → ℕ) → ℕ → ℕ → List KindCount
-behind count all at = present count (range_with_len at (all - at))
+behind count all at = occurring_kinds count (range_with_len at (all - at))
 
 present_next : (count : ℕ → ℕ) (all at : ℕ) → at < all
-    → behind count all at ≡ present count (at ∷ range_with_len (at + 1) (all - (at + 1)))
+    → behind count all at ≡ occurring_kinds count (at ∷ range_with_len (at + 1) (all - (at + 1)))
 present_next count all at within =
     let left : all - at ≡ suc (all - (at + 1)) = omega (arith, within) in
     rw left refl
 
 -- before the first leaf
 pub present_first : (count : ℕ → ℕ) (all : ℕ) (kinds : List KindCount) → kinds ≡ [] → kinds
-    ++ present count (range_with_len 0 (all - 0)) ≡ present count (range_with_len 0 all)
+    ++ occurring_kinds count (range_with_len 0 (all - 0)) ≡ occurring_kinds count (range_with_len 0 all)
 present_first count all kinds none =
     let same : all - 0 ≡ all = omega arith in
-    ap (λ (front : List KindCount). front ++ present count (range_with_len 0 (all - 0))) none
-    ∙ ap (λ (n : ℕ). present count (range_with_len 0 n)) same
+    ap (λ (front : List KindCount). front ++ occurring_kinds count (range_with_len 0 (all - 0))) none
+    ∙ ap (λ (n : ℕ). occurring_kinds count (range_with_len 0 n)) same
 
 -- one kind more
 pub present_more : (count : ℕ → ℕ) (all at : ℕ) (kinds more whole : List KindCount) → at < all → (count at ≡ 0 → ⊥)
     → more ≡ kinds ++ of_count (count at) at ∷ []
-    → kinds ++ present count (range_with_len at (all - at)) ≡ whole → more
-    ++ present count (range_with_len (at + 1) (all - (at + 1))) ≡ whole
+    → kinds ++ occurring_kinds count (range_with_len at (all - at)) ≡ whole → more
+    ++ occurring_kinds count (range_with_len (at + 1) (all - (at + 1))) ≡ whole
 present_more count all at kinds more whole within some is before =
     let test : (count at == 0) ≡ false = ne_eqb (count at) 0 some in
-    let here : present count (at ∷ range_with_len (at + 1) (all - (at + 1))) ≡ of_count (count at) at
+    let here : occurring_kinds count (at ∷ range_with_len (at + 1) (all - (at + 1))) ≡ of_count (count at) at
     ∷ behind count all (at + 1) = rw test refl in
     ap (λ (front : List KindCount). front ++ behind count all (at + 1)) is
     ∙ append_assoc kinds (of_count (count at) at ∷ []) (behind count all (at + 1))
@@ -232,21 +232,21 @@ present_more count all at kinds more whole within some is before =
 
 -- a leaf that is no kind
 pub present_none : (count : ℕ → ℕ) (all at : ℕ) (kinds more whole : List KindCount) → at < all → count at ≡ 0
-    → more ≡ kinds → kinds ++ present count (range_with_len at (all - at)) ≡ whole
-    → more ++ present count (range_with_len (at + 1) (all - (at + 1))) ≡ whole
+    → more ≡ kinds → kinds ++ occurring_kinds count (range_with_len at (all - at)) ≡ whole
+    → more ++ occurring_kinds count (range_with_len (at + 1) (all - (at + 1))) ≡ whole
 present_none count all at kinds more whole within none is before =
     let test : (count at == 0) ≡ true = eq-eqb (count at) 0 none in
-    let here : present count (at ∷ range_with_len (at + 1) (all - (at + 1))) ≡ behind count all (at + 1) =
+    let here : occurring_kinds count (at ∷ range_with_len (at + 1) (all - (at + 1))) ≡ behind count all (at + 1) =
     rw test refl in
     ap (λ (front : List KindCount). front ++ behind count all (at + 1)) is
     ∙ ap (λ (rest : List KindCount). kinds ++ rest) (sym here ∙ sym (present_next count all at within)) ∙ before
 
 -- no leaf is left
 pub present_end : (count : ℕ → ℕ) (all at : ℕ) (kinds whole : List KindCount) → all ≤ at → kinds
-    ++ present count (range_with_len at (all - at)) ≡ whole → kinds ≡ whole
+    ++ occurring_kinds count (range_with_len at (all - at)) ≡ whole → kinds ≡ whole
 present_end count all at kinds whole over before =
     let none : all - at ≡ 0 = omega (arith, over) in
-    sym (append-nil kinds) ∙ ap (λ (n : ℕ). kinds ++ present count (range_with_len at n)) (sym none) ∙ before
+    sym (append-nil kinds) ∙ ap (λ (n : ℕ). kinds ++ occurring_kinds count (range_with_len at n)) (sym none) ∙ before
 
 -- ---- kinds of records
 

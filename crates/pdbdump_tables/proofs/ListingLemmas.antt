@@ -8,7 +8,7 @@ use Rattle.std.proofs.lemmas.Option.{get_or_from_slice_get}
 use Rattle.pdbdump_tables.specs.Lines.{lines_from}
 use Rattle.pdb_base.specs.declared.error.Error.{Error}
 use Rattle.pdb_base.specs.declared.error.Error.TheVariants.{OutOfMemory}
-use Rattle.pdbdump_tables.specs.Listed.{IsWalked, all_lines, cut, lacking, lines_of, stopped, whole}
+use Rattle.pdbdump_tables.specs.Listed.{IsWalked, all_lines, cut, lacking, item_lines, stopped, whole}
 use Rattle.pdb_output.specs.Output.{OutputState, Gets, IsCutShort, IsFailed, Writes}
 use Rattle.pdb_output.proofs.lemmas.Written.{cut_more, second_writes}
 use Rattle.pdb_tpi.proofs.StepLemmas.{step_err, step_none, step_some}
@@ -34,7 +34,7 @@ lines_more line index (first ∷ items) item =
 pub record IsSoFar (line : Line) (table : Table) (stand : WalkPosition) (out out' : OutputState) : Type 0 where
   pub same : stand.table ≡ table
   pub least : table.header.minimum_index ≤ stand.index
-  pub lines : Gets out out' (lines_of line table (stand.index - table.header.minimum_index))
+  pub lines : Gets out out' (item_lines line table (stand.index - table.header.minimum_index))
 
 -- before the first item nothing was written
 pub so_far_first : (line : Line) (table : Table) (stand : WalkPosition) (out : OutputState)
@@ -45,7 +45,7 @@ so_far_first line table stand out is =
     let here : IsSoFar line table first out out = record {
       same = refl;
       least = omega arith;
-      lines = subst (λ (count : ℕ). Gets out out (lines_of line table count)) none
+      lines = subst (λ (count : ℕ). Gets out out (item_lines line table count)) none
           (record { holds = refl; added = Appends-nil out.contents });
     } in
     subst (λ (s : WalkPosition). IsSoFar line table s out out) (sym is) here
@@ -67,17 +67,17 @@ more_here {X} seen line old new x out mid out' so step appends =
     let within : count < length items = given.within in
     let long : length (take count items) ≡ count = simp length-take (omega arith) in
     let at : minimum + length (take count items) ≡ (seen x).0 = let index = given.index in omega arith in
-    let all : lines_of line table (count + 1) ≡ lines_of line table count ++ line (seen x).0 (seen x).1 =
+    let all : item_lines line table (count + 1) ≡ item_lines line table count ++ line (seen x).0 (seen x).1 =
     ap (lines_from line minimum) (take_more items count (seen x).1 within)
     ∙ lines_more line minimum (take count items) (get_or items count (seen x).1)
     ∙ ap (λ (i : ℕ). lines_from line minimum (take count items) ++ line i (get_or items count (seen x).1)) at
     ∙ ap (λ (bytes : List ℕ). lines_from line minimum (take count items) ++ line (seen x).0 bytes) item in
-    let whole : Gets out out' (lines_of line table count ++ line (seen x).0 (seen x).1) =
-    second_writes out mid out' (lines_of line table count) (line (seen x).0 (seen x).1) (Ok tt) so.lines appends in
+    let whole : Gets out out' (item_lines line table count ++ line (seen x).0 (seen x).1) =
+    second_writes out mid out' (item_lines line table count) (line (seen x).0 (seen x).1) (Ok tt) so.lines appends in
     record {
       same = step.stays;
       least = omega arith;
-      lines = subst (λ (n : ℕ). Gets out out' (lines_of line table n)) counted (subst (Gets out out') (sym all) whole);
+      lines = subst (λ (n : ℕ). Gets out out' (item_lines line table n)) counted (subst (Gets out out') (sym all) whole);
     }
 
 pub so_far_more : {X : Type 0} (seen : X → ℕ × List ℕ) (line : Line) (table : Table) (old new : WalkPosition) (x : X)
@@ -125,7 +125,7 @@ cut_here {X} seen line old new x fault out mid out' so step part =
     let long : length (take count items) ≡ count = simp length-take (omega arith) in
     let at : minimum + length (take count items) ≡ (seen x).0 = let index = given.index in omega arith in
     let rest : List ℕ = lines_from line (minimum + length (take count items)) (drop count items) in
-    let split : all_lines line table ≡ lines_of line table count ++ rest =
+    let split : all_lines line table ≡ item_lines line table count ++ rest =
     ap (lines_from line minimum) (sym (take-append-drop count items))
     ∙ lines_append line minimum (take count items) (drop count items) in
     let next : rest ≡ line (seen x).0 (seen x).1 ++ lines_from line (suc (seen x).0) (drop (suc count) items) =
@@ -137,7 +137,7 @@ cut_here {X} seen line old new x fault out mid out' so step part =
     (record {
       holds = so.lines.holds;
       received =
-          record { done = lines_of line table count; got = so.lines.added; left = split };
+          record { done = item_lines line table count; got = so.lines.added; left = split };
     }) part
 
 -- where the output fails within the next line

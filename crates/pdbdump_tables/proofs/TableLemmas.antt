@@ -22,7 +22,7 @@ use Rattle.pdb_frames.specs.declared.frame_data.FrameData.{FrameData}
 use Rattle.pdbdump_rows.specs.declared.form.Form.{Form}
 use Rattle.pdbdump_rows.specs.Lines.{row_text}
 use Rattle.pdbdump_rows.specs.TableRows.{section_row, omap_row, frame_row}
-use Rattle.pdbdump_tables.specs.Tables.{section_lines, omap_lines, frame_lines, rises, name_lines, name_shown, names_from}
+use Rattle.pdbdump_tables.specs.Tables.{section_lines, omap_lines, frame_lines, omap_rises, offset_name_lines, name_shown, names_from}
 use Rattle.pdbdump_tables.specs.Tables.{next_place}
 
 -- the line of a first record stands before those of the others
@@ -84,26 +84,26 @@ cut_end stream {size} is cut =
 
 -- ---- the order of an OMAP table
 
-rises-from_sorted : (highest : ℕ) (records : List OmapValue) → IsSortedBySource records
-    → highest ≤ next_source records highest → rises highest records ≡ true
-rises-from_sorted highest [] sorted first = refl
-rises-from_sorted highest (mapping ∷ []) sorted first =
+omap_rises-from_sorted : (highest : ℕ) (records : List OmapValue) → IsSortedBySource records
+    → highest ≤ next_source records highest → omap_rises highest records ≡ true
+omap_rises-from_sorted highest [] sorted first = refl
+omap_rises-from_sorted highest (mapping ∷ []) sorted first =
     and_from (leb highest mapping.source) true (le-leb highest mapping.source first) refl
-rises-from_sorted highest (mapping ∷ next ∷ records) sorted first =
-    and_from (leb highest mapping.source) (rises mapping.source (next ∷ records)) (le-leb highest mapping.source first)
-    (rises-from_sorted mapping.source (next ∷ records) (sorted-rest mapping (next ∷ records) sorted)
+omap_rises-from_sorted highest (mapping ∷ next ∷ records) sorted first =
+    and_from (leb highest mapping.source) (omap_rises mapping.source (next ∷ records)) (le-leb highest mapping.source first)
+    (omap_rises-from_sorted mapping.source (next ∷ records) (sorted-rest mapping (next ∷ records) sorted)
     (sorted 0 1 mapping (omega arith) (omega arith)))
 
-rises_is : (highest : ℕ) (records : List OmapValue) → order.rises highest records ≡ rises highest records
+rises_is : (highest : ℕ) (records : List OmapValue) → order.rises highest records ≡ omap_rises highest records
 rises_is highest [] = refl
 rises_is highest (mapping ∷ records) = ap (λ (b : Bool). leb highest mapping.source && b)
     (rises_is mapping.source records)
 
 -- a test of the order is the one that is defined
 pub rises_as : (records : List OmapValue) (test : Bool) → IsTrue test ↔ IsSortedBySource records
-    → test ≡ rises 0 records
-rises_as records true is = sym (rises-from_sorted 0 records (is.0 refl) (omega arith))
-rises_as records false is = elim (cases_Bool (rises 0 records)) [
+    → test ≡ omap_rises 0 records
+rises_as records true is = sym (omap_rises-from_sorted 0 records (is.0 refl) (omega arith))
+rises_as records false is = elim (cases_Bool (omap_rises 0 records)) [
   | inl risen ↦ absurd (false≢true (is.1 (sorted-at_end 0 [] records (sym (rises_is 0 records ∙ risen)) refl)))
   | inr fallen ↦ sym fallen
 ]
@@ -146,8 +146,8 @@ names_first most names place name read = rw read refl
 -- the line of a name that is read stands first
 pub name_first : (form : Form) (all at : ℕ) (names : List ℕ) (place : ℕ) (name : List ℕ) → at < all
     → name_of names place ≡ Ok name
-    → name_lines form (names_from (all - at) names place) ≡ row_text form (name_shown (place, name))
-    ++ name_lines form (names_behind (all - (at + 1)) names place name)
+    → offset_name_lines form (names_from (all - at) names place) ≡ row_text form (name_shown (place, name))
+    ++ offset_name_lines form (names_behind (all - (at + 1)) names place name)
 name_first form all at names place name within read =
     let left : all - at ≡ suc (all - (at + 1)) = omega (arith, within) in
     rw (left, names_first (all - (at + 1)) names place name read) refl
@@ -155,26 +155,26 @@ name_first form all at names place name within read =
 -- the line of a name that is read stands before those of the others
 pub name_step : (form : Form) (all at : ℕ) (names : List ℕ) (place : ℕ) (name : List ℕ) (next : ℕ) → at < all
     → name_of names place ≡ Ok name → Some next ≡ next_place place (length name)
-    → name_lines form (names_from (all - at) names place) ≡ row_text form (name_shown (place, name))
-    ++ name_lines form (names_from (all - (at + 1)) names next)
+    → offset_name_lines form (names_from (all - at) names place) ≡ row_text form (name_shown (place, name))
+    ++ offset_name_lines form (names_from (all - (at + 1)) names next)
 name_step form all at names place name next within read more =
     let left : all - at ≡ suc (all - (at + 1)) = omega (arith, within) in
     rw (left, names_next (all - (at + 1)) names place name next read (sym more)) refl
 
 pub name_end : (form : Form) (all at : ℕ) (names : List ℕ) (place : ℕ) (name : List ℕ) → at < all
     → name_of names place ≡ Ok name → None ≡ next_place place (length name)
-    → name_lines form (names_from (all - at) names place) ≡ row_text form (name_shown (place, name)) ++ []
+    → offset_name_lines form (names_from (all - at) names place) ≡ row_text form (name_shown (place, name)) ++ []
 name_end form all at names place name within read more =
     let left : all - at ≡ suc (all - (at + 1)) = omega (arith, within) in
     rw (left, names_last (all - (at + 1)) names place name read (sym more)) refl
 
 -- no line is left where no name stands, or where as many as there may be are written
 pub name_none : (form : Form) (most : ℕ) (names : List ℕ) (place : ℕ) (e : Refusal) → name_of names place ≡ Err e
-    → name_lines form (names_from most names place) ≡ []
-name_none form most names place e refused = ap (name_lines form) (names_none most names place e refused)
+    → offset_name_lines form (names_from most names place) ≡ []
+name_none form most names place e refused = ap (offset_name_lines form) (names_none most names place e refused)
 
 pub name_most : (form : Form) (all at : ℕ) (names : List ℕ) (place : ℕ) → all ≤ at
-    → name_lines form (names_from (all - at) names place) ≡ []
+    → offset_name_lines form (names_from (all - at) names place) ≡ []
 name_most form all at names place over =
     let none : all - at ≡ 0 = omega (arith, over) in
-    rw none (ap (name_lines form) (names_end names place))
+    rw none (ap (offset_name_lines form) (names_end names place))

@@ -22,7 +22,7 @@ use Rattle.pdb_tpi.proofs.StepLemmas.{step_err, step_gives, step_none, step_some
 use Rattle.pdb_tpi.proofs.WalkLemmas.{nth_some}
 use Rattle.pdbdump_tables.specs.Tally.{IsTally}
 use Rattle.pdbdump_tables.specs.declared.kinds.Tally.{Tally}
-use Rattle.pdbdump_tables.specs.Kinds.{continued_from, continued_of, count_of, goes_on, stop_of}
+use Rattle.pdbdump_tables.specs.Kinds.{continued_from, continued_of, count_of, goes_on, walk_stop}
 
 -- ---- how many items there can be
 
@@ -241,24 +241,24 @@ counted_all table stand counts records continued counting past =
     )
 
 stop_at : (stand : WalkPosition) (rest : List ℕ) (fault : Refusal) → step_at_end stand rest ≡ Err fault
-    → stop_of rest ≡ Some fault
+    → walk_stop rest ≡ Some fault
 stop_at stand [] fault e = let none : Option (ℕ × List ℕ) = None in absurd (ok_is_no_err (none, stand) fault e)
 stop_at stand (byte ∷ rest) fault e = ap (λ (f : Refusal). Some f)
     (err_is {A = Option (ℕ × List ℕ) × WalkPosition} (fault_of (byte ∷ rest)) fault e)
 
 -- the fault of a step that is refused is that at which the walk stops
 pub stops_with : {X : Type 0} (seen : X → ℕ × List ℕ) (table : Table) (old new : WalkPosition) (e : Error)
-    → old.table ≡ table → IsStep seen old (Err e) new → stop_of (walk_rest table) ≡ Some (refusal_of e)
+    → old.table ≡ table → IsStep seen old (Err e) new → walk_stop (walk_rest table) ≡ Some (refusal_of e)
 stops_with seen table old new e same step =
     let past = slice_get_past (walk old.table) (steps_taken old) (step_err seen old new e step).past in
-    ap (λ (t : Table). stop_of (walk_rest t)) (sym same)
+    ap (λ (t : Table). walk_stop (walk_rest t)) (sym same)
     ∙ stop_at old (walk_rest old.table) (refusal_of e) (sym (step_stops old past) ∙ step.gives)
 
 -- where a step gives nothing the walk does not stop
 pub stops_not : {X : Type 0} (seen : X → ℕ × List ℕ) (table : Table) (old new : WalkPosition) → old.table ≡ table
-    → IsStep seen old (Ok None) new → stop_of (walk_rest table) ≡ None
-stops_not seen table old new same step = ap (λ (t : Table). stop_of (walk_rest t)) (sym same)
-    ∙ ap stop_of (step_none seen old new step).1
+    → IsStep seen old (Ok None) new → walk_stop (walk_rest table) ≡ None
+stops_not seen table old new same step = ap (λ (t : Table). walk_stop (walk_rest t)) (sym same)
+    ∙ ap walk_stop (step_none seen old new step).1
 
 -- no kind has more records than there are
 pub counts_few : (table : Table) (tally : Tally) → IsTally table tally → (leaf : ℕ)

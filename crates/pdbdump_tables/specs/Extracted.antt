@@ -51,18 +51,18 @@ abbrev pub listed_role_of : List ℕ → Option ListedRole
 listed_role_of word = either_role (section_role word) (address_role word)
 
 -- the stream that has a role
-abbrev pub index_of : DBIExtraStreams → ListedRole → StreamIndex
-index_of streams roles.Fpo = streams.fpo
-index_of streams roles.Exception = streams.exception
-index_of streams roles.Fixup = streams.fixup
-index_of streams roles.OmapToSrc = streams.omap_to_src
-index_of streams roles.OmapFromSrc = streams.omap_from_src
-index_of streams roles.SectionHeaders = streams.section_headers
-index_of streams roles.TokenRidMap = streams.token_rid_map
-index_of streams roles.Xdata = streams.xdata
-index_of streams roles.Pdata = streams.pdata
-index_of streams roles.Framedata = streams.framedata
-index_of streams roles.OriginalSectionHeaders = streams.original_section_headers
+abbrev pub stream_of_role : DBIExtraStreams → ListedRole → StreamIndex
+stream_of_role streams roles.Fpo = streams.fpo
+stream_of_role streams roles.Exception = streams.exception
+stream_of_role streams roles.Fixup = streams.fixup
+stream_of_role streams roles.OmapToSrc = streams.omap_to_src
+stream_of_role streams roles.OmapFromSrc = streams.omap_from_src
+stream_of_role streams roles.SectionHeaders = streams.section_headers
+stream_of_role streams roles.TokenRidMap = streams.token_rid_map
+stream_of_role streams roles.Xdata = streams.xdata
+stream_of_role streams roles.Pdata = streams.pdata
+stream_of_role streams roles.Framedata = streams.framedata
+stream_of_role streams roles.OriginalSectionHeaders = streams.original_section_headers
 
 -- a number, or the refusal if there is none
 abbrev pub number_or_refused : Option ℕ → Answer ℕ
@@ -72,7 +72,7 @@ number_or_refused None = Err stream_name_not_found
 -- the number of the stream that the debug header gives a role
 unfoldable pub role_number : List ℕ → Head → ListedRole → Answer ℕ
 role_number file head role = file_roles file head
-    >>= λ streams. number_or_refused (stream_number (index_of streams role).0)
+    >>= λ streams. number_or_refused (stream_number (stream_of_role streams role).0)
 
 -- the number of the stream that has a role or else a name
 abbrev pub role_or_name : List ℕ → Head → List ℕ → Option ListedRole → Answer ℕ

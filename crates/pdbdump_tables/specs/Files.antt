@@ -13,7 +13,7 @@ use Rattle.pdbdump_rows.specs.Lines.{row_text}
 use Rattle.pdbdump_rows.specs.Row.{ShownRow, text}
 use Rattle.pdbdump_rows.specs.Row as rows
 use Rattle.pdbdump_tables.specs.Listing.{Listing, whole, with_lines_before, followed_by, listed_of}
-use Rattle.pdbdump_tables.specs.Tables.{sections_listing, omap_listing, frames_listing, name_lines, all_names}
+use Rattle.pdbdump_tables.specs.Tables.{sections_listing, omap_listing, frames_listing, offset_name_lines, all_names}
 
 -- the number of the stream of section headers: the given one, or that of the stream with this role
 unfoldable pub section_number : List ℕ → Head → Option ℕ → Answer (Option ℕ)
@@ -63,7 +63,7 @@ names_in file head None = file_string_table file head
 
 -- the names of a file
 unfoldable pub file_names : Form → List ℕ → Head → Option ℕ → Listing
-file_names form file head given = listed_of (λ names. whole (name_lines form (all_names names)))
+file_names form file head given = listed_of (λ names. whole (offset_name_lines form (all_names names)))
     (names_in file head given)
 
 -- the frames of a file, whose streams are found by role

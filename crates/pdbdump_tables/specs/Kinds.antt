@@ -30,8 +30,8 @@ abbrev pub of_count : ℕ → ℕ → KindCount
 of_count n leaf = record { leaf = leaf; count = n }
 
 -- the kinds that occur, in the order of their leaves
-abbrev pub present : (ℕ → ℕ) → List ℕ → List KindCount
-present count leaves = map (λ leaf. of_count (count leaf) leaf) (filter (λ leaf. not (count leaf == 0)) leaves)
+abbrev pub occurring_kinds : (ℕ → ℕ) → List ℕ → List KindCount
+occurring_kinds count leaves = map (λ leaf. of_count (count leaf) leaf) (filter (λ leaf. not (count leaf == 0)) leaves)
 
 -- the kinds that occur `n` times, in the order of their leaves
 abbrev pub equally : (ℕ → ℕ) → ℕ → List ℕ → List KindCount
@@ -86,9 +86,9 @@ abbrev pub kind_lines : Form → ℕ → List KindCount → List ℕ
 kind_lines form n kinds = flat_map (λ kind. row_text form (kind_shown n kind)) kinds
 
 -- the fault at which a walk stops before these bytes; none if no byte is left
-abbrev pub stop_of : List ℕ → Option Refusal
-stop_of [] = None
-stop_of (byte ∷ rest) = Some (fault_of (byte ∷ rest))
+abbrev pub walk_stop : List ℕ → Option Refusal
+walk_stop [] = None
+walk_stop (byte ∷ rest) = Some (fault_of (byte ∷ rest))
 
 -- the line of the fault at which a walk stops, if it does
 abbrev pub stop_line : Form → ℕ → Option Refusal → List ℕ
@@ -100,7 +100,7 @@ unfoldable pub table_lines : Form → ℕ → Table → List ℕ
 table_lines form n table =
     row_text form (table_shown n (length (walk table))
     (continued_of table) table.header.minimum_index table.header.maximum_index)
-    ++ (kind_lines form n (kinds_of (walk table)) ++ stop_line form n (stop_of (walk_rest table)))
+    ++ (kind_lines form n (kinds_of (walk table)) ++ stop_line form n (walk_stop (walk_rest table)))
 
 -- the lines of the table in a stream, or the line of its refusal
 abbrev pub table_by : Form → ℕ → Answer Table → List ℕ

@@ -95,8 +95,8 @@ id_shown form index table = do
   Ok (full_text form (id_row index (kind_of item) value), Ok [])
 
 -- the same for the table that a stream holds
-unfoldable pub type_at : Form → ℕ → List ℕ → Answer (List ℕ × Answer (List ℕ))
-type_at form index stream = table_of stream >>= type_shown form index
+unfoldable pub type_lines_at : Form → ℕ → List ℕ → Answer (List ℕ × Answer (List ℕ))
+type_lines_at form index stream = table_of stream >>= type_shown form index
 
-unfoldable pub id_at : Form → ℕ → List ℕ → Answer (List ℕ × Answer (List ℕ))
-id_at form index stream = table_of stream >>= id_shown form index
+unfoldable pub id_lines_at : Form → ℕ → List ℕ → Answer (List ℕ × Answer (List ℕ))
+id_lines_at form index stream = table_of stream >>= id_shown form index

@@ -11,8 +11,8 @@ use Rattle.pdb_tpi.specs.Table.{Table, table_of}
 use Rattle.pdb_tpi.specs.Walk.{fault_of}
 
 -- the lines of the first `count` items of a table
-abbrev pub lines_of : (ℕ → List ℕ → List ℕ) → Table → ℕ → List ℕ
-lines_of line table count = lines_from line table.header.minimum_index (take count (walk table))
+abbrev pub item_lines : (ℕ → List ℕ → List ℕ) → Table → ℕ → List ℕ
+item_lines line table count = lines_from line table.header.minimum_index (take count (walk table))
 
 -- the lines of all items of a table
 abbrev pub all_lines : (ℕ → List ℕ → List ℕ) → Table → List ℕ
@@ -35,7 +35,7 @@ pub data IsWalked (line : ℕ → List ℕ → List ℕ) (table : Table) (out ou
   whole : walk_rest table ≡ [] → Gets out out' (all_lines line table) → IsWalked line table out out' (Ok tt)
   stopped : (fault : Error) → walk_rest table ≢ [] → fault_of (walk_rest table) ≡ refusal_of fault
       → Gets out out' (all_lines line table) → IsWalked line table out out' (Err fault)
-  lacking : (count : ℕ) → Gets out out' (lines_of line table count) → IsWalked line table out out' (Err OutOfMemory)
+  lacking : (count : ℕ) → Gets out out' (item_lines line table count) → IsWalked line table out out' (Err OutOfMemory)
   cut : (fault : Error) → IsFailed out' fault → IsPrefix (all_lines line table) out.contents out'.contents
       → IsWalked line table out out' (Err fault)
 

@@ -64,24 +64,24 @@ stream_shown page_size n size role name =
 
 -- What is known of a file's streams apart from their bytes: where the directory places them, their roles and their
 -- names.
-pub record Known : Type 0 where
+pub record KnownStreams : Type 0 where
   pub layout : LayoutValue
   pub roles : DBIExtraStreams
   pub names : List Named
 
 -- the line of a stream with this number and this size
-abbrev pub size_line : Form → Known → ℕ → ℕ → List ℕ
+abbrev pub size_line : Form → KnownStreams → ℕ → ℕ → List ℕ
 size_line form known n size = row_text form
     (stream_shown known.layout.head.geometry.page_size n size (role_of known.roles n) (name_of_stream known.names n))
 
 -- the line of the stream with this number, by its size; nothing, if there is no such stream
-abbrev pub sized_line : Form → Known → ℕ → Answer ℕ → List ℕ
+abbrev pub sized_line : Form → KnownStreams → ℕ → Answer ℕ → List ℕ
 sized_line form known n (Ok size) = size_line form known n size
 sized_line form known n (Err (stream_not_found m)) = []
 sized_line form known n (Err refusal) = refused_line form (parts.Stream n) refusal
 
 -- the line of stream n, whose size the directory has
-unfoldable pub stream_line : Form → Known → ℕ → List ℕ
+unfoldable pub stream_line : Form → KnownStreams → ℕ → List ℕ
 stream_line form known n = sized_line form known n (size_by known.layout n)
 
 -- how many streams the directory has that a number of 16 bits can name
@@ -90,6 +90,6 @@ nameable (Ok count) = min count no_stream
 nameable (Err refusal) = 0
 
 -- the lines of all streams
-unfoldable pub stream_lines : Form → Known → List ℕ
+unfoldable pub stream_lines : Form → KnownStreams → List ℕ
 stream_lines form known =
     flat_map (stream_line form known) (range_with_len 0 (nameable (stream_count_in known.layout.directory)))

@@ -45,27 +45,27 @@ refusal_line form part (Ok said) = []
 refusal_line form part (Err refusal) = refused_line form part refusal
 
 -- no stream, and the roles if no stream has one
-abbrev pub none : StreamIndex
-none = record { 0 = no_stream }
+abbrev pub no_stream : StreamIndex
+no_stream = record { 0 = no_stream }
 
 abbrev pub no_roles : DBIExtraStreams
 no_roles = record {
-  fpo = none;
-  exception = none;
-  fixup = none;
-  omap_to_src = none;
-  omap_from_src = none;
-  section_headers = none;
-  token_rid_map = none;
-  xdata = none;
-  pdata = none;
-  framedata = none;
-  original_section_headers = none;
+  fpo = no_stream;
+  exception = no_stream;
+  fixup = no_stream;
+  omap_to_src = no_stream;
+  omap_from_src = no_stream;
+  section_headers = no_stream;
+  token_rid_map = no_stream;
+  xdata = no_stream;
+  pdata = no_stream;
+  framedata = no_stream;
+  original_section_headers = no_stream;
 }
 
 -- the streams that have names
-unfoldable pub names_of : List ℕ → Head → Answer (List Named)
-names_of file head = file_information file head >>= stream_names_of
+unfoldable pub streams_with_names : List ℕ → Head → Answer (List Named)
+streams_with_names file head = file_information file head >>= stream_names_of
 
 -- the lines of the streams of a file, behind the line of the refusal of their names, if these are refused
 abbrev pub named_part : Form → LayoutValue → DBIExtraStreams → Answer (List Named) → List ℕ
@@ -77,7 +77,7 @@ named_part form layout roles names =
 unfoldable pub streams_part : Form → LayoutValue → List ℕ → Head → List ℕ
 streams_part form layout file head =
     refusal_line form parts.Roles (file_roles file head)
-    ++ named_part form layout (said_or no_roles (file_roles file head)) (names_of file head)
+    ++ named_part form layout (said_or no_roles (file_roles file head)) (streams_with_names file head)
 
 -- the lines of the tables of types and of ids
 unfoldable pub tables_part : Form → List ℕ → Head → List ℕ
@@ -99,12 +99,12 @@ unfoldable pub parts_lines : Form → List ℕ → Head → List ℕ
 parts_lines form file head = parts_by form file head (counted_layout file)
 
 -- the line of a file's pages, or that of the refusal of its header
-abbrev pub pages_by : Form → ℕ → Answer (ℕ × ℕ) → List ℕ
-pages_by form size (Ok pages) = row_text form (pages_shown pages size)
-pages_by form size (Err refusal) = refused_line form parts.Header refusal
+abbrev pub pages_text : Form → ℕ → Answer (ℕ × ℕ) → List ℕ
+pages_text form size (Ok pages) = row_text form (pages_shown pages size)
+pages_text form size (Err refusal) = refused_line form parts.Header refusal
 
 unfoldable pub pages_line : Form → List ℕ → List ℕ
-pages_line form file = pages_by form (length file) (pages_of file)
+pages_line form file = pages_text form (length file) (pages_of file)
 
 -- the summary of a file
 abbrev pub summary_listing : Form → List ℕ → Head → Listing

@@ -38,9 +38,9 @@ abbrev pub omap_lines : Form → List OmapValue → List ℕ
 omap_lines form records = flat_map (λ mapping. row_text form (omap_row mapping)) records
 
 -- whether no source is below that of the record before it, and the first isn't below `highest`
-abbrev pub rises : ℕ → List OmapValue → Bool
-rises highest [] = true
-rises highest (mapping ∷ records) = nat_le highest mapping.source && rises mapping.source records
+abbrev pub omap_rises : ℕ → List OmapValue → Bool
+omap_rises highest [] = true
+omap_rises highest (mapping ∷ records) = nat_le highest mapping.source && omap_rises mapping.source records
 
 -- the row that says of a whole table whether its sources never decrease
 abbrev pub order_shown : Bool → ShownRow
@@ -48,7 +48,7 @@ order_shown sorted = (codes "is_sorted", flag sorted) ∷ []
 
 -- the lines of the records of an OMAP table, and behind them the line that says whether it is sorted
 abbrev pub omap_all : Form → List OmapValue → List ℕ
-omap_all form records = omap_lines form records ++ row_text form (order_shown (rises 0 records))
+omap_all form records = omap_lines form records ++ row_text form (order_shown (omap_rises 0 records))
 
 -- the records of the OMAP table that a stream is
 abbrev pub omap_listing : Form → List ℕ → Listing
@@ -84,5 +84,5 @@ abbrev pub name_shown : ℕ × List ℕ → ShownRow
 name_shown name = (codes "offset", hexadecimal name.0) ∷ (codes "name", text name.1) ∷ []
 
 -- the lines of names
-abbrev pub name_lines : Form → List (ℕ × List ℕ) → List ℕ
-name_lines form names = flat_map (λ name. row_text form (name_shown name)) names
+abbrev pub offset_name_lines : Form → List (ℕ × List ℕ) → List ℕ
+offset_name_lines form names = flat_map (λ name. row_text form (name_shown name)) names

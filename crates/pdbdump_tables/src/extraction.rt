@@ -3,7 +3,7 @@
 ghost use Rattle.std.specs.Prelude.{◌≡◌, drop, take};
 ghost use Rattle.pdb_msf.specs.File.{ReadsFile};
 ghost use Rattle.pdbdump_tables.specs.Listing.{IsListed};
-ghost use Rattle.pdbdump_tables.specs.Extracted.{address_role, extraction, fixed_stream, index_of, listed_role_of, part_of, role_number, section_role, stream_meant};
+ghost use Rattle.pdbdump_tables.specs.Extracted.{address_role, extraction, fixed_stream, stream_of_role, listed_role_of, part_of, role_number, section_role, stream_meant};
 ghost use Rattle.pdb_file.specs.File.{file_number};
 
 use pdb_base::{Error, Result, StreamIndex};
@@ -97,7 +97,7 @@ fn role_of_word(word: &str) -> Option<ListedRole>
 
 /// Returns the stream that has a role.
 fn index_of(streams: &DBIExtraStreams, role: ListedRole) -> StreamIndex
-    ensures { result ≡ index_of streams.now role }
+    ensures { result ≡ stream_of_role streams.now role }
 {
     match role {
         ListedRole::Fpo => streams.fpo,

@@ -2,9 +2,9 @@
 
 ghost use Rattle.pdb_values.specs.IdValue.{id_value};
 ghost use Rattle.pdbdump_rows.specs.IdRows.{id_row};
-ghost use Rattle.pdbdump_rows.specs.Line.{Ends};
+ghost use Rattle.pdbdump_rows.specs.Line.{EndsLine};
 ghost use Rattle.pdbdump_rows.specs.Lines.{full_text};
-ghost use Rattle.pdbdump_tables.specs.Lines.{id_at, id_line, id_shown};
+ghost use Rattle.pdbdump_tables.specs.Lines.{id_lines_at, id_line, id_shown};
 ghost use Rattle.pdbdump_tables.specs.Listed.{IsTableListed, IsShown, IsWalked};
 
 use crate::item_line::make_id;
@@ -60,7 +60,7 @@ fn make_full(
     value: &IdData<'_>,
     line: &mut Line,
 ) -> Result<()>
-    ensures { Ends (full_text form (id_row index leaf (id_value value.now))) line.new result }
+    ensures { EndsLine (full_text form (id_row index leaf (id_value value.now))) line.new result }
 {
     line.begin_full(form);
     let added = show_id(alloc, line, index, leaf, value);
@@ -98,7 +98,7 @@ pub fn id_at<W: Write>(
     form: Form,
     out: &mut Output<W>,
 ) -> Result<()>
-    ensures { IsShown (id_at form index stream) out.old out.new result }
+    ensures { IsShown (id_lines_at form index stream) out.old out.new result }
 {
     let table = IdInformation::parse(stream)?;
     let ids = OpenTable::new(alloc, table)?;

@@ -1,6 +1,6 @@
 //! The line of an item of a table.
 
-ghost use Rattle.pdbdump_rows.specs.Line.{Ends, ShowsFields};
+ghost use Rattle.pdbdump_rows.specs.Line.{EndsLine, ShowsFields};
 ghost use Rattle.pdbdump_tables.specs.Lines.{id_answer_row, id_line, type_answer_row, type_line};
 ghost use Rattle.pdb_tpi.specs.Item.{item_bytes, index_of};
 ghost use Rattle.pdb_tpi.specs.Record.{id_of, kind_of, type_of};
@@ -36,7 +36,7 @@ pub(crate) fn make_type(
     item: &Item<'_, TypeIndex>,
     line: &mut Line,
 ) -> Result<()>
-    ensures { Ends (type_line form (index_of item.now).0 (item_bytes item.now)) line.new result }
+    ensures { EndsLine (type_line form (index_of item.now).0 (item_bytes item.now)) line.new result }
 {
     line.begin(form);
     let added = show_type_item(alloc, item, line);
@@ -68,7 +68,7 @@ pub(crate) fn make_id(
     item: &Item<'_, IdIndex>,
     line: &mut Line,
 ) -> Result<()>
-    ensures { Ends (id_line form (index_of item.now).0 (item_bytes item.now)) line.new result }
+    ensures { EndsLine (id_line form (index_of item.now).0 (item_bytes item.now)) line.new result }
 {
     line.begin(form);
     let added = show_id_item(alloc, item, line);

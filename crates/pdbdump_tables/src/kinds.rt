@@ -3,7 +3,7 @@
 ghost use Rattle.std.specs.Prelude.{◌≡◌, ℕ, ◌+◌, ◌<◌, ◌≤◌, ◌^◌, length, slice_index_or, slice_set, vec_len, IfOk, if◌then◌else◌};
 ghost use Rattle.std.specs.List.{range_with_len};
 ghost use Rattle.pdb_base.specs.Memory.{FailsOnlyForMemory};
-ghost use Rattle.pdbdump_tables.specs.Kinds.{goes_on, present, by_frequency};
+ghost use Rattle.pdbdump_tables.specs.Kinds.{goes_on, occurring_kinds, by_frequency};
 ghost use Rattle.pdbdump_tables.specs.Tally.{IsTally, IsWalked};
 ghost use Rattle.pdb_tpi.specs.Item.{item_bytes, index_of};
 
@@ -30,7 +30,7 @@ pub struct KindCount {
 fn kinds_present(alloc: Global, counts: &[u64]) -> Result<Vec<KindCount>>
     requires { length counts.now ≡ 0x10000 }
     ensures present { IfOk result (λ kinds. kinds.items ≡
-        present (λ leaf. slice_index_or counts.now leaf 0) (range_with_len 0 0x10000)) }
+        occurring_kinds (λ leaf. slice_index_or counts.now leaf 0) (range_with_len 0 0x10000)) }
     ensures memory { FailsOnlyForMemory result }
 {
     let mut kinds = Vec::new(alloc);

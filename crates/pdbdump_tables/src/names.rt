@@ -3,7 +3,7 @@
 ghost use Rattle.std.specs.Prelude.{◌≡◌};
 ghost use Rattle.pdbdump_rows.specs.Line.{ShowsFields};
 ghost use Rattle.pdbdump_tables.specs.Listing.{IsListed, whole};
-ghost use Rattle.pdbdump_tables.specs.Tables.{all_names, name_lines, name_shown, next_place};
+ghost use Rattle.pdbdump_tables.specs.Tables.{all_names, offset_name_lines, name_shown, next_place};
 
 use pdb_base::{Error, RawString, Result};
 use pdb_output::Output;
@@ -37,7 +37,7 @@ pub(crate) fn write_table<W: Write>(
     form: Form,
     out: &mut Output<W>,
 ) -> Result<()>
-    ensures { IsListed (whole (name_lines form (all_names table.now)))
+    ensures { IsListed (whole (offset_name_lines form (all_names table.now)))
         out.old out.new result }
 {
     let mut line = Line::new(alloc);

@@ -4,7 +4,7 @@ ghost use Rattle.std.specs.Prelude.{◌≡◌};
 ghost use Rattle.pdbdump_rows.specs.Lines.{row_text};
 ghost use Rattle.pdb_output.specs.Output.{Writes};
 ghost use Rattle.pdbdump_tables.specs.Listing.{IsListed};
-ghost use Rattle.pdbdump_tables.specs.Tables.{omap_all, omap_lines, omap_listing, order_shown, rises};
+ghost use Rattle.pdbdump_tables.specs.Tables.{omap_all, omap_lines, omap_listing, order_shown, omap_rises};
 
 use pdb_base::{Error, Result, Stream};
 use pdb_output::Output;
@@ -32,7 +32,7 @@ fn write_records<W: Write>(
 
 /// Returns whether no record has a source below that of the record before it.
 fn is_sorted(table: &OMAPTable) -> bool
-    ensures { result ≡ rises 0 table.now }
+    ensures { result ≡ omap_rises 0 table.now }
 {
     table.is_sorted()
 }

@@ -10,7 +10,7 @@ ghost use Rattle.pdb_output.specs.Output.{Writes, done_of};
 ghost use Rattle.pdbdump_tables.specs.Known.{known_view};
 ghost use Rattle.pdbdump_tables.specs.Refused.{refused_line};
 ghost use Rattle.pdbdump_tables.specs.Streams.{stream_lines};
-ghost use Rattle.pdbdump_tables.specs.Summary.{counted_layout, named_part, names_of, no_roles, pages_line, pages_of, pages_shown, parts_lines, said_or, streams_part, summary_listing, tables_part, refusal_line};
+ghost use Rattle.pdbdump_tables.specs.Summary.{counted_layout, named_part, streams_with_names, no_roles, pages_line, pages_of, pages_shown, parts_lines, said_or, streams_part, summary_listing, tables_part, refusal_line};
 ghost use Rattle.pdbdump_tables.specs.declared.parts.Part.TheVariants as parts;
 ghost use Rattle.pdbdump_tables.specs.Listing.{IsListed};
 
@@ -143,7 +143,7 @@ fn write_named<W: Write>(
 
 /// Writes the streams of a file. If their names can't be read, writes the error first, and no
 /// stream has a name.
-#[tactic(auto, unfolding(crate::specs::Summary::names_of), using(pdb_output::proofs::lemmas::Written::writing))]
+#[tactic(auto, unfolding(crate::specs::Summary::streams_with_names), using(pdb_output::proofs::lemmas::Written::writing))]
 fn write_all_streams<W: Write>(
     alloc: Global,
     file: &mut PDB<Vec<u8>>,
@@ -152,7 +152,7 @@ fn write_all_streams<W: Write>(
     form: Form,
     out: &mut Output<W>,
 ) -> Result<()>
-    ensures lines { Writes (named_part form layout.now roles (names_of file.old.source.items file.old.head))
+    ensures lines { Writes (named_part form layout.now roles (streams_with_names file.old.source.items file.old.head))
         out.old out.new result }
     ensures bytes { file.new.source.items ≡ file.old.source.items }
     ensures head { file.new.head ≡ file.old.head }

@@ -4,9 +4,9 @@ ghost use Rattle.std.specs.Prelude.{◌≡◌, IfOk};
 ghost use Rattle.pdb_base.specs.Memory.{FailsOnlyForMemory};
 ghost use Rattle.pdb_values.specs.TypeView.{type_value};
 ghost use Rattle.pdbdump_rows.specs.TypeRows.{type_row};
-ghost use Rattle.pdbdump_rows.specs.Line.{Ends};
+ghost use Rattle.pdbdump_rows.specs.Line.{EndsLine};
 ghost use Rattle.pdbdump_rows.specs.Lines.{full_text};
-ghost use Rattle.pdbdump_tables.specs.Lines.{type_at, type_line, type_shown};
+ghost use Rattle.pdbdump_tables.specs.Lines.{type_lines_at, type_line, type_shown};
 ghost use Rattle.pdbdump_tables.specs.Listed.{IsTableListed, IsShown, IsWalked};
 
 use crate::item_line::make_type;
@@ -94,7 +94,7 @@ fn make_full(
     value: &TypeData<'_>,
     line: &mut Line,
 ) -> Result<()>
-    ensures { Ends (full_text form (type_row index leaf (type_value value.now))) line.new result }
+    ensures { EndsLine (full_text form (type_row index leaf (type_value value.now))) line.new result }
 {
     line.begin_full(form);
     let added = show_type(alloc, line, index, leaf, value);
@@ -138,7 +138,7 @@ pub fn type_at<W: Write>(
     form: Form,
     out: &mut Output<W>,
 ) -> Result<()>
-    ensures { IsShown (type_at form index stream) out.old out.new result }
+    ensures { IsShown (type_lines_at form index stream) out.old out.new result }
 {
     let table = TypeInformation::parse(stream)?;
     let types = open_table(alloc, table, TypeIndex(index))?;

@@ -7,8 +7,8 @@ use Rattle.pdb_base.specs.declared.error.Error.{Error}
 use Rattle.pdb_output.specs.Output.{OutputState, Writes}
 use Rattle.pdbdump_rows.specs.declared.form.Form.{Form}
 use Rattle.pdbdump_rows.specs.declared.form.Form.TheVariants.{Text, Json}
-use Rattle.pdbdump_rows.specs.Line.{Adds, Ends, IsLineAppended, IsLineEnded, IsLineWritten, LineState, ShowsFields, all_shown, begun}
-use Rattle.pdbdump_rows.specs.Line.{begun_full, line_bytes, ending, opening, add_field}
+use Rattle.pdbdump_rows.specs.Line.{Adds, EndsLine, IsLineAppended, IsLineEnded, IsLineWritten, LineState, ShowsFields, all_shown, begun}
+use Rattle.pdbdump_rows.specs.Line.{begun_full, line_bytes, ending, line_opening, add_field}
 use Rattle.pdbdump_rows.specs.Lines.{field_line, field_text, fields_text, full_text, is_shown, row_text, separate, separator}
 use Rattle.pdbdump_rows.specs.Row.{ShownField, ShownRow}
 
@@ -30,7 +30,7 @@ unfolding add_field
 shows_after form bytes field holds = cond-true (is_shown form field) _ _ holds
 
 shows_first : (form : Form) (field : ShownField) → is_shown form field ≡ true
-    → add_field (begun form) field ≡ after form (opening form ++ field_text form field)
+    → add_field (begun form) field ≡ after form (line_opening form ++ field_text form field)
 unfolding add_field
 shows_first form field holds = cond-true (is_shown form field) _ _ holds
 
@@ -73,7 +73,7 @@ ended_after : (form : Form) (bytes : List ℕ) → line_bytes (after form bytes)
 unfolding line_bytes
 ended_after form bytes = refl
 
-ended_begun : (form : Form) → line_bytes (begun form) ≡ opening form ++ ending form
+ended_begun : (form : Form) → line_bytes (begun form) ≡ line_opening form ++ ending form
 unfolding line_bytes
 ended_begun form = refl
 
@@ -83,19 +83,19 @@ ended_full bytes empty = append-nil bytes
 
 -- the fields between what stands before and behind them
 whole : Form → List ShownField → List ℕ
-whole form row = opening form ++ separate (separator form) (field_text form) row ++ ending form
+whole form row = line_opening form ++ separate (separator form) (field_text form) row ++ ending form
 
 all_begun : (form : Form) (row : ShownRow)
     → line_bytes (all_shown (begun form) row) ≡ whole form (filter (is_shown form) row)
 unfolding whole
-all_begun form [] = ended_begun form ∙ ap (λ (front : List ℕ). front ++ ending form) (sym (append-nil (opening form)))
+all_begun form [] = ended_begun form ∙ ap (λ (front : List ℕ). front ++ ending form) (sym (append-nil (line_opening form)))
 all_begun form (field ∷ row) = ⊎_elim
     (λ (holds : is_shown form field ≡ true).
     ap (λ (line : LineState). line_bytes (all_shown line row)) (shows_first form field holds)
-    ∙ ap line_bytes (all_after form (opening form ++ field_text form field) row)
-    ∙ ended_after form ((opening form ++ field_text form field) ++ rest_text form row)
+    ∙ ap line_bytes (all_after form (line_opening form ++ field_text form field) row)
+    ∙ ended_after form ((line_opening form ++ field_text form field) ++ rest_text form row)
     ∙ ap (λ (front : List ℕ). front ++ ending form)
-    (append_assoc (opening form) (field_text form field) (rest_text form row))
+    (append_assoc (line_opening form) (field_text form field) (rest_text form row))
     ∙ ap (whole form) (sym (kept form field row holds)))
     (λ (fails : is_shown form field ≡ false).
     ap (λ (line : LineState). line_bytes (all_shown line row)) (shows_not (begun form) field fails)
@@ -135,29 +135,29 @@ full_is Json row = line_is Json row
 
 -- a line with these fields ends as the one line of them
 pub ends_line : (form : Form) (start : LineState) (row : ShownRow) (old new : LineState)
-    (result : Result (Unit {0}) Error) → old ≡ all_shown start row → start ≡ begun form → Ends (line_bytes old) new result
-    → Ends (row_text form row) new result
+    (result : Result (Unit {0}) Error) → old ≡ all_shown start row → start ≡ begun form → EndsLine (line_bytes old) new result
+    → EndsLine (row_text form row) new result
 ends_line form start row old new result is first ends =
-    subst (λ (text : List ℕ). Ends text new result)
+    subst (λ (text : List ℕ). EndsLine text new result)
     (ap line_bytes (is ∙ ap (λ (line : LineState). all_shown line row) first) ∙ line_is form row) ends
 
 pub ends_full : (form : Form) (start : LineState) (row : ShownRow) (old new : LineState)
-    (result : Result (Unit {0}) Error) → old ≡ all_shown start row → start ≡ begun_full form → Ends (line_bytes old) new result
-    → Ends (full_text form row) new result
+    (result : Result (Unit {0}) Error) → old ≡ all_shown start row → start ≡ begun_full form → EndsLine (line_bytes old) new result
+    → EndsLine (full_text form row) new result
 ends_full form start row old new result is first ends =
-    subst (λ (text : List ℕ). Ends text new result)
+    subst (λ (text : List ℕ). EndsLine text new result)
     (ap line_bytes (is ∙ ap (λ (line : LineState). all_shown line row) first) ∙ full_is form row) ends
 
 -- ---- what a function that ends a line is proved of
 
 pub row_ended : (form : Form) (row : ShownRow) (start old new : LineState) (added result : Result (Unit {0}) Error)
     → IsLineEnded old added new result → ShowsFields row start old added → start ≡ begun form
-    → Ends (row_text form row) new result
+    → EndsLine (row_text form row) new result
 row_ended form row start old new added result is shows first = is.row form start row shows first
 
 pub full_ended : (form : Form) (row : ShownRow) (start old new : LineState) (added result : Result (Unit {0}) Error)
     → IsLineEnded old added new result → ShowsFields row start old added → start ≡ begun_full form
-    → Ends (full_text form row) new result
+    → EndsLine (full_text form row) new result
 full_ended form row start old new added result is shows first = is.full form start row shows first
 
 pub row_written : (form : Form) (row : ShownRow) (start line : LineState) (old new : OutputState)

@@ -1,10 +1,10 @@
 use Rattle.std.proofs.Common.{refl}
 use Rattle.std.proofs.lemmas.List.{drop_more, nil_from_length}
-use Rattle.pdbdump_layouts.specs.Pattern.{behind}
+use Rattle.pdbdump_layouts.specs.Pattern.{behind_signs}
 use Rattle.pdbdump_layouts.proofs.pattern.behind.Goals as goal
 
 pub returns-in_default : goal.returns-in_default
-unfolding behind
+unfolding behind_signs
 returns-in_default c =
     let none = nil_from_length c.loop-sign.rest.now c.in_default.ensures.cases in
     let more = drop_more c.args.signs.now c.loop-sign.sign-index 0 c.loop-sign-test.true in

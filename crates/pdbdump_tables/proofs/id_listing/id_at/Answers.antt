@@ -3,12 +3,12 @@ use Rattle.std.proofs.Common.{◌≡◌, ap, sym, inl, inr}
 use Rattle.pdb_base.proofs.lemmas.Collected.{ok_is, ok_is_no_err}
 use Rattle.pdb_base.proofs.lemmas.Refused.{passed_on}
 use Rattle.pdbdump_tables.proofs.ShownLemmas.{lacks_early, refuses_table, shows_table}
-use Rattle.pdbdump_tables.specs.Lines.{id_at}
+use Rattle.pdbdump_tables.specs.Lines.{id_lines_at}
 use Rattle.pdb_tpi.specs.Steps.{WalkPosition}
 use Rattle.pdbdump_tables.proofs.id_listing.id_at.Goals as goal
 
 pub returns-in_err-table : goal.returns-in_err-table
-unfolding id_at
+unfolding id_lines_at
 returns-in_err-table g c = rw (passed_on _ _ c.from_residual.ensures.1) (refuses_table _ _ _ _ c.in_err-table.ensures)
 
 pub returns-in_err-ids : goal.returns-in_err-ids
@@ -17,7 +17,7 @@ returns-in_err-ids g c =
     (lacks_early _ _ _ (elim c.in_err-ids.ensures [ inl is ↦ absurd (ok_is_no_err _ _ is) | inr lacks ↦ lacks ]))
 
 pub returns : goal.returns
-unfolding id_at
+unfolding id_lines_at
 returns g c =
     let same : c.in_ok-ids.ids.table ≡ c.in_ok-table.table =
     sym (ap (λ (s : WalkPosition). s.table) (ok_is _ _ c.in_ok-ids.ensures)) in

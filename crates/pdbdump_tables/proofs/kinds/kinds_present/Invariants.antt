@@ -2,10 +2,10 @@
 use Rattle.std.proofs.Common.{◌≡◌, ◌-◌, ◌++◌}
 use Rattle.std.specs.Prelude.{slice_index_or}
 use Rattle.std.specs.List.{range_with_len}
-use Rattle.pdbdump_tables.specs.Kinds.{present}
+use Rattle.pdbdump_tables.specs.Kinds.{occurring_kinds}
 use Rattle.pdbdump_tables.proofs.kinds.kinds_present.Given as goal
 
 abbrev pub invariant-loop-leaf : goal.invariant-loop-leaf
 invariant-loop-leaf l =
-    l.kinds.items ++ present (λ leaf. slice_index_or l.counts leaf 0) (range_with_len l.leaf (0x10000 - l.leaf))
-    ≡ present (λ leaf. slice_index_or l.counts leaf 0) (range_with_len 0 0x10000)
+    l.kinds.items ++ occurring_kinds (λ leaf. slice_index_or l.counts leaf 0) (range_with_len l.leaf (0x10000 - l.leaf))
+    ≡ occurring_kinds (λ leaf. slice_index_or l.counts leaf 0) (range_with_len 0 0x10000)
