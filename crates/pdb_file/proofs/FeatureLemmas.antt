@@ -56,28 +56,28 @@ with_none a = λ i. record {
 abbrev among : ℕ → List ℕ → Bool → Features
 among first rest is_last = features_among (if is_last then first ∷ [] else first ∷ up_to vc110_number rest)
 
-told_in_none : (bytes : List ℕ) → length bytes < 4 → features_in bytes ≡ none
+features_in_none : (bytes : List ℕ) → length bytes < 4 → features_in bytes ≡ none
 unfolding features_in
-told_in_none bytes short =
+features_in_none bytes short =
     ap (λ (numbers : List ℕ). features_among (up_to vc110_number numbers))
     (spelled_none 4 (little_number 4) bytes short)
 
-told_in_first : (bytes : List ℕ) (is_last : Bool) → 4 ≤ length bytes → (u32_in 0 bytes == vc110_number) ≡ is_last
+features_in_first : (bytes : List ℕ) (is_last : Bool) → 4 ≤ length bytes → (u32_in 0 bytes == vc110_number) ≡ is_last
     → features_in bytes ≡ among (u32_in 0 bytes) (numbers_in (drop 4 bytes)) is_last
 unfolding features_in
-told_in_first bytes is_last long test =
+features_in_first bytes is_last long test =
     ap (λ (numbers : List ℕ). features_among (up_to vc110_number numbers))
     (spelled_first 4 (little_number 4) bytes (omega arith) long)
     ∙ ap (among (u32_in 0 bytes) (numbers_in (drop 4 bytes))) test
 
-told_in_last : (bytes : List ℕ) → 4 ≤ length bytes → u32_in 0 bytes ≡ vc110_number
+features_in_last : (bytes : List ℕ) → 4 ≤ length bytes → u32_in 0 bytes ≡ vc110_number
     → features_in bytes ≡ with_number (u32_in 0 bytes) none
-told_in_last bytes long is = told_in_first bytes true long (eq-eqb (u32_in 0 bytes) vc110_number is)
+features_in_last bytes long is = features_in_first bytes true long (eq-eqb (u32_in 0 bytes) vc110_number is)
 
-told_in_more : (bytes : List ℕ) → 4 ≤ length bytes → u32_in 0 bytes ≢ vc110_number
+features_in_more : (bytes : List ℕ) → 4 ≤ length bytes → u32_in 0 bytes ≢ vc110_number
     → features_in bytes ≡ with_number (u32_in 0 bytes) (features_in (drop 4 bytes))
 unfolding features_in
-told_in_more bytes long other = told_in_first bytes false long (ne_eqb (u32_in 0 bytes) vc110_number other)
+features_in_more bytes long other = features_in_first bytes false long (ne_eqb (u32_in 0 bytes) vc110_number other)
 
 -- ---- bytes from a place on
 
@@ -100,7 +100,7 @@ told_from_next bytes place told from within other =
     let rest = drop (4 * place) bytes in
     let long : 4 ≤ length rest = omega (arith, length-drop (4 * place) bytes, within) in
     let number = u32_in (4 * place) bytes in
-    from ∙ ap (both told) (told_in_more rest long other
+    from ∙ ap (both told) (features_in_more rest long other
     ∙ ap (λ (more : List ℕ). with_number number (features_in more)) (behind_number bytes place))
     ∙ number_moves number told (features_in (drop (4 * (place + 1)) bytes))
 
@@ -111,7 +111,7 @@ told_at_last bytes place told from within is =
     let rest = drop (4 * place) bytes in
     let long : 4 ≤ length rest = omega (arith, length-drop (4 * place) bytes, within) in
     let number = u32_in (4 * place) bytes in
-    from ∙ ap (both told) (told_in_last rest long is) ∙ number_moves number told none
+    from ∙ ap (both told) (features_in_last rest long is) ∙ number_moves number told none
     ∙ with_none (with_number number told)
 
 pub told_at_end : (bytes : List ℕ) (place : ℕ) (told : Features) → ToldFrom bytes place told
@@ -119,7 +119,7 @@ pub told_at_end : (bytes : List ℕ) (place : ℕ) (told : Features) → ToldFro
 told_at_end bytes place told from short =
     let rest = drop (4 * place) bytes in
     let few : length rest < 4 = omega (arith, length-drop (4 * place) bytes, short) in
-    from ∙ ap (both told) (told_in_none rest few) ∙ with_none told
+    from ∙ ap (both told) (features_in_none rest few) ∙ with_none told
 
 -- ---- places of numbers
 

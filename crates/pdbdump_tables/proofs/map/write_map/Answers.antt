@@ -6,11 +6,11 @@ pub returns : goal.returns
 returns g c =
     mapped c.args.map.now _ refl
     (record {
-      loaded = c.made_of_loaded-loaded.result;
-      is_loaded = c.made_of_loaded-loaded.ensures;
+      loaded = c.conversions_of_loaded-loaded.result;
+      is_loaded = c.conversions_of_loaded-loaded.ensures;
       internal =
-          c.made_of_internal-internal.result;
-      is_internal = c.made_of_internal-internal.ensures;
+          c.conversions_of_internal-internal.result;
+      is_internal = c.conversions_of_internal-internal.ensures;
       are_lines = refl;
     })
     c.write_made.ensures

@@ -15,8 +15,8 @@ returns c =
     let target : c.target_at.result ≡ target_at table (place - 1) =
     rw (← c.bytes-bytes.ensures.records, ← c.in-Some.ensures.1) c.target_at.ensures in
     let record_is = c.new-record.ensures ∙ ap (λ (t : ℕ). mapping_with source t) target in
-    let is : c.translated-2.result ≡ parts_from table c.args.range place source =
-    rw (c.translated-2.ensures, c.part-first.ensures, c.next_source.ensures, c.records_from-rest.ensures, record_is)
+    let is : c.over_records-2.result ≡ parts_from table c.args.range place source =
+    rw (c.over_records-2.ensures, c.part-first.ensures, c.next_source.ensures, c.records_from-rest.ensures, record_is)
     refl in
     rw is (record {
       parts = found_parts table c.args.range place source found some;

@@ -1,6 +1,6 @@
 use Rattle.std.proofs.Common.{◌∙◌, sym}
 use Rattle.pdb_file.proofs.FeatureLemmas.{told_from_next, told_at_last, told_at_end, number_within, number_past}
-use Rattle.pdb_file.proofs.features.Features.told_in.Goals as goal
+use Rattle.pdb_file.proofs.features.Features.features_in.Goals as goal
 
 pub returns-then-number-eq-VC110 : goal.returns-then-number-eq-VC110
 returns-then-number-eq-VC110 c =
