@@ -4,7 +4,8 @@ ghost use Rattle.std.specs.Prelude.{◌≡◌, ◌≢◌, ◌+◌, ◌↔◌, []
 ghost use Rattle.std.specs.Int.{w16, w32, w64};
 ghost use Rattle.pdb_base.specs.Answer.{Gives};
 ghost use Rattle.pdb_base.specs.Place.{left, StaysWithin, align_to, truncate_at};
-ghost use Rattle.pdb_base.specs.Reading.{front_at, lowest_first, number_at, signed_at, peek_number, text_at, pascal_text_at};
+ghost use Rattle.pdb_base.specs.Reading.{front_at, lowest_first, number_at, signed_at, peek_number, text_at};
+ghost use Rattle.pdb_base.specs.Reading.{pascal_text_at};
 
 use crate::error::{Error, Result};
 use crate::nul::first_nul;

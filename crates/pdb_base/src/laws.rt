@@ -7,12 +7,14 @@ ghost use Rattle.pdb_base.specs.BitLaws.{ArePutTogether, IsAllItsBits, TellsOneB
 ghost use Rattle.std.specs.Int.{Width};
 ghost use Rattle.pdb_base.specs.Count.{after_calls};
 ghost use Rattle.pdb_base.specs.Halving.{binary_digits};
-ghost use Rattle.pdb_base.specs.Laws.{CollectsAll, RefusesAsFirst, ReadsSpelling, RefusesPrefixFirst, AlignsToNext, IsLeastToHold, AreReadInTurn};
+ghost use Rattle.pdb_base.specs.Laws.{CollectsAll, RefusesAsFirst, ReadsSpelling, RefusesPrefixFirst, AlignsToNext};
+ghost use Rattle.pdb_base.specs.Laws.{IsLeastToHold, AreReadInTurn};
 ghost use Rattle.pdb_base.specs.Place.{Place};
 ghost use Rattle.pdb_base.specs.Reading.{front_at, number_at, signed_at, text_at, pascal_text_at};
 ghost use Rattle.pdb_base.specs.Repeated.{read_times};
 ghost use Rattle.pdb_base.specs.Numeric.{unsigned_leaves, numeric_leaves, num_at, variant_at};
-ghost use Rattle.pdb_base.specs.Spelling.{ReadsWhatIsSpelled, SpellsNumber, SpellsSigned, SpellsText, SpellsPascalText, SpellsNum, SpellsVariant};
+ghost use Rattle.pdb_base.specs.Spelling.{ReadsWhatIsSpelled, SpellsNumber, SpellsSigned, SpellsText, SpellsPascalText};
+ghost use Rattle.pdb_base.specs.Spelling.{SpellsNum, SpellsVariant};
 
 use crate::item_index::ItemIndex;
 

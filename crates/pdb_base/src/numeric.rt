@@ -3,7 +3,8 @@
 ghost use Rattle.std.specs.Prelude.{◌≡◌, ◌≤◌, length, OnErr};
 ghost use Rattle.pdb_base.specs.Answer.{Gives};
 ghost use Rattle.pdb_base.specs.Place.{left, StaysWithin};
-ghost use Rattle.pdb_base.specs.Numeric.{unsigned_leaves, numeric_leaves, numeral_behind, as_num, num_at, as_variant, variant_at};
+ghost use Rattle.pdb_base.specs.Numeric.{unsigned_leaves, numeric_leaves, numeral_behind, as_num, num_at, as_variant};
+ghost use Rattle.pdb_base.specs.Numeric.{variant_at};
 
 use crate::buffer::ParseBuffer;
 use crate::error::{Error, Result};

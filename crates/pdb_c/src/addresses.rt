@@ -67,7 +67,8 @@ pub extern "C" fn pdb_translate(
     translation: &mut Translation,
     fault: &mut Fault,
 ) -> u32
-    ensures answer { AsksContent (λ map. Translates map form (record { section = section; offset = offset }) translation.old)
+    ensures answer { AsksContent (λ map. Translates map form
+        (record { section = section; offset = offset }) translation.old)
         (not_held translation.old) (addresses_held addresses.old.held.content)
         (record { fault = fault.new; value = translation.new }) }
     ensures kept { addresses.new.held.content ≡ addresses.old.held.content }

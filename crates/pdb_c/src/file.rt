@@ -134,7 +134,8 @@ pub extern "C" fn pdb_bytes_information(
     information: &mut Information,
     fault: &mut Fault,
 ) -> u32
-    ensures answer { IsAnswerTold (λ read. read) (information_said bytes.now) information.old fault.new information.new }
+    ensures answer { IsAnswerTold (λ read. read)
+        (information_said bytes.now) information.old fault.new information.new }
     ensures status { result ≡ fault.new.status }
 {
     tell_answered(information_in(alloc, bytes), information).tell(fault)

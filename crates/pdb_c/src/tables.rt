@@ -103,7 +103,8 @@ pub extern "C" fn pdb_types_next(
 /// Restarts the walk along a table before its first item.
 #[unsafe(no_mangle)]
 pub extern "C" fn pdb_types_rewind(alloc: Global, table: &mut Handle, fault: &mut Fault) -> u32
-    ensures answer { record { fault = fault.new; value = table.new.held.content } ≡ rewind_outcome table.old.held.content }
+    ensures answer { record { fault = fault.new; value = table.new.held.content }
+        ≡ rewind_outcome table.old.held.content }
     ensures status { result ≡ fault.new.status }
 {
     ask!(table, alloc, fault, Table(open) => {

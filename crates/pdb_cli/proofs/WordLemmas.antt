@@ -66,7 +66,8 @@ too_large base most digits i positive large =
 
 -- digits that were all read, and whose number fits, spell it
 pub is_number : (base most : ℕ) (digits : List ℕ) (i value : ℕ) → 0 < length digits → length digits ≤ most
-    → length digits ≤ i → HasRead base digits i value → value ≤ 0xffffffff → number_in_digits base most digits ≡ Some value
+    → length digits ≤ i → HasRead base digits i value → value ≤ 0xffffffff → number_in_digits base most digits
+    ≡ Some value
 unfolding number_in_digits
 is_number base most digits i value some few whole read fits =
     let end = take_all i digits whole in

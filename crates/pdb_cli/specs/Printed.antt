@@ -25,7 +25,7 @@ IsPrinted (bytes stream) out = out ≡ hex_lines stream
 IsPrinted (item_record index kind text) out = out ≡ record_line index kind text
 IsPrinted (fields names) out = out ≡ name_lines names
 IsPrinted (name text) out = out ≡ line (lossy text)
-IsPrinted (moved table question_of) out = (ranges : List (Range ℕ)) × AreMoved table question_of ranges × (out ≡ range_lines ranges)
+IsPrinted (moved table asked) out = (ranges : List (Range ℕ)) × AreMoved table asked ranges × (out ≡ range_lines ranges)
 
 -- status 0: the reply on standard output, and nothing on standard error
 pub record IsAnswered (said : ReplyValue) (outcome : Outcome) : Type 0 where

@@ -23,7 +23,8 @@ number_in_digits base most digits =
 -- the number that a word of 1 to 10 decimal digits, or of `0x` and 1 to 8 hexadecimal digits of either
 -- case, stands for
 unfoldable pub number_of : List ℕ → Option ℕ
-number_of word = if starts_with nat_eq word (codes "0x") then number_in_digits 16 8 (drop 2 word) else number_in_digits 10 10 word
+number_of word =
+    if starts_with nat_eq word (codes "0x") then number_in_digits 16 8 (drop 2 word) else number_in_digits 10 10 word
 
 -- the two numbers that two words stand for
 unfoldable pub two_numbers : List (List ℕ) → Option (ℕ × ℕ)

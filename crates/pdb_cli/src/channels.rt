@@ -1,7 +1,8 @@
 //! The program between its channels: what it reads, what it writes, and how it ends.
 
 ghost use Rattle.std.specs.Prelude.{◌≡◌, [], map, string_bytes, IfOk, IfErr, OnErr};
-ghost use Rattle.pdb_cli.specs.Channels.{IsOutputCut, IsFault, IsServed, IsShownOf, IsShownOfCall, IsFaultReported, IsOutcomeWritten};
+ghost use Rattle.pdb_cli.specs.Channels.{IsOutputCut, IsFault, IsServed, IsShownOf, IsShownOfCall, IsFaultReported};
+ghost use Rattle.pdb_cli.specs.Channels.{IsOutcomeWritten};
 
 use crate::arguments::{texts_of, words_of};
 use crate::input::read_all;

@@ -5,7 +5,8 @@ ghost use Rattle.std.specs.Option.{option_map};
 ghost use Rattle.pdb_base.specs.Memory.{FailsOnlyForMemory};
 ghost use Rattle.pdb_base.specs.Text.{lossy};
 ghost use Rattle.pdb_base.specs.ErrorText.{hexadecimal_of_four};
-ghost use Rattle.pdb_cli.specs.Lines.{line, hex_line, hex_lines, record_line, name_text, name_lines, range_lines, reply_lines};
+ghost use Rattle.pdb_cli.specs.Lines.{line, hex_line, hex_lines, record_line, name_text, name_lines, range_lines};
+ghost use Rattle.pdb_cli.specs.Lines.{reply_lines};
 
 use pdb_container::{Error, RawString, Reply, Result};
 use std::alloc::Global;

@@ -4,7 +4,8 @@
 //! command.
 
 ghost use Rattle.std.specs.Prelude.{◌≡◌, ◌≤◌, map};
-ghost use Rattle.pdb_cli.specs.Words.{number_in_digits, number_of, two_numbers, stream_words, ranges_asked, pair_of, query_of};
+ghost use Rattle.pdb_cli.specs.Words.{number_in_digits, number_of, two_numbers, stream_words, ranges_asked, pair_of};
+ghost use Rattle.pdb_cli.specs.Words.{query_of};
 
 use pdb_container::Query;
 

@@ -6,7 +6,8 @@ use Rattle.pdb_base.specs.Answer.{ok_if}
 use Rattle.pdb_base.specs.Refusal.{Refusal}
 use Rattle.pdb_base.proofs.lemmas.Collected.{bind_ok, ok_is}
 use Rattle.pdb_msf.specs.Directory.{directory_of}
-use Rattle.pdb_msf.specs.Header.{Head, fields_of_header, geometry_of, head_of, is_page_size, location_pages, magic_of, file_head}
+use Rattle.pdb_msf.specs.Header.{Head, fields_of_header, geometry_of, head_of, is_page_size, location_pages, magic_of}
+use Rattle.pdb_msf.specs.Header.{file_head}
 use Rattle.pdb_msf.specs.Header.{opening}
 use Rattle.pdb_msf.specs.Layout.{LayoutValue, layout_of}
 use Rattle.pdb_msf.specs.Pages.{page_numbers, words}

@@ -22,7 +22,8 @@ plain_references (values.class type) =
     index_number type.fields ∷ index_number type.derived_from ∷ index_number type.vtable_shape ∷ []
 plain_references (values.member type) = Some type.field_type.0 ∷ []
 plain_references (values.member_function type) =
-    Some type.return_type.0 ∷ Some type.class_type.0 ∷ index_number type.this_pointer_type ∷ Some type.argument_list.0 ∷ []
+    Some type.return_type.0 ∷ Some type.class_type.0 ∷ index_number type.this_pointer_type ∷ Some type.argument_list.0
+    ∷ []
 plain_references (values.overloaded_method type) = Some type.method_list.0 ∷ []
 plain_references (values.method type) = Some type.method_type.0 ∷ []
 plain_references (values.static_member type) = Some type.field_type.0 ∷ []

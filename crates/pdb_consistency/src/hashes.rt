@@ -4,7 +4,8 @@ ghost use Rattle.std.specs.Prelude.{◌≡◌, ◌≤◌, ◌<◌, ◌+◌, ◌*
 ghost use Rattle.pdb_base.specs.Answer.{Answers};
 ghost use Rattle.pdb_tpi.specs.OpenTable.{place_of_record};
 ghost use Rattle.pdb_consistency.specs.Hashes.{count_mismatch_of, in_hashes, is_record_at, offset_mismatch, part_in};
-ghost use Rattle.pdb_consistency.specs.Hashes.{hashes_mismatches, offsets_mismatches, part_start, value_mismatch, values_mismatches};
+ghost use Rattle.pdb_consistency.specs.Hashes.{hashes_mismatches, offsets_mismatches, part_start, value_mismatch};
+ghost use Rattle.pdb_consistency.specs.Hashes.{values_mismatches};
 ghost use Rattle.pdb_consistency.specs.Mismatch.{asked_of, with_further};
 
 use crate::inconsistency::Inconsistency;

@@ -6,7 +6,8 @@ ghost use Rattle.std.specs.Option.{option_to_list};
 ghost use Rattle.pdb_base.specs.Answer.{Answers};
 ghost use Rattle.pdb_msf.specs.Layout.{size_by};
 ghost use Rattle.pdb_consistency.specs.Mismatch.{asked_of, with_further};
-ghost use Rattle.pdb_consistency.specs.MissingStreams.{index_mismatch, indexes_mismatches, is_missing, names_mismatches};
+ghost use Rattle.pdb_consistency.specs.MissingStreams.{index_mismatch, indexes_mismatches, is_missing};
+ghost use Rattle.pdb_consistency.specs.MissingStreams.{names_mismatches};
 ghost use Rattle.pdb_consistency.specs.MissingStreams.{role_indexes, symbol_indexes};
 
 use crate::debug_sizes::DEBUG_STREAM;

@@ -1,6 +1,7 @@
 //! Who owns the pages of a file: each has at most one owner, and none of a stream is free.
 
-ghost use Rattle.std.specs.Prelude.{◌≡◌, ◌≤◌, ◌<◌, ◌&&◌, ◌||◌, nat_lt, false, true, [], length, slice_index_or, slice_set, Ok};
+ghost use Rattle.std.specs.Prelude.{◌≡◌, ◌≤◌, ◌<◌, ◌&&◌, ◌||◌, nat_lt, false, true, [], length, slice_index_or};
+ghost use Rattle.std.specs.Prelude.{slice_set, Ok};
 ghost use Rattle.std.specs.Int.{div_ceil};
 ghost use Rattle.pdb_base.specs.Answer.{Answers};
 ghost use Rattle.pdb_msf.specs.Layout.{layout_of};

@@ -15,7 +15,8 @@ pub record IsShown (table : Table) (stand : WalkPosition) (finder : FinderState)
   pub stands : stand.table ≡ table
   pub same : finder.table ≡ table
   pub least : table.header.minimum_index ≤ stand.index
-  pub blocks : (block : ℕ) → first_of_block table block < table.header.maximum_index → first_of_block table block ≤ stand.index
+  pub blocks : (block : ℕ) → first_of_block table block < table.header.maximum_index
+      → first_of_block table block ≤ stand.index
       → block < finder.known
 
 first_shown : (table : Table)
@@ -45,7 +46,8 @@ known_next table known i is below = grind (arith, nat_tests)
 
 -- another step shows the block that begins where it ends, if there is one
 block_more : (table : Table) (stand : WalkPosition) (finder : FinderState) → IsShown table stand finder
-    → (block : ℕ) → first_of_block table block < table.header.maximum_index → first_of_block table block ≤ stand.index + 1
+    → (block : ℕ) → first_of_block table block < table.header.maximum_index
+    → first_of_block table block ≤ stand.index + 1
     → block < known_after table finder.known (stand.index + 1)
 block_more table stand finder shown block below reached = elim (cases_lt stand.index (first_of_block table block)) [
   | inl past ↦

@@ -73,7 +73,8 @@ parted (size ∷ sizes) bytes before rest cut =
     )
 
 -- how long bytes are that have a part
-pub cut_length : (size : ℕ) (bytes part rest : List ℕ) → IsPartOf size bytes part rest → length bytes ≡ size + length rest
+pub cut_length : (size : ℕ) (bytes part rest : List ℕ) → IsPartOf size bytes part rest → length bytes
+    ≡ size + length rest
 cut_length size bytes part rest cut = omega (arith, cut.len, ap length cut.is, length-append part rest)
 
 -- bytes are cut anywhere within them

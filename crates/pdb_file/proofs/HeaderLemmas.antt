@@ -24,7 +24,8 @@ header_refused bytes e long refused = ok_is_no_err (section_header (take 40 byte
 -- one header more of those that are left
 pub header_step : (before : List ImageSectionHeader) (bytes : List ℕ) (header : ImageSectionHeader) (rest : List ℕ)
     → 40 ≤ length bytes → section_header_at bytes ≡ Ok (header, rest)
-    → (before ++ values_of_size 40 section_header bytes ≡ (before ++ header ∷ []) ++ values_of_size 40 section_header rest)
+    → (before ++ values_of_size 40 section_header bytes
+    ≡ (before ++ header ∷ []) ++ values_of_size 40 section_header rest)
     × (length rest ≡ length bytes - 40)
 header_step before bytes header rest long read =
     let both = ok_is (header, rest) (section_header (take 40 bytes), drop 40 bytes)

@@ -26,7 +26,8 @@ there list place long =
     let test : nat_le (2 * place + 2) (length list) ≡ true = grind (arith, nat_tests) in
     rw test refl
 
-past : (list : List ℕ) (place : ℕ) → length list < 2 * place + 2 → stream_listed_at place list ≡ record { 0 = no_stream }
+past : (list : List ℕ) (place : ℕ) → length list < 2 * place + 2 → stream_listed_at place list
+    ≡ record { 0 = no_stream }
 past list place short =
     let test : nat_le (2 * place + 2) (length list) ≡ false = grind (arith, nat_tests) in
     rw test refl
@@ -64,7 +65,8 @@ begins_long list place index rest begins short =
       length-drop (2 * place) list,
     )
 
-place_only : (list : List ℕ) (place : ℕ) (index : StreamIndex) → IsStreamListed list place index → stream_listed_at place list ≡ index
+place_only : (list : List ℕ) (place : ℕ) (index : StreamIndex) → IsStreamListed list place index
+    → stream_listed_at place list ≡ index
 place_only list place index (inl begins) =
     let read = (numbers 2).only (drop (2 * place) list) index.0 begins.0 begins.1 in
     elim (cases_lt (length list) (2 * place + 2)) [
@@ -124,7 +126,8 @@ all_only list roles are = λ i. record {
 }
 
 -- where half a number stands, that place is not listed
-no_half : (list : List ℕ) (place : ℕ) (index : StreamIndex) → IsStreamListed list place index → length list ≢ 2 * place + 1
+no_half : (list : List ℕ) (place : ℕ) (index : StreamIndex) → IsStreamListed list place index
+    → length list ≢ 2 * place + 1
 no_half list place index (inl begins) half = begins_long list place index begins.0 begins.1 (omega (arith, half))
 no_half list place index (inr behind) half = omega (arith, half, behind.0)
 

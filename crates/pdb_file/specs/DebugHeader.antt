@@ -33,7 +33,8 @@ debug_header_of (byte ∷ bytes) = debug_header_behind (byte ∷ bytes)
 
 -- the stream at an index of the list, or no stream if the list ends before that number does
 abbrev pub stream_listed_at : ℕ → List ℕ → StreamIndex
-stream_listed_at place list = record { 0 = if nat_le (2 * place + 2) (length list) then u16_in (2 * place) list else no_stream }
+stream_listed_at place list =
+    record { 0 = if nat_le (2 * place + 2) (length list) then u16_in (2 * place) list else no_stream }
 
 -- the streams of the eleven roles, each read at its index in the list
 unfoldable pub roles_in : List ℕ → DBIExtraStreams

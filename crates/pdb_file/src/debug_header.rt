@@ -2,7 +2,8 @@
 
 ghost use Rattle.std.specs.Prelude.{◌≡◌, ◌+◌, ◌^◌, ◌<◌, sum};
 ghost use Rattle.pdb_base.specs.Answer.{Gives};
-ghost use Rattle.pdb_file.specs.DebugHeader.{debug_header_of, extra_streams, extra_streams_of, stream_listed_at, roles_in, sizes_before};
+ghost use Rattle.pdb_file.specs.DebugHeader.{debug_header_of, extra_streams, extra_streams_of, stream_listed_at};
+ghost use Rattle.pdb_file.specs.DebugHeader.{roles_in, sizes_before};
 
 use crate::dbi_header::{DBIHeader, HEADER_SIZE};
 use crate::fields::u16_in;

@@ -8,7 +8,8 @@ ghost use Rattle.pdb_msf.specs.Header.{file_head};
 ghost use Rattle.pdb_msf.specs.File.{IsFresh, Opened, ReadsFile};
 ghost use Rattle.pdb_space.specs.Omap.{omap_table_of};
 ghost use Rattle.pdb_file.specs.SectionHeaders.{section_headers_of};
-ghost use Rattle.pdb_file.specs.File.{answer_if_present, file_address_map, file_frame_table, file_ids, file_information};
+ghost use Rattle.pdb_file.specs.File.{answer_if_present, file_address_map, file_frame_table, file_ids};
+ghost use Rattle.pdb_file.specs.File.{file_information};
 ghost use Rattle.pdb_file.specs.File.{file_named_stream, file_number, file_roles, file_string_table, file_types};
 ghost use Rattle.pdb_file.specs.File.{omap_numbered, rearranged_map, sections_numbered, stream_at, stream_numbered};
 

@@ -5,7 +5,8 @@ ghost use Rattle.pdb_base.specs.Answer.{Answers, Gives};
 ghost use Rattle.pdb_base.specs.Memory.{LacksOnlyIf};
 ghost use Rattle.pdb_base.specs.Place.{left};
 ghost use Rattle.pdb_space.specs.StringTable.{name_of};
-ghost use Rattle.pdb_file.specs.StreamNames.{behind_set, entries_at, map_of, map_view, named_at, named_in, named_view, number_named, stream_names_of};
+ghost use Rattle.pdb_file.specs.StreamNames.{behind_set, entries_at, map_of, map_view, named_at, named_in, named_view};
+ghost use Rattle.pdb_file.specs.StreamNames.{number_named, stream_names_of};
 
 use crate::fields::u32_in;
 use crate::information::PDBInformation;

@@ -62,7 +62,8 @@ pointer_word word = if is_pointer_word word then Some word else None
 
 -- the size in bytes of a pointer of this kind if its word states none
 abbrev pub usual_size : ℕ → ℕ
-usual_size kind = if kind == pointer_kind_number Near32 || kind == pointer_kind_number Far32 then 4 else if kind == pointer_kind_number
+usual_size kind = if kind == pointer_kind_number Near32 || kind == pointer_kind_number Far32 then 4
+    else if kind == pointer_kind_number
     Ptr64 then 8 else 0
 
 -- the size of the pointer in bytes

@@ -1,7 +1,8 @@
 //! Attributes of a member.
 
 ghost use Rattle.std.specs.Prelude.{◌≡◌};
-ghost use Rattle.pdb_flags.specs.FieldAttributes.{access, method_property, is_virtual, is_static, is_pure_virtual, is_intro_virtual};
+ghost use Rattle.pdb_flags.specs.FieldAttributes.{access, method_property, is_virtual, is_static, is_pure_virtual};
+ghost use Rattle.pdb_flags.specs.FieldAttributes.{is_intro_virtual};
 
 use pdb_base::bit_field;
 use std::marker::Model;

@@ -1,7 +1,8 @@
 //! Attributes of a function.
 
 ghost use Rattle.std.specs.Prelude.{◌≡◌};
-ghost use Rattle.pdb_flags.specs.FunctionAttributes.{calling_convention, cxx_return_udt, is_constructor, is_constructor_with_virtual_bases};
+ghost use Rattle.pdb_flags.specs.FunctionAttributes.{calling_convention, cxx_return_udt, is_constructor};
+ghost use Rattle.pdb_flags.specs.FunctionAttributes.{is_constructor_with_virtual_bases};
 
 use pdb_base::{bit_field, is_bit_set};
 use std::marker::Model;

@@ -1,7 +1,9 @@
 //! Attributes of a pointer.
 
 ghost use Rattle.std.specs.Prelude.{◌≡◌, IsTrue};
-ghost use Rattle.pdb_flags.specs.PointerAttributes.{kind_in, mode_in, is_pointer_word, pointer_word, is_flat_32, is_volatile, is_const, is_unaligned, is_restrict, pointer_size, is_mocom, pointer_to_member, is_reference};
+ghost use Rattle.pdb_flags.specs.PointerAttributes.{kind_in, mode_in, is_pointer_word, pointer_word, is_flat_32};
+ghost use Rattle.pdb_flags.specs.PointerAttributes.{is_volatile, is_const, is_unaligned, is_restrict, pointer_size};
+ghost use Rattle.pdb_flags.specs.PointerAttributes.{is_mocom, pointer_to_member, is_reference};
 ghost use Rattle.pdb_flags.specs.PointerNumbers.{pointer_kind_number, mode_number};
 
 use crate::pointer_kind::PointerKind;

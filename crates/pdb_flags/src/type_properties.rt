@@ -1,7 +1,10 @@
 //! Properties of a type.
 
 ghost use Rattle.std.specs.Prelude.{◌≡◌};
-ghost use Rattle.pdb_flags.specs.TypeProperties.{packed, constructors, overloaded_operators, is_nested_type, contains_nested_types, overloaded_assignment, overloaded_casting, forward_reference, scoped_definition, has_unique_name, sealed, hfa, intrinsic_type, mocom};
+ghost use Rattle.pdb_flags.specs.TypeProperties.{packed, constructors, overloaded_operators, is_nested_type};
+ghost use Rattle.pdb_flags.specs.TypeProperties.{contains_nested_types, overloaded_assignment, overloaded_casting};
+ghost use Rattle.pdb_flags.specs.TypeProperties.{forward_reference, scoped_definition, has_unique_name, sealed, hfa};
+ghost use Rattle.pdb_flags.specs.TypeProperties.{intrinsic_type, mocom};
 
 use pdb_base::{bit_field, is_bit_set};
 use std::marker::Model;

@@ -6,7 +6,8 @@ use Rattle.pdb_frames.specs.Span.{Span}
 use Rattle.pdb_frames.specs.Frames.{of_old, of_new}
 use Rattle.pdb_frames.specs.Merge.{with_old, by_heads}
 use Rattle.pdb_frames.specs.Table.{Frames, StartsIncrease, IsFrameStep}
-use Rattle.pdb_frames.specs.Laws.{CoversToItsEnd, IsMerged, IsWoven, end, takes_new, takes_old, drops_old, FramesEndForGood}
+use Rattle.pdb_frames.specs.Laws.{CoversToItsEnd, IsMerged, IsWoven, end, takes_new, takes_old, drops_old}
+use Rattle.pdb_frames.specs.Laws.{FramesEndForGood}
 use Rattle.pdb_frames.proofs.Rising.{rising, increasing}
 use Rattle.pdb_frames.proofs.MergeLemmas.{old_starts, new_starts, frame_starts, rising-by_heads}
 use Rattle.pdb_frames.proofs.TableLemmas.{all_merged}

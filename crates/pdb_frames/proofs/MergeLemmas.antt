@@ -65,7 +65,8 @@ over-frames_of_both bound old new up also =
     over-append bound (map of_new new) (map of_old (filter (λ frame. not (some_starts_at new frame.code_start)) old))
     (over-new bound new also) (over-old bound (λ frame. not (some_starts_at new frame.code_start)) old up)
 
-over-insert_by_start : (bound : ℕ) (frame : FrameData) (frames : List FrameData) → bound < frame.code_start → AllOver bound frames
+over-insert_by_start : (bound : ℕ) (frame : FrameData) (frames : List FrameData) → bound < frame.code_start
+    → AllOver bound frames
     → AllOver bound (insert_by_start frame frames)
 over-insert_by_start bound frame [] here over = (here, tt)
 over-insert_by_start bound frame (first ∷ others) here over =
@@ -82,7 +83,8 @@ over-by_start bound (frame ∷ frames) over =
 
 -- ---- the lowest comes first
 
-put_first : (frame : FrameData) (frames : List FrameData) → AllOver frame.code_start frames → insert_by_start frame frames ≡ frame
+put_first : (frame : FrameData) (frames : List FrameData) → AllOver frame.code_start frames
+    → insert_by_start frame frames ≡ frame
     ∷ frames
 put_first frame [] over = refl
 put_first frame (first ∷ others) over =
@@ -199,7 +201,8 @@ merged_old frame old up others (first ∷ new) also =
     elim (cases_order first.code_start frame.code_start) [
       | inl same ↦
           let above = above-lower first.code_start frame.code_start (old_starts old) (omega (arith, same)) up in
-          let over = over-same first.code_start (of_new first).code_start (frames_of_both old new) (sym (start_of_new first))
+          let over = over-same first.code_start (of_new first).code_start (frames_of_both old new)
+          (sym (start_of_new first))
           (over-frames_of_both first.code_start old new above also) in
           ap by_start (new_in_place frame first new old same above)
           ∙ lowest_first (of_new first) [] (frames_of_both old new) tt over

@@ -213,7 +213,8 @@ start_there {A} span size value bytes k within =
 
 pub found_in : {A : Type 0} (span : A → Span) (size : ℕ) (value : List ℕ → A) (bytes : List ℕ) (address place last : ℕ)
     → IsFound (start_at span (values_of_size size value bytes)) (length bytes / size) address place last
-    → IsFound (start_at span (values_of_size size value bytes)) (length (values_of_size size value bytes)) address place last
+    → IsFound (start_at span (values_of_size size value bytes))
+    (length (values_of_size size value bytes)) address place last
 found_in span size value bytes address place last found =
     subst (λ (n : ℕ). IsFound (start_at span (values_of_size size value bytes)) n address place last)
     (sym (spelled_length size value bytes)) found
@@ -255,7 +256,8 @@ pub found_begins : {A : Type 0} (span : A → Span) (size : ℕ) (value : List �
     → IsStrictlyIncreasing (starts span (values_of_size size value bytes))
     → drop (place - 1) (values_of_size size value bytes) ≡ from_address span address (values_of_size size value bytes)
 found_begins {A} span size value bytes address place start code found some is test up =
-    ap (λ (b : Bool). cond b (drop (place - 1) (values_of_size size value bytes)) (drop place (values_of_size size value bytes)))
+    ap (λ (b : Bool). cond b (drop (place - 1) (values_of_size size value bytes))
+    (drop place (values_of_size size value bytes)))
     (sym test) ∙ found_there span size value bytes address place start code found some is up
 
 pub found_passes : {A : Type 0} (span : A → Span) (size : ℕ) (value : List ℕ → A) (bytes : List ℕ)
@@ -266,5 +268,6 @@ pub found_passes : {A : Type 0} (span : A → Span) (size : ℕ) (value : List �
     → IsStrictlyIncreasing (starts span (values_of_size size value bytes))
     → drop place (values_of_size size value bytes) ≡ from_address span address (values_of_size size value bytes)
 found_passes {A} span size value bytes address place start code found some is test up =
-    ap (λ (b : Bool). cond b (drop (place - 1) (values_of_size size value bytes)) (drop place (values_of_size size value bytes)))
+    ap (λ (b : Bool). cond b (drop (place - 1) (values_of_size size value bytes))
+    (drop place (values_of_size size value bytes)))
     (sym test) ∙ found_there span size value bytes address place start code found some is up

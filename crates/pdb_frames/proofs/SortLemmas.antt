@@ -21,7 +21,8 @@ from-lower : (low high : ℕ) (frames : List FrameData) → low ≤ high → All
 from-lower low high [] lower all = tt
 from-lower low high (frame ∷ frames) lower all = (omega (arith, lower, all.0), from-lower low high frames lower all.1)
 
-from-insert_by_start : (low : ℕ) (frame : FrameData) (frames : List FrameData) → low ≤ frame.code_start → AllFrom low frames
+from-insert_by_start : (low : ℕ) (frame : FrameData) (frames : List FrameData) → low ≤ frame.code_start
+    → AllFrom low frames
     → AllFrom low (insert_by_start frame frames)
 from-insert_by_start low frame [] here all = (here, tt)
 from-insert_by_start low frame (first ∷ others) here all =
@@ -31,7 +32,8 @@ from-insert_by_start low frame (first ∷ others) here all =
       | false ↦ (all.0, from-insert_by_start low frame others here all.1)
     ]
 
-ordered-insert_by_start : (frame : FrameData) (frames : List FrameData) → IsOrdered frames → IsOrdered (insert_by_start frame frames)
+ordered-insert_by_start : (frame : FrameData) (frames : List FrameData) → IsOrdered frames
+    → IsOrdered (insert_by_start frame frames)
 ordered-insert_by_start frame [] in_order = (tt, tt)
 ordered-insert_by_start frame (first ∷ others) in_order = elim (cases_lt first.code_start frame.code_start) [
   | inl lower ↦
@@ -92,7 +94,8 @@ count-insert_by_start : (test : FrameData → Bool) (frame : FrameData) (frames 
     → count_by test (insert_by_start frame frames) ≡ count_by test (frame ∷ frames)
 count-insert_by_start test frame [] = refl
 count-insert_by_start test frame (first ∷ others) =
-    let moved = count-later test first (insert_by_start frame others) (frame ∷ others) (count-insert_by_start test frame others)
+    let moved = count-later test first (insert_by_start frame others) (frame ∷ others)
+    (count-insert_by_start test frame others)
     ∙ count-swap test frame first others in
     elim (leb frame.code_start first.code_start) as
     (λ b. count_by test (cond b (frame ∷ first ∷ others) (first ∷ insert_by_start frame others))

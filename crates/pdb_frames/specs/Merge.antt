@@ -9,7 +9,8 @@ use Rattle.pdb_frames.specs.declared.new_frame_data.NewFrameData.{NewFrameData}
 -- the frames with one more, which is put before the first frame that doesn't start below it
 abbrev pub insert_by_start : FrameData → List FrameData → List FrameData
 insert_by_start frame [] = frame ∷ []
-insert_by_start frame (first ∷ others) = if nat_le frame.code_start first.code_start then frame ∷ first ∷ others else first
+insert_by_start frame (first ∷ others) =
+    if nat_le frame.code_start first.code_start then frame ∷ first ∷ others else first
     ∷ insert_by_start frame others
 
 -- the frames ordered by their starts

@@ -9,7 +9,8 @@ ghost use Rattle.pdb_frames.specs.declared.new_frame_data.NewFrameData.{NewFrame
 ghost use Rattle.pdb_frames.specs.Span.{Span};
 ghost use Rattle.pdb_frames.specs.Merge.{by_heads};
 ghost use Rattle.pdb_frames.specs.Table.{Frames, IsFrameStep, StartsIncrease};
-ghost use Rattle.pdb_frames.specs.Laws.{CoversToItsEnd, IsSortedByStart, IsMerged, IsWoven, FramesEndForGood, ComparesByNumber};
+ghost use Rattle.pdb_frames.specs.Laws.{CoversToItsEnd, IsSortedByStart, IsMerged, IsWoven, FramesEndForGood};
+ghost use Rattle.pdb_frames.specs.Laws.{ComparesByNumber};
 ghost use Rattle.pdb_frames.specs.declared.new_frame_data.TheConstants.{NEW_SIZE};
 ghost use Rattle.pdb_frames.specs.declared.old_frame_data.TheConstants.{OLD_SIZE};
 

@@ -113,7 +113,8 @@ fn begins_at(start: u32, size: u32, address: u32) -> bool
 /// from after the last one.
 pub(crate) fn starting_at<R: FrameRecord>(bytes: &[u8], address: u32) -> &[u8]
     ensures exact { IsStrictlyIncreasing (map (λ frame. (R.span frame).start) (values_of_size R.SIZE R.value bytes.now))
-        → values_of_size R.SIZE R.value result.now ≡ from_address R.span address (values_of_size R.SIZE R.value bytes.now) }
+        → values_of_size R.SIZE R.value result.now ≡ from_address R.span address
+        (values_of_size R.SIZE R.value bytes.now) }
     ensures end { IsEnd (values_of_size R.SIZE R.value result.now) (values_of_size R.SIZE R.value bytes.now) }
 {
     let found = search::<R>(bytes, address);

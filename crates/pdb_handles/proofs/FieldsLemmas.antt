@@ -11,7 +11,9 @@ use Rattle.pdb_values.proofs.lemmas.Fields.{listed}
 use Rattle.pdb_handles.specs.Records.{fields_told, listing}
 
 list_seen : (list : FieldList) → type_value (variants.FieldList list) ≡ field_list_value list
-list_seen list = ap type_value (sym (rolls-FieldList list)) ∙ fold-roll-TypeData TypeValue TypeValue view_step list_step (TypeData-F.FieldList list) ∙ fold_out-FieldList TypeValue TypeValue view_step list_step list
+list_seen list = ap type_value (sym (rolls-FieldList list))
+    ∙ fold-roll-TypeData TypeValue TypeValue view_step list_step (TypeData-F.FieldList list)
+    ∙ fold_out-FieldList TypeValue TypeValue view_step list_step list
 
 -- what is listed of a list of fields
 pub fields_seen : (list : FieldList)

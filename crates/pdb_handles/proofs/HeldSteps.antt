@@ -30,7 +30,8 @@ abbrev pub pair : Ptr → Global → Val
 pair p alloc = vstruct (of_list (ptr_val p ∷ global_laws.lowered alloc ∷ []))
 
 pub parts_tells : Tells PartsRow (Is PartsRow) (λ h. pair h.ptr h.alloc ∷ [])
-parts_tells = (parts_laws.lowers content.the_row global.the_row ghosts content_laws.the_row_laws global_laws.the_row_laws global_laws.the_told).val_is
+parts_tells = (parts_laws.lowers content.the_row global.the_row ghosts content_laws.the_row_laws
+    global_laws.the_row_laws global_laws.the_told).val_is
 
 pub held_tells : Tells held.the_row (Is held.the_row) (λ h. pair h.ptr h.alloc ∷ [])
 held_tells = held_laws.lowers.val_is

@@ -27,7 +27,8 @@ stands finds_names finds_name stream offset names place held placed =
     let name = found.0 in
     let here = (finds_name names offset).found name found.1 in
     let holds = (finds_names stream).found names held in
-    let cut = part_there (drop 12 stream) here.before name (0 ∷ here.behind) (length names) (holds.behind ∙ sym here.is) in
+    let cut = part_there (drop 12 stream) here.before name (0 ∷ here.behind) (length names)
+    (holds.behind ∙ sym here.is) in
     let there : take (length name) (drop (12 + offset) stream) ≡ name =
     ap (take (length name))
     (sym (drop-drop offset 12 stream) ∙ ap (λ (n : ℕ). drop n (drop 12 stream)) (sym here.place)) ∙ cut in

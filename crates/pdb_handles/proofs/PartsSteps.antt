@@ -8,7 +8,8 @@ PartsRow box = parts.the_row (R box) (P box) box.al.g
 
 -- what is passed for both type parameters, with the way to drop a value
 abbrev pub with_drop : Bx → Dict → Args
-with_drop box drops = bounded (a_type ∷ a_type ∷ []) (box.row, (box.al.row, tt)) (dcons box.al.d (dcons box.al.drops (dcons drops dnil)))
+with_drop box drops =
+    bounded (a_type ∷ a_type ∷ []) (box.row, (box.al.row, tt)) (dcons box.al.d (dcons box.al.drops (dcons drops dnil)))
 
 -- the same without it
 abbrev pub without_drop : Bx → Args

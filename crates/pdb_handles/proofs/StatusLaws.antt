@@ -1,12 +1,15 @@
 -- Refusals of the library and the faults that tell one correspond one to one.
-use Rattle.std.proofs.Common.{◌≡◌, ◌∙◌, ap, sym, subst, refl, ℕ, zero, suc, ◌+◌, ◌^◌, ◌==◌, ◌&&◌, nat_lt, Bool, true, false, if◌then◌else◌, List, [], ◌∷◌, length, slice_get, Option, Some, None, arith}
+use Rattle.std.proofs.Common.{◌≡◌, ◌∙◌, ap, sym, subst, refl, ℕ, zero, suc, ◌+◌, ◌^◌, ◌==◌, ◌&&◌, nat_lt, Bool, true}
+use Rattle.std.proofs.Common.{false, if◌then◌else◌, List, [], ◌∷◌, length, slice_get, Option, Some, None, arith}
 use Rattle.std.proofs.lemmas.Bool.Decides.{nat_tests}
 use Rattle.std.proofs.lemmas.Option.{none-some, cond_some, slice_get_read}
 use Rattle.std.specs.Prelude.{Contains}
 use Rattle.std.specs.Option.{option_map}
 use Rattle.std.specs.declared.io.ErrorKind.{ErrorKind}
 use Rattle.std.specs.declared.io.ErrorKind.TheVariants as kinds
-use Rattle.pdb_base.specs.Refusal.{Refusal, invalid_stream_length, io_error, unimplemented_feature, unimplemented_symbol_kind, invalid_type_information_header, unimplemented_type_kind, unexpected_numeric_prefix, unimplemented_file_checksum_kind}
+use Rattle.pdb_base.specs.Refusal.{Refusal, invalid_stream_length, io_error, unimplemented_feature}
+use Rattle.pdb_base.specs.Refusal.{unimplemented_symbol_kind, invalid_type_information_header, unimplemented_type_kind}
+use Rattle.pdb_base.specs.Refusal.{unexpected_numeric_prefix, unimplemented_file_checksum_kind}
 use Rattle.pdb_handles.specs.declared.fault.Fault.{Fault}
 use Rattle.pdb_handles.specs.Fault.{fault_of, error_kind_number, text_number, texts}
 use Rattle.pdb_handles.specs.Told.{IsOurs, candidate, if_told, is_same, kind_numbered, refusal_told, text_numbered}
@@ -36,7 +39,8 @@ text_back text (place, within, is) =
     let number : suc place ≡ text_number text = omega (arith, number_at 1 texts place text refl at) in
     subst (λ (n : ℕ). text_numbered n ≡ Some text) number at
 
-pub kind_back : (kind : ErrorKind) → Contains (kinds.UnexpectedEof ∷ kinds.OutOfMemory ∷ []) kind → kind_numbered (error_kind_number kind) ≡ Some kind
+pub kind_back : (kind : ErrorKind) → Contains (kinds.UnexpectedEof ∷ kinds.OutOfMemory ∷ []) kind
+    → kind_numbered (error_kind_number kind) ≡ Some kind
 kind_back kind (zero, inside, is) = subst (λ (k : ErrorKind). kind_numbered (error_kind_number k) ≡ Some k) is refl
 kind_back kind (suc zero, inside, is) = subst (λ (k : ErrorKind). kind_numbered (error_kind_number k) ≡ Some k) is refl
 kind_back kind (suc (suc k), inside, is) = absurd (omega (arith, inside))
@@ -46,7 +50,8 @@ candidate_of (invalid_stream_length text) ours = ap (option_map invalid_stream_l
 candidate_of (io_error kind) ours = ap (option_map io_error) (kind_back kind ours)
 candidate_of (unimplemented_feature text) ours = ap (option_map unimplemented_feature) (text_back text ours)
 candidate_of (unimplemented_symbol_kind number) ours = grind (arith, nat_tests, ours)
-candidate_of (invalid_type_information_header text) ours = ap (option_map invalid_type_information_header) (text_back text ours)
+candidate_of (invalid_type_information_header text) ours =
+    ap (option_map invalid_type_information_header) (text_back text ours)
 candidate_of (unimplemented_type_kind number) ours = grind (arith, nat_tests, ours)
 candidate_of (unexpected_numeric_prefix number) ours = grind (arith, nat_tests, ours)
 candidate_of (unimplemented_file_checksum_kind number) ours = grind (arith, nat_tests, ours)
@@ -69,7 +74,8 @@ are_same one other is =
     ∙ ap (λ (n : ℕ). record { status = other.status; first = n; second = one.second }) first
     ∙ ap (λ (n : ℕ). record { status = other.status; first = other.first; second = n }) second
 
-told_back : (fault : Fault) (can : Option Refusal) (refusal : Refusal) → if_told fault can ≡ Some refusal → fault_of refusal ≡ fault
+told_back : (fault : Fault) (can : Option Refusal) (refusal : Refusal) → if_told fault can ≡ Some refusal
+    → fault_of refusal ≡ fault
 told_back fault None refusal is = absurd (none-some refusal is)
 told_back fault (Some told) refusal is =
     let p = cond_some (is_same (fault_of told) fault) told refusal is in

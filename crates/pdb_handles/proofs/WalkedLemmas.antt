@@ -1,5 +1,6 @@
 -- The next records of a walk, as they are written one after another.
-use Rattle.std.proofs.Common.{◌≡◌, ℕ, ◌+◌, ◌<◌, ◌≤◌, List, [], ◌∷◌, ◌++◌, length, set, take, drop, refl, sym, ap, subst, ◌∙◌, arith, Option, Some, None, Ok, inr}
+use Rattle.std.proofs.Common.{◌≡◌, ℕ, ◌+◌, ◌<◌, ◌≤◌, List, [], ◌∷◌, ◌++◌, length, set, take, drop, refl, sym, ap, subst}
+use Rattle.std.proofs.Common.{◌∙◌, arith, Option, Some, None, Ok, inr}
 use Rattle.std.proofs.lemmas.List.{drop-drop, drop-set-lt, length-take-le, take-append-drop, take_more_set}
 use Rattle.std.specs.Option.{option_map, option_map_or}
 use Rattle.std.specs.List.{slice_get}
@@ -18,7 +19,8 @@ use Rattle.pdb_handles.specs.Walked.{AreNext, EndsWith, IsTypeRow, WritesNext}
 
 -- what is written of the record at a place, if a walk stands before it
 abbrev pub IsToldAt : WalkPosition → RecordPlace → TypeRow → Type 0
-IsToldAt stand place told = IsTypeRow (index_told stand.index) place (type_of (index_told stand.index) (record_bytes stand.table place)) told
+IsToldAt stand place told =
+    IsTypeRow (index_told stand.index) place (type_of (index_told stand.index) (record_bytes stand.table place)) told
 
 -- ---- steps
 
@@ -45,7 +47,8 @@ unfolding step_of
 stays stand step is = stays_by stand (slice_get (walk stand.table) (steps_taken stand)) (walk_rest stand.table) step is
 
 -- what is written of a record, where the walk then stands behind it
-pub told_behind : (stand next : WalkPosition) (index : ℕ) (place : RecordPlace) (told : TypeRow) → index ≡ index_told stand.index → step_located stand ≡ Ok (Some place, next)
+pub told_behind : (stand next : WalkPosition) (index : ℕ) (place : RecordPlace) (told : TypeRow) → index
+    ≡ index_told stand.index → step_located stand ≡ Ok (Some place, next)
     → IsTypeRow index place (type_of index (record_bytes next.table place)) told → IsToldAt stand place told
 told_behind stand next index place told is step row =
     let same = (stays stand (Some place, next) step).0 in
@@ -55,10 +58,14 @@ told_behind stand next index place told is step row =
 -- ---- records, one after another
 
 -- one record more
-next_more : (rows : List TypeRow) (first stand next : WalkPosition) (place : RecordPlace) (told : TypeRow) → AreNext first rows stand → step_located stand ≡ Ok (Some place, next) → IsToldAt stand place told → AreNext first (rows ++ told ∷ []) next
+next_more : (rows : List TypeRow) (first stand next : WalkPosition) (place : RecordPlace) (told : TypeRow)
+    → AreNext first rows stand → step_located stand ≡ Ok (Some place, next) → IsToldAt stand place told
+    → AreNext first (rows ++ told ∷ []) next
 next_more [] first stand next place told are step is =
-    subst (λ (s : WalkPosition). (p : RecordPlace) × (n : WalkPosition) × (step_located s ≡ Ok (Some p, n)) × IsToldAt s p told × (next ≡ n)) are (place, next, step, is, refl)
-next_more (row ∷ rows) first stand next place told are step is = (are.0, are.1, are.2, are.3, next_more rows are.1 stand next place told are.4 step is)
+    subst (λ (s : WalkPosition). (p : RecordPlace) × (n : WalkPosition) × (step_located s ≡ Ok (Some p, n))
+    × IsToldAt s p told × (next ≡ n)) are (place, next, step, is, refl)
+next_more (row ∷ rows) first stand next place told are step is =
+    (are.0, are.1, are.2, are.3, next_more rows are.1 stand next place told are.4 step is)
 
 -- so many records are written, and the items behind them are as they were
 pub record IsWrittenTo (old now : List TypeRow) (first : WalkPosition) (count : ℕ) (stand : WalkPosition) : Type 0 where
@@ -68,18 +75,25 @@ pub record IsWrittenTo (old now : List TypeRow) (first : WalkPosition) (count : 
 pub written_none : (rows : List TypeRow) (first : WalkPosition) → IsWrittenTo rows rows first 0 first
 written_none rows first = record { are = refl; behind = refl }
 
-pub written_more : (old now next : List TypeRow) (first stand after : WalkPosition) (count : ℕ) (place : RecordPlace) (told : TypeRow) → count < length now
-    → IsWrittenTo old now first count stand → step_located stand ≡ Ok (Some place, after) → IsToldAt stand place told → next ≡ set now count told → IsWrittenTo old next first (count + 1) after
+pub written_more : (old now next : List TypeRow) (first stand after : WalkPosition) (count : ℕ) (place : RecordPlace)
+    (told : TypeRow) → count < length now
+    → IsWrittenTo old now first count stand → step_located stand ≡ Ok (Some place, after) → IsToldAt stand place told
+    → next ≡ set now count told → IsWrittenTo old next first (count + 1) after
 written_more old now next first stand after count place told more so_far step is put =
     let are : AreNext first (take (count + 1) (set now count told)) after =
-    subst (λ (rows : List TypeRow). AreNext first rows after) (sym (take_more_set now count told more)) (next_more (take count now) first stand after place told so_far.are step is) in
+    subst (λ (rows : List TypeRow). AreNext first rows after) (sym (take_more_set now count told more))
+    (next_more (take count now) first stand after place told so_far.are step is) in
     let behind : drop (count + 1) (set now count told) ≡ drop (count + 1) old =
-    drop-set-lt (count + 1) now count told (omega arith) ∙ sym (drop-drop 1 count now) ∙ ap (λ (rows : List TypeRow). drop 1 rows) so_far.behind ∙ drop-drop 1 count old in
-    subst (λ (rows : List TypeRow). IsWrittenTo old rows first (count + 1) after) (sym put) (record { are = are; behind = behind })
+    drop-set-lt (count + 1) now count told (omega arith) ∙ sym (drop-drop 1 count now)
+    ∙ ap (λ (rows : List TypeRow). drop 1 rows) so_far.behind ∙ drop-drop 1 count old in
+    subst (λ (rows : List TypeRow). IsWrittenTo old rows first (count + 1) after) (sym put)
+    (record { are = are; behind = behind })
 
 -- what is written where the walk stops, or where the array is full
-pub written_to : (old now : List TypeRow) (first stand : WalkPosition) (count : ℕ) (fault : Fault) → count ≤ length old → length now ≡ length old → IsWrittenTo old now first count stand
-    → EndsWith count (length old) stand fault → WritesNext old first (record { fault = fault; length = count; room = now }) stand
+pub written_to : (old now : List TypeRow) (first stand : WalkPosition) (count : ℕ) (fault : Fault) → count ≤ length old
+    → length now ≡ length old → IsWrittenTo old now first count stand
+    → EndsWith count (length old) stand fault → WritesNext old first
+    (record { fault = fault; length = count; room = now }) stand
 written_to old now first stand count fault fits same done ends =
     let rows = take count now in
     let as_many : length rows ≡ count = length-take-le count now (omega (arith, fits, same)) in
@@ -87,14 +101,18 @@ written_to old now first stand count fault fits same done ends =
       rows = rows;
       are = done.are;
       count = sym as_many;
-      room = sym (ap (λ (n : ℕ). rows ++ drop n old) as_many ∙ ap (λ (left : List TypeRow). rows ++ left) (sym done.behind) ∙ take-append-drop count now);
+      room = sym (ap (λ (n : ℕ). rows ++ drop n old) as_many
+          ∙ ap (λ (left : List TypeRow). rows ++ left) (sym done.behind) ∙ take-append-drop count now);
       ends = subst (λ (n : ℕ). EndsWith n (length old) stand fault) (sym as_many) ends;
     }
 
 -- what is written where no record is left
-pub written_all : (old now : List TypeRow) (first stand next : WalkPosition) (count : ℕ) (fault : Fault) → count < length old → length now ≡ length old → IsWrittenTo old now first count stand
-    → step_located stand ≡ Ok (None, next) → fault ≡ no_more → WritesNext old first (record { fault = fault; length = count; room = now }) next
+pub written_all : (old now : List TypeRow) (first stand next : WalkPosition) (count : ℕ) (fault : Fault)
+    → count < length old → length now ≡ length old → IsWrittenTo old now first count stand
+    → step_located stand ≡ Ok (None, next) → fault ≡ no_more
+    → WritesNext old first (record { fault = fault; length = count; room = now }) next
 written_all old now first stand next count fault more same done step is =
     let there : next ≡ stand = (stays stand (None, next) step).1 refl in
-    subst (λ (s : WalkPosition). WritesNext old first (record { fault = fault; length = count; room = now }) s) (sym there)
+    subst (λ (s : WalkPosition). WritesNext old first (record { fault = fault; length = count; room = now }) s)
+    (sym there)
     (written_to old now first stand count fault (omega arith) same done (inr (more, rw step is)))

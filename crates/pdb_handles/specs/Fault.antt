@@ -2,7 +2,16 @@
 use Rattle.std.specs.Prelude.{ℕ, ◌+◌, bytes_eq, if◌then◌else◌, List, [], ◌∷◌, codes}
 use Rattle.std.specs.declared.io.ErrorKind.{ErrorKind}
 use Rattle.std.specs.declared.io.ErrorKind.TheVariants as kinds
-use Rattle.pdb_base.specs.Refusal.{Refusal, unrecognized_file_format, stream_name_not_found, unexpected_eof, global_symbols_not_found, symbol_too_short, type_too_short, address_map_not_found, lines_not_found, invalid_compressed_annotation, out_of_memory, page_reference_out_of_range, invalid_page_size, stream_not_found, unimplemented_symbol_kind, type_not_found, unimplemented_type_kind, not_a_cross_module_ref, cross_module_ref_not_found, unexpected_numeric_prefix, unimplemented_debug_subsection, unimplemented_file_checksum_kind, invalid_file_checksum_offset, unknown_binary_annotation, type_not_indexed, invalid_stream_length, unimplemented_feature, invalid_type_information_header, io_error}
+use Rattle.pdb_base.specs.Refusal.{Refusal, unrecognized_file_format, stream_name_not_found, unexpected_eof}
+use Rattle.pdb_base.specs.Refusal.{global_symbols_not_found, symbol_too_short, type_too_short, address_map_not_found}
+use Rattle.pdb_base.specs.Refusal.{lines_not_found, invalid_compressed_annotation, out_of_memory}
+use Rattle.pdb_base.specs.Refusal.{page_reference_out_of_range, invalid_page_size, stream_not_found}
+use Rattle.pdb_base.specs.Refusal.{unimplemented_symbol_kind, type_not_found, unimplemented_type_kind}
+use Rattle.pdb_base.specs.Refusal.{not_a_cross_module_ref, cross_module_ref_not_found, unexpected_numeric_prefix}
+use Rattle.pdb_base.specs.Refusal.{unimplemented_debug_subsection, unimplemented_file_checksum_kind}
+use Rattle.pdb_base.specs.Refusal.{invalid_file_checksum_offset, unknown_binary_annotation, type_not_indexed}
+use Rattle.pdb_base.specs.Refusal.{invalid_stream_length, unimplemented_feature, invalid_type_information_header}
+use Rattle.pdb_base.specs.Refusal.{io_error}
 use Rattle.pdb_handles.specs.declared.fault.Fault.{Fault}
 
 -- ---- misuse, and other faults that are no refusals
@@ -55,8 +64,10 @@ abbrev pub texts : List (List ℕ)
 texts =
     codes "OMAP" ∷ codes "FPO" ∷ codes "FrameData"
     ∷ codes "small MSF file format" ∷ codes "ancient DBI header" ∷ codes "invalid string table signature"
-    ∷ codes "unknown string table hash version" ∷ codes "u64 array sizes" ∷ codes "field list continuation not below its list"
-    ∷ codes "header size is impossibly small" ∷ codes "header size is unreasonably large" ∷ codes "minimum type index is < 4096"
+    ∷ codes "unknown string table hash version" ∷ codes "u64 array sizes"
+    ∷ codes "field list continuation not below its list"
+    ∷ codes "header size is impossibly small" ∷ codes "header size is unreasonably large"
+    ∷ codes "minimum type index is < 4096"
     ∷ codes "maximum type index is < minimum type index"
     ∷ codes "OMAP table that is not sorted" ∷ codes "frames that are not sorted"
     ∷ codes "directory that is larger than its file" ∷ codes "streams that are larger than their file" ∷ []

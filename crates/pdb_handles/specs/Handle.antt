@@ -48,7 +48,8 @@ Opens (Some held) meant fault now = (fault ≡ already_open) × (now ≡ Some he
 -- `too_long`.
 abbrev pub OpensStream : List ℕ → Option Content → Answer Content → Fault → Option Content → Type 0
 OpensStream stream None meant fault now =
-    (length stream < 0xffffffff → OpensTo meant fault now) × (0xffffffff ≤ length stream → (fault ≡ too_long) × (now ≡ None))
+    (length stream < 0xffffffff → OpensTo meant fault now)
+    × (0xffffffff ≤ length stream → (fault ≡ too_long) × (now ≡ None))
 OpensStream stream (Some held) meant fault now = (fault ≡ already_open) × (now ≡ Some held)
 
 -- the names that a handle holds, if it holds names

@@ -19,13 +19,28 @@ id_number index = option_map (λ index. index.0) index
 -- the numbers of the place where a type is declared: the id of a file's name, or a module and the offset
 -- of the name in the string table
 abbrev pub source_numbers : ℕ → ℕ → UserDefinedTypeSourceFileRef → Numbers
-source_numbers type line (files.Local file) = record no_numbers { type_index = Some type; second_index = Some file.0; extra = Some line }
-source_numbers type line (files.Remote unit place) = record no_numbers { type_index = Some type; third_index = Some unit; number = Some place; extra = Some line }
+source_numbers type line (files.Local file) = record no_numbers {
+  type_index = Some type;
+  second_index = Some file.0;
+  extra = Some line;
+}
+source_numbers type line (files.Remote unit place) = record no_numbers {
+  type_index = Some type;
+  third_index = Some unit;
+  number = Some place;
+  extra = Some line;
+}
 
 -- the row of an id that is not a list
 abbrev pub plain_row : PlainIdValue → Row
-plain_row (ids.function v) = zeroed_row 0 (record no_numbers { type_index = Some v.function_type.0; second_index = id_number v.scope })
-plain_row (ids.member_function v) = zeroed_row 1 (record no_numbers { type_index = Some v.function_type.0; third_index = Some v.parent.0 })
+plain_row (ids.function v) = zeroed_row 0 (record no_numbers {
+  type_index = Some v.function_type.0;
+  second_index = id_number v.scope;
+})
+plain_row (ids.member_function v) = zeroed_row 1 (record no_numbers {
+  type_index = Some v.function_type.0;
+  third_index = Some v.parent.0;
+})
 plain_row (ids.string v) = zeroed_row 4 (record no_numbers { list_index = id_number v.substrings })
 plain_row (ids.user_defined_type_source v) = zeroed_row 5 (source_numbers v.udt.0 v.line v.source_file)
 

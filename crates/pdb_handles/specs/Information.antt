@@ -28,4 +28,5 @@ named_listing streams = record { rows = map named_row streams; names = flat_map 
 
 -- the streams that stream 1 names, in the order of their entries
 abbrev pub names_said : List ℕ → Answer (Option (NamedRows NamedStream))
-names_said file = read_of_file file_information file >>= stream_names_of >>= λ streams. Ok (Some (named_listing streams))
+names_said file =
+    read_of_file file_information file >>= stream_names_of >>= λ streams. Ok (Some (named_listing streams))

@@ -8,7 +8,11 @@ use Rattle.pdb_handles.specs.Row.{no_numbers, zeroed_row}
 
 -- a method of a list for the caller: like a method that isn't in a list, but without a name
 abbrev pub method_info : MethodListEntry → Row
-method_info method = zeroed_row 5 (record no_numbers { attributes = Some method.attributes; type_index = Some method.method_type.0; extra = method.vtable_offset })
+method_info method = zeroed_row 5 (record no_numbers {
+  attributes = Some method.attributes;
+  type_index = Some method.method_type.0;
+  extra = method.vtable_offset;
+})
 
 -- the methods that a type lists, if it is a list of methods
 abbrev pub methods_in : TypeValue → Option (List Row)

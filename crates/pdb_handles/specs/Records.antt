@@ -1,5 +1,6 @@
 -- The contents of a type record, as a caller sees them: its row, its name and its lists.
-use Rattle.std.specs.Prelude.{◌≡◌, ◌⊎◌, ℕ, ◌||◌, nat_lt, if◌then◌else◌, is_some, unwrap_or, List, [], ◌++◌, length, drop, map, Option, Some, None, Ok, Err}
+use Rattle.std.specs.Prelude.{◌≡◌, ◌⊎◌, ℕ, ◌||◌, nat_lt, if◌then◌else◌, is_some, unwrap_or, List, [], ◌++◌, length}
+use Rattle.std.specs.Prelude.{drop, map, Option, Some, None, Ok, Err}
 use Rattle.std.specs.List.{flat_map}
 use Rattle.pdb_base.specs.Answer.{Answer, ◌>>=◌}
 use Rattle.pdb_base.specs.Refusal.{out_of_memory}
@@ -34,7 +35,11 @@ name_bytes value = unwrap_or (name_of_type value) []
 
 -- a field for the caller
 abbrev pub field_info : TypeValue → FieldRow
-field_info value = record { info = type_info value; has_name = flag (is_some (name_of_type value)); name_length = length (name_bytes value) }
+field_info value = record {
+  info = type_info value;
+  has_name = flag (is_some (name_of_type value));
+  name_length = length (name_bytes value);
+}
 
 -- rows for the caller, and their names one behind another
 pub record NamedRows (R : Type 0) : Type 0 where
@@ -76,7 +81,14 @@ abbrev pub rows_copied : {R : Type 0} → List R → List ℕ → List R → Lis
 rows_copied rows names told bytes =
     if nat_lt (length rows) (length told) || nat_lt (length names) (length bytes)
     then record { fault = too_small; rows = rows; count = length told; names = names; size = length bytes }
-    else record { fault = fine; rows = told ++ drop (length told) rows; count = length told; names = bytes ++ drop (length bytes) names; size = length bytes }
+    else record {
+      fault = fine;
+      rows = told ++ drop (length told) rows;
+      count = length told;
+      names = bytes
+          ++ drop (length bytes) names;
+      size = length bytes;
+    }
 
 -- the listing that is meant is written, or the fault is that of its refusal
 abbrev pub listing_told : {R : Type 0} → List R → List ℕ → Answer (Option (NamedRows R)) → Fielded R

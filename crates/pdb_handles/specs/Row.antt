@@ -54,7 +54,18 @@ index_in index = option_map (λ index. index.0) index
 
 -- no numbers
 abbrev pub no_numbers : Numbers
-no_numbers = record { kind = None; attributes = None; properties = None; count = None; type_index = None; second_index = None; third_index = None; list_index = None; extra = None; number = None }
+no_numbers = record {
+  kind = None;
+  attributes = None;
+  properties = None;
+  count = None;
+  type_index = None;
+  second_index = None;
+  third_index = None;
+  list_index = None;
+  extra = None;
+  number = None;
+}
 
 -- the weight of a number's bit if the number is present, and else 0
 abbrev pub bit : ℕ → Option ℕ → ℕ
@@ -74,35 +85,119 @@ zeroed_row shape numbers = record {
   extra = unwrap_or numbers.extra 0;
   number = unwrap_or numbers.number 0;
   shape = shape;
-  has = bit 1 numbers.kind + bit 2 numbers.attributes + bit 4 numbers.properties + bit 8 numbers.count + bit 16 numbers.type_index + bit 32 numbers.second_index + bit 64 numbers.third_index + bit 128 numbers.list_index + bit 256 numbers.extra + bit 512 numbers.number;
+  has = bit 1 numbers.kind + bit 2 numbers.attributes + bit 4 numbers.properties + bit 8 numbers.count
+      + bit 16 numbers.type_index + bit 32 numbers.second_index + bit 64 numbers.third_index
+      + bit 128 numbers.list_index + bit 256 numbers.extra + bit 512 numbers.number;
 }
 
 -- the row of a record without a list, or of a primitive type, which has no numbers
 abbrev pub plain_row : PlainValue → Row
 plain_row (values.primitive v) = zeroed_row 0 no_numbers
-plain_row (values.class v) = zeroed_row 1 (record no_numbers { kind = Some (class_kind v.kind); properties = Some v.properties; count = Some v.count; second_index = index_in v.derived_from; third_index = index_in v.vtable_shape; list_index = index_in v.fields; number = Some v.size })
-plain_row (values.member v) = zeroed_row 2 (record no_numbers { attributes = Some v.attributes; type_index = Some v.field_type.0; number = Some v.offset })
-plain_row (values.member_function v) = zeroed_row 3 (record no_numbers { attributes = Some v.attributes; count = Some v.parameter_count; type_index = Some v.return_type.0; second_index = Some v.class_type.0; third_index = index_in v.this_pointer_type; list_index = Some v.argument_list.0; extra = Some v.this_adjustment })
-plain_row (values.overloaded_method v) = zeroed_row 4 (record no_numbers { count = Some v.count; list_index = Some v.method_list.0 })
-plain_row (values.method v) = zeroed_row 5 (record no_numbers { attributes = Some v.attributes; type_index = Some v.method_type.0; extra = v.vtable_offset })
-plain_row (values.static_member v) = zeroed_row 6 (record no_numbers { attributes = Some v.attributes; type_index = Some v.field_type.0 })
-plain_row (values.nested v) = zeroed_row 7 (record no_numbers { attributes = Some v.attributes; type_index = Some v.nested_type.0 })
-plain_row (values.base_class v) = zeroed_row 8 (record no_numbers { kind = Some (class_kind v.kind); attributes = Some v.attributes; type_index = Some v.base_class.0; number = Some v.offset })
-plain_row (values.virtual_base_class v) = zeroed_row 9 (record no_numbers { kind = Some (flag v.direct); attributes = Some v.attributes; type_index = Some v.base_class.0; second_index = Some v.base_pointer.0; number = Some v.base_pointer_offset; extra = Some v.virtual_base_offset })
+plain_row (values.class v) = zeroed_row 1 (record no_numbers {
+  kind = Some (class_kind v.kind);
+  properties = Some v.properties;
+  count = Some v.count;
+  second_index = index_in v.derived_from;
+  third_index = index_in v.vtable_shape;
+  list_index = index_in v.fields;
+  number = Some v.size;
+})
+plain_row (values.member v) = zeroed_row 2 (record no_numbers {
+  attributes = Some v.attributes;
+  type_index = Some v.field_type.0;
+  number = Some v.offset;
+})
+plain_row (values.member_function v) = zeroed_row 3 (record no_numbers {
+  attributes = Some v.attributes;
+  count = Some v.parameter_count;
+  type_index = Some v.return_type.0;
+  second_index = Some v.class_type.0;
+  third_index = index_in v.this_pointer_type;
+  list_index = Some v.argument_list.0;
+  extra = Some v.this_adjustment;
+})
+plain_row (values.overloaded_method v) = zeroed_row 4 (record no_numbers {
+  count = Some v.count;
+  list_index = Some v.method_list.0;
+})
+plain_row (values.method v) = zeroed_row 5 (record no_numbers {
+  attributes = Some v.attributes;
+  type_index = Some v.method_type.0;
+  extra = v.vtable_offset;
+})
+plain_row (values.static_member v) = zeroed_row 6 (record no_numbers {
+  attributes = Some v.attributes;
+  type_index = Some v.field_type.0;
+})
+plain_row (values.nested v) = zeroed_row 7 (record no_numbers {
+  attributes = Some v.attributes;
+  type_index = Some v.nested_type.0;
+})
+plain_row (values.base_class v) = zeroed_row 8 (record no_numbers {
+  kind = Some (class_kind v.kind);
+  attributes = Some v.attributes;
+  type_index = Some v.base_class.0;
+  number = Some v.offset;
+})
+plain_row (values.virtual_base_class v) = zeroed_row 9 (record no_numbers {
+  kind = Some (flag v.direct);
+  attributes = Some v.attributes;
+  type_index = Some v.base_class.0;
+  second_index = Some v.base_pointer.0;
+  number = Some v.base_pointer_offset;
+  extra = Some v.virtual_base_offset;
+})
 plain_row (values.virtual_function_table_pointer v) = zeroed_row 10 (record no_numbers { type_index = Some v.table.0 })
-plain_row (values.procedure v) = zeroed_row 11 (record no_numbers { attributes = Some v.attributes; count = Some v.parameter_count; type_index = index_in v.return_type; list_index = Some v.argument_list.0 })
-plain_row (values.pointer v) = zeroed_row 12 (record no_numbers { attributes = Some v.attributes; type_index = Some v.underlying_type.0; second_index = index_in v.containing_class })
-plain_row (values.modifier v) = zeroed_row 13 (record no_numbers { kind = Some (flag v.constant + 2 * flag v.volatile + 4 * flag v.unaligned); type_index = Some v.underlying_type.0 })
-plain_row (values.enumeration v) = zeroed_row 14 (record no_numbers { properties = Some v.properties; count = Some v.count; type_index = Some v.underlying_type.0; list_index = Some v.fields.0 })
-plain_row (values.enumerate v) = zeroed_row 15 (record no_numbers { kind = Some (flag (is_signed v.value)); attributes = Some v.attributes; count = Some (width_of v.value); number = Some (in_64_bits v.value) })
-plain_row (values.union v) = zeroed_row 17 (record no_numbers { properties = Some v.properties; count = Some v.count; list_index = Some v.fields.0; number = Some v.size })
-plain_row (values.bitfield v) = zeroed_row 18 (record no_numbers { count = Some v.length; type_index = Some v.underlying_type.0; extra = Some v.position })
+plain_row (values.procedure v) = zeroed_row 11 (record no_numbers {
+  attributes = Some v.attributes;
+  count = Some v.parameter_count;
+  type_index = index_in v.return_type;
+  list_index = Some v.argument_list.0;
+})
+plain_row (values.pointer v) = zeroed_row 12 (record no_numbers {
+  attributes = Some v.attributes;
+  type_index = Some v.underlying_type.0;
+  second_index = index_in v.containing_class;
+})
+plain_row (values.modifier v) = zeroed_row 13 (record no_numbers {
+  kind = Some
+      (flag v.constant + 2 * flag v.volatile + 4 * flag v.unaligned);
+  type_index = Some v.underlying_type.0;
+})
+plain_row (values.enumeration v) = zeroed_row 14 (record no_numbers {
+  properties = Some v.properties;
+  count = Some v.count;
+  type_index = Some v.underlying_type.0;
+  list_index = Some v.fields.0;
+})
+plain_row (values.enumerate v) = zeroed_row 15 (record no_numbers {
+  kind = Some (flag (is_signed v.value));
+  attributes = Some v.attributes;
+  count = Some (width_of v.value);
+  number = Some (in_64_bits v.value);
+})
+plain_row (values.union v) = zeroed_row 17 (record no_numbers {
+  properties = Some v.properties;
+  count = Some v.count;
+  list_index = Some v.fields.0;
+  number = Some v.size;
+})
+plain_row (values.bitfield v) = zeroed_row 18 (record no_numbers {
+  count = Some v.length;
+  type_index = Some v.underlying_type.0;
+  extra = Some v.position;
+})
 plain_row (values.virtual_table_shape v) = zeroed_row 22 (record no_numbers { count = Some v.count })
 
 -- the row of a type
 abbrev pub type_info : TypeValue → Row
 type_info (plain value) = plain_row value
-type_info (values.array v) = zeroed_row 16 (record no_numbers { type_index = Some v.element_type.0; second_index = Some v.indexing_type.0; extra = v.stride })
-type_info (values.field_list fields continuation) = zeroed_row 19 (record no_numbers { list_index = index_in continuation })
+type_info (values.array v) = zeroed_row 16 (record no_numbers {
+  type_index = Some v.element_type.0;
+  second_index = Some v.indexing_type.0;
+  extra = v.stride;
+})
+type_info (values.field_list fields continuation) =
+    zeroed_row 19 (record no_numbers { list_index = index_in continuation })
 type_info (values.argument_list arguments) = zeroed_row 20 no_numbers
 type_info (values.method_list methods) = zeroed_row 21 no_numbers

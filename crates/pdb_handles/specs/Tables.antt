@@ -68,7 +68,10 @@ step_told old held = record { fault = not_open; value = old; held = held }
 
 -- how a call ended that sets the walk back to the first item, and what the handle holds afterwards
 abbrev pub rewind_outcome : Option Content → Found (Option Content)
-rewind_outcome (Some (contents.Table stand)) = record { fault = fine; value = Some (contents.Table (first_stand stand.table)) }
+rewind_outcome (Some (contents.Table stand)) = record {
+  fault = fine;
+  value = Some (contents.Table (first_stand stand.table));
+}
 rewind_outcome held = record { fault = not_open; value = held }
 
 -- the fields of a field list in a table, and of the lists that continue it

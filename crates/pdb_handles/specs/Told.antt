@@ -1,8 +1,18 @@
 -- Which refusal a fault stands for, so that refusals can be told apart and shown as text.
-use Rattle.std.specs.Prelude.{◌≡◌, Bool, ℕ, zero, suc, ◌<◌, ◌^◌, ◌==◌, ◌&&◌, nat_lt, if◌then◌else◌, ⊤, List, [], ◌∷◌, Contains, slice_get, Option, Some, None, option_map}
+use Rattle.std.specs.Prelude.{◌≡◌, Bool, ℕ, zero, suc, ◌<◌, ◌^◌, ◌==◌, ◌&&◌, nat_lt, if◌then◌else◌, ⊤, List, [], ◌∷◌}
+use Rattle.std.specs.Prelude.{Contains, slice_get, Option, Some, None, option_map}
 use Rattle.std.specs.declared.io.ErrorKind.{ErrorKind}
 use Rattle.std.specs.declared.io.ErrorKind.TheVariants as kinds
-use Rattle.pdb_base.specs.Refusal.{Refusal, unrecognized_file_format, stream_name_not_found, unexpected_eof, global_symbols_not_found, symbol_too_short, type_too_short, address_map_not_found, lines_not_found, invalid_compressed_annotation, out_of_memory, page_reference_out_of_range, invalid_page_size, stream_not_found, unimplemented_symbol_kind, type_not_found, unimplemented_type_kind, not_a_cross_module_ref, cross_module_ref_not_found, unexpected_numeric_prefix, unimplemented_debug_subsection, unimplemented_file_checksum_kind, invalid_file_checksum_offset, unknown_binary_annotation, type_not_indexed, invalid_stream_length, unimplemented_feature, invalid_type_information_header, io_error}
+use Rattle.pdb_base.specs.Refusal.{Refusal, unrecognized_file_format, stream_name_not_found, unexpected_eof}
+use Rattle.pdb_base.specs.Refusal.{global_symbols_not_found, symbol_too_short, type_too_short, address_map_not_found}
+use Rattle.pdb_base.specs.Refusal.{lines_not_found, invalid_compressed_annotation, out_of_memory}
+use Rattle.pdb_base.specs.Refusal.{page_reference_out_of_range, invalid_page_size, stream_not_found}
+use Rattle.pdb_base.specs.Refusal.{unimplemented_symbol_kind, type_not_found, unimplemented_type_kind}
+use Rattle.pdb_base.specs.Refusal.{not_a_cross_module_ref, cross_module_ref_not_found, unexpected_numeric_prefix}
+use Rattle.pdb_base.specs.Refusal.{unimplemented_debug_subsection, unimplemented_file_checksum_kind}
+use Rattle.pdb_base.specs.Refusal.{invalid_file_checksum_offset, unknown_binary_annotation, type_not_indexed}
+use Rattle.pdb_base.specs.Refusal.{invalid_stream_length, unimplemented_feature, invalid_type_information_header}
+use Rattle.pdb_base.specs.Refusal.{io_error}
 use Rattle.std.specs.Option.{option_map_or}
 use Rattle.pdb_base.specs.ErrorText.{text_of}
 use Rattle.pdb_handles.specs.declared.fault.Fault.{Fault}
@@ -50,13 +60,19 @@ of_source first second = option_map io_error (kind_numbered first)
 abbrev pub tellings : List RefusalByNumbers
 tellings =
     no_refusal
-    ∷ plain unrecognized_file_format ∷ number_fault page_reference_out_of_range ∷ number_fault invalid_page_size ∷ number_fault stream_not_found
+    ∷ plain unrecognized_file_format ∷ number_fault page_reference_out_of_range ∷ number_fault invalid_page_size
+    ∷ number_fault stream_not_found
     ∷ plain stream_name_not_found ∷ text_fault invalid_stream_length ∷ of_source ∷ plain unexpected_eof
-    ∷ text_fault unimplemented_feature ∷ plain global_symbols_not_found ∷ plain symbol_too_short ∷ below (2 ^ 16) unimplemented_symbol_kind
-    ∷ text_fault invalid_type_information_header ∷ plain type_too_short ∷ number_fault type_not_found ∷ (λ first second. Some (type_not_indexed first second))
-    ∷ below (2 ^ 16) unimplemented_type_kind ∷ number_fault not_a_cross_module_ref ∷ number_fault cross_module_ref_not_found ∷ below (2 ^ 16) unexpected_numeric_prefix
-    ∷ plain address_map_not_found ∷ number_fault unimplemented_debug_subsection ∷ below (2 ^ 8) unimplemented_file_checksum_kind ∷ number_fault invalid_file_checksum_offset
-    ∷ plain lines_not_found ∷ plain invalid_compressed_annotation ∷ number_fault unknown_binary_annotation ∷ plain out_of_memory ∷ []
+    ∷ text_fault unimplemented_feature ∷ plain global_symbols_not_found ∷ plain symbol_too_short
+    ∷ below (2 ^ 16) unimplemented_symbol_kind
+    ∷ text_fault invalid_type_information_header ∷ plain type_too_short ∷ number_fault type_not_found
+    ∷ (λ first second. Some (type_not_indexed first second))
+    ∷ below (2 ^ 16) unimplemented_type_kind ∷ number_fault not_a_cross_module_ref
+    ∷ number_fault cross_module_ref_not_found ∷ below (2 ^ 16) unexpected_numeric_prefix
+    ∷ plain address_map_not_found ∷ number_fault unimplemented_debug_subsection
+    ∷ below (2 ^ 8) unimplemented_file_checksum_kind ∷ number_fault invalid_file_checksum_offset
+    ∷ plain lines_not_found ∷ plain invalid_compressed_annotation ∷ number_fault unknown_binary_annotation
+    ∷ plain out_of_memory ∷ []
 
 -- the refusal that a fault can stand for
 abbrev pub candidate : Fault → Option Refusal

@@ -1,7 +1,12 @@
 -- An address or a place of an image in its four forms: in the image as it is loaded and in the original one.
 use Rattle.std.specs.Prelude.{◌≡◌, ℕ, zero, suc, ⊤, is_some, unwrap_or, Option, Some, None, IfSome}
 use Rattle.std.specs.Option.{option_map, option_map_or}
-use Rattle.pdb_space.specs.Conversions.{AddressMapValue, ComesSomehow, IsByTable, rva_to_internal_rva, rva_to_section_offset, rva_to_internal_offset, internal_rva_to_rva, internal_rva_to_section_offset, internal_rva_to_internal_offset, section_offset_to_rva, section_offset_to_internal_rva, section_offset_to_internal_offset, internal_offset_to_internal_rva, internal_offset_to_rva, internal_offset_to_section_offset}
+use Rattle.pdb_space.specs.Conversions.{AddressMapValue, ComesSomehow, IsByTable, rva_to_internal_rva}
+use Rattle.pdb_space.specs.Conversions.{rva_to_section_offset, rva_to_internal_offset, internal_rva_to_rva}
+use Rattle.pdb_space.specs.Conversions.{internal_rva_to_section_offset, internal_rva_to_internal_offset}
+use Rattle.pdb_space.specs.Conversions.{section_offset_to_rva, section_offset_to_internal_rva}
+use Rattle.pdb_space.specs.Conversions.{section_offset_to_internal_offset, internal_offset_to_internal_rva}
+use Rattle.pdb_space.specs.Conversions.{internal_offset_to_rva, internal_offset_to_section_offset}
 use Rattle.pdb_space.specs.Omap.{MovesSomehow}
 use Rattle.pdb_space.specs.SectionPlace.{SectionPlace}
 use Rattle.pdb_handles.specs.declared.translation.Place.{Place}
@@ -42,7 +47,8 @@ pub record AreOfRva (map : AddressMapValue) (address : ℕ) (forms : Forms) : Ty
   pub internal_place : IsByTable map.transformed_to_original (rva_to_internal_offset map address)
       (ComesSomehow (Some address) (internal_rva_to_internal_offset map)) forms.internal_place
 
--- The forms of a place in a section of the image as it is loaded, as in `AreOfRva`. Without sections of the loaded image
+-- The forms of a place in a section of the image as it is loaded, as in `AreOfRva`. Without sections of the loaded
+-- image
 -- the place in the original image is the same.
 pub record AreOfPlace (map : AddressMapValue) (given : SectionPlace) (forms : Forms) : Type 0 where
   pub rva : forms.rva ≡ section_offset_to_rva map given
@@ -88,4 +94,5 @@ AreForms map form given forms = ⊥
 -- These forms are written for the caller; or what is given has no form, and nothing is written.
 abbrev pub Translates : AddressMapValue → ℕ → SectionPlace → Translation → Found Translation → Type 0
 Translates map form given old told =
-    (forms : Option Forms) × AreForms map form given forms × (told ≡ value_or_fault no_value old (option_map translation_of forms))
+    (forms : Option Forms) × AreForms map form given forms
+    × (told ≡ value_or_fault no_value old (option_map translation_of forms))

@@ -29,7 +29,8 @@ type_told index place (Err refusal) = record { place = located_at index place; f
 
 -- A record is written as it is meant; or memory to parse it was refused.
 abbrev pub IsTypeRow : ℕ → RecordPlace → Answer TypeValue → TypeRow → Type 0
-IsTypeRow index place meant told = (told ≡ type_told index place meant) ⊎ (told ≡ type_told index place (Err out_of_memory))
+IsTypeRow index place meant told =
+    (told ≡ type_told index place meant) ⊎ (told ≡ type_told index place (Err out_of_memory))
 
 -- These are the next records of a walk: each step returns the place of one, and its row is that of the bytes of
 -- the stream there. Behind the last one, the walk stands at `end`.
@@ -37,7 +38,8 @@ abbrev pub AreNext : WalkPosition → List TypeRow → WalkPosition → Type 0
 AreNext stand [] end = end ≡ stand
 AreNext stand (told ∷ more) end =
     (place : RecordPlace) × (next : WalkPosition) × (step_located stand ≡ Ok (Some place, next))
-    × IsTypeRow (index_told stand.index) place (type_of (index_told stand.index) (record_bytes stand.table place)) told × AreNext next more end
+    × IsTypeRow (index_told stand.index) place (type_of (index_told stand.index) (record_bytes stand.table place)) told
+    × AreNext next more end
 
 -- No record is left, or the fault is that of the next one.
 abbrev pub StopsWith : Answer (Option RecordPlace × WalkPosition) → Fault → Type 0
@@ -47,11 +49,13 @@ StopsWith (Err refusal) fault = fault ≡ fault_of refusal
 
 -- Why no more records are written: the array has no room for more, or the walk stops there.
 abbrev pub EndsWith : ℕ → ℕ → WalkPosition → Fault → Type 0
-EndsWith count room end fault = ((count ≡ room) × (fault ≡ fine)) ⊎ ((count < room) × StopsWith (step_located end) fault)
+EndsWith count room end fault =
+    ((count ≡ room) × (fault ≡ fine)) ⊎ ((count < room) × StopsWith (step_located end) fault)
 
 -- The next records of a walk are written at the front of an array, as many as it has room for or as are left
 -- before the walk stops, and the items behind them stay as they were. The walk stands behind the last one.
-pub record WritesNext (old : List TypeRow) (stand : WalkPosition) (told : Copied TypeRow) (end : WalkPosition) : Type 0 where
+pub record WritesNext (old : List TypeRow) (stand : WalkPosition) (told : Copied TypeRow)
+    (end : WalkPosition) : Type 0 where
   pub rows : List TypeRow
   pub are : AreNext stand rows end
   pub count : told.length ≡ length rows
@@ -60,5 +64,6 @@ pub record WritesNext (old : List TypeRow) (stand : WalkPosition) (told : Copied
 
 -- The same for the table that a handle holds; nothing is written if it holds none.
 abbrev pub WritesNextOf : List TypeRow → Option Content → Copied TypeRow → Option Content → Type 0
-WritesNextOf old (Some (contents.Table stand)) told held = (end : WalkPosition) × (held ≡ Some (contents.Table end)) × WritesNext old stand told end
+WritesNextOf old (Some (contents.Table stand)) told held =
+    (end : WalkPosition) × (held ≡ Some (contents.Table end)) × WritesNext old stand told end
 WritesNextOf old before told held = (told ≡ nothing_copied not_open old) × (held ≡ before)

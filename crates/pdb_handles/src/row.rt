@@ -3,7 +3,8 @@
 ghost use Rattle.std.specs.Prelude.{◌≡◌, ◌+◌, ◌*◌, ◌≤◌};
 ghost use Rattle.pdb_values.specs.TypeView.{type_value};
 ghost use Rattle.pdb_handles.specs.Frame.{flag};
-ghost use Rattle.pdb_handles.specs.Row.{bit, in_64_bits, index_in, is_signed, no_numbers, zeroed_row, type_info, width_of};
+ghost use Rattle.pdb_handles.specs.Row.{bit, in_64_bits, index_in, is_signed, no_numbers, zeroed_row, type_info};
+ghost use Rattle.pdb_handles.specs.Row.{width_of};
 
 use crate::frame::flag;
 use pdb_base::{TypeIndex, Variant};

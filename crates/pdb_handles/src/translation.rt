@@ -2,7 +2,8 @@
 //! original one, which the parts of a program database refer to.
 
 ghost use Rattle.std.specs.Prelude.{◌≡◌};
-ghost use Rattle.pdb_handles.specs.Translation.{AreForms, AreOfInternalPlace, AreOfInternalRva, AreOfPlace, AreOfRva, Translates, place_or_none, translation_of};
+ghost use Rattle.pdb_handles.specs.Translation.{AreForms, AreOfInternalPlace, AreOfInternalRva, AreOfPlace, AreOfRva};
+ghost use Rattle.pdb_handles.specs.Translation.{Translates, place_or_none, translation_of};
 
 use crate::fault::{Fault, NONE};
 use crate::found::tell_found;

@@ -38,4 +38,5 @@ known_formats =
 
 -- the format with whose prefix a file begins
 unfoldable pub format_of : List ℕ → Format
-format_of file = option_map_or (λ known. known.format) (find (λ known. starts_with nat_eq file known.prefix) known_formats) formats.Unknown
+format_of file = option_map_or (λ known. known.format) (find
+    (λ known. starts_with nat_eq file known.prefix) known_formats) formats.Unknown

@@ -22,7 +22,8 @@ asks_refused X old middle new part rest e fits first second = let low = second.0
     (omega arith, omega arith)
 
 -- of a stream that the directory describes its size is wanted, cut to the limit
-pub wanted_is : (old file : List ℕ) (before head : Head) (n : ℕ) (limit : Option ℕ) (directory : List ℕ) (entry : PagesOfStream)
+pub wanted_is : (old file : List ℕ) (before head : Head) (n : ℕ) (limit : Option ℕ) (directory : List ℕ)
+    (entry : PagesOfStream)
     → file ≡ old → head ≡ before
     → directory_of file head ≡ Ok directory → stream_entry_of head.geometry n limit directory ≡ Ok entry
     → requested_size (described_stream old before n limit) ≡ entry.size

@@ -11,7 +11,8 @@ use Rattle.pdb_msf.specs.declared.header.Geometry.{Geometry}
 use Rattle.pdb_msf.specs.declared.directory.StreamPlace.{StreamPlace}
 use Rattle.pdb_msf.specs.Source.{State, TellsKind}
 use Rattle.pdb_msf.specs.Pages.{pages, present, valid_page, page_numbers, words}
-use Rattle.pdb_msf.specs.Directory.{PagesOfStream, absent, stream_entry_of, limit_size, stream_place_in, sizes_of, start_of}
+use Rattle.pdb_msf.specs.Directory.{PagesOfStream, absent, stream_entry_of, limit_size, stream_place_in, sizes_of}
+use Rattle.pdb_msf.specs.Directory.{start_of}
 use Rattle.pdb_msf.proofs.LawLemmas.{first_fault}
 
 -- answers that refuse with no error of a source
@@ -86,7 +87,8 @@ pub tells_numbers : {X : Type 0} (state : State) (view : X → List ℕ) (e : Er
 tells_numbers state view e pages_used count words answered =
     tells_answers state view e (page_numbers pages_used count words) (plain_numbers pages_used count words) answered
 
-pub tells_entry : {X : Type 0} (state : State) (view : X → PagesOfStream) (e : Error) (g : Geometry) (n : ℕ) (limit : Option ℕ)
+pub tells_entry : {X : Type 0} (state : State) (view : X → PagesOfStream) (e : Error) (g : Geometry) (n : ℕ)
+    (limit : Option ℕ)
     (d : List ℕ)
     → Answers view (Err e) (stream_entry_of g n limit d) → TellsKind state (refusal_of e)
 tells_entry state view e g n limit d answered =

@@ -105,7 +105,8 @@ unfolding bytes_at
 missing_by_index file f size e = elim (cases_Bool
     (list_all (λ place. ltb place (length file)) (map f (range_with_len 0 size)))) [
       | inl all ↦ absurd (some_is_not_none (map (slice_index file) (map f (range_with_len 0 size)))
-          (subst (λ (b : Bool). cond b (Some (map (slice_index file) (map f (range_with_len 0 size)))) None ≡ None) all e))
+          (subst (λ (b : Bool). cond b (Some (map (slice_index file) (map f (range_with_len 0 size)))) None
+          ≡ None) all e))
       | inr none ↦
           let past = place_past (length file) (map f (range_with_len 0 size)) none in
           let lt : past.0 < size = omega (arith, past.1, length-map-range_with_len f 0 size) in
@@ -243,7 +244,8 @@ first_in {A} f (suc count) e h = elim (answer_cases (values_of_all (map f (range
     | inl here ↦ absurd (
         let next : count + 1 ≡ suc count = omega arith in
         let all = collected_more f count there.0 here.0 there.1 here.1 in
-        ok_is_no_err (there.0 ++ here.0 ∷ []) e (sym all ∙ ap (λ (n : ℕ). values_of_all (map f (range_with_len 0 n))) next
+        ok_is_no_err (there.0 ++ here.0 ∷ []) e (sym all
+        ∙ ap (λ (n : ℕ). values_of_all (map f (range_with_len 0 n))) next
         ∙ h))
   ]
 ]
@@ -274,7 +276,8 @@ cut_is file page_size numbers size limit bytes e =
     })
 
 -- under a limit an entry differs only in how many bytes are requested
-limited_entry : (g : Geometry) (n limit : ℕ) (d : List ℕ) (entry : PagesOfStream) → stream_entry_of g n None d ≡ Ok entry
+limited_entry : (g : Geometry) (n limit : ℕ) (d : List ℕ) (entry : PagesOfStream) → stream_entry_of g n None d
+    ≡ Ok entry
     → stream_entry_of g n (Some limit) d ≡ Ok (record { size = min entry.size limit; pages = entry.pages })
 unfolding stream_entry_of
 limited_entry g n limit d entry e =

@@ -13,7 +13,8 @@ use Rattle.pdb_base.specs.Answer.{Answer}
 use Rattle.pdb_msf.specs.Pages.{pages, page_numbers, words}
 use Rattle.pdb_msf.specs.declared.header.Geometry.{Geometry}
 use Rattle.pdb_msf.specs.declared.directory.StreamPlace.{StreamPlace}
-use Rattle.pdb_msf.specs.Directory.{absent, first_word, stream_entry_of, limit_size, pages_taken, stream_place_in, sizes_of, start_of}
+use Rattle.pdb_msf.specs.Directory.{absent, first_word, stream_entry_of, limit_size, pages_taken, stream_place_in}
+use Rattle.pdb_msf.specs.Directory.{sizes_of, start_of}
 use Rattle.pdb_msf.specs.Directory.{starts_of}
 use Rattle.pdb_msf.proofs.WordLemmas.{length-words, next_word, no_word, word_past, words-drop, total_more}
 
@@ -90,7 +91,8 @@ count_read d slice start x whole begins read =
 
 -- and where there is none, the directory ends before it
 pub count_missing : (page_size n : ℕ) (d slice : List ℕ) (start : Place) (e : Refusal) → slice ≡ d
-    → start ≡ record { slice = slice; pos = 0 } → number_at 4 (left start) ≡ Err e → stream_place_in page_size n d ≡ Err e
+    → start ≡ record { slice = slice; pos = 0 } → number_at 4 (left start) ≡ Err e → stream_place_in page_size n d
+    ≡ Err e
 count_missing page_size n d slice start e whole begins missing =
     let none = no_word (words d) 0 (left start) e
     (ap (λ (p : Place). words (left p)) begins ∙ ap words whole) missing in
@@ -190,7 +192,8 @@ start_is page_size n d starts count size other are sized =
     let first = count_is d count sized.counted.has in
     let known = sized.counted.known in
     ap (λ (s : List ℕ). get_or s n other) are
-    ∙ get_or-map-range_with_len (start_of page_size (first_word d) d) 0 (min (first_word d) (length (sizes_of d))) n n other
+    ∙ get_or-map-range_with_len (start_of page_size (first_word d) d) 0
+    (min (first_word d) (length (sizes_of d))) n n other
     (omega arith) (omega arith)
     ∙ ap (λ (k : ℕ). start_of page_size k d n) first
 

@@ -113,7 +113,8 @@ length-positions_first slice slices =
     ∙ ap (λ (n : ℕ). n + length (positions slices)) (length-range_with_len slice.offset slice.size)
 
 -- all of slices that have no more bytes
-pub first_of_all : (n : ℕ) (slices : List SourceSlice) → length (positions slices) ≤ n → first_bytes_of n slices ≡ slices
+pub first_of_all : (n : ℕ) (slices : List SourceSlice) → length (positions slices) ≤ n → first_bytes_of n slices
+    ≡ slices
 unfolding first_bytes_of
 first_of_all n [] few = refl
 first_of_all n (slice ∷ slices) few =
@@ -158,7 +159,8 @@ first_of_cut n (slice ∷ shorter) last behind within =
     ∙ ap (λ (k : ℕ). shorter ++ record { offset = last.offset; size = k } ∷ []) size))
 
 -- their positions are the first n positions
-pub positions_first_of : (n : ℕ) (slices : List SourceSlice) → positions (first_bytes_of n slices) ≡ take n (positions slices)
+pub positions_first_of : (n : ℕ) (slices : List SourceSlice) → positions (first_bytes_of n slices)
+    ≡ take n (positions slices)
 unfolding first_bytes_of
 positions_first_of n [] = sym (take_all n [] (omega arith))
 positions_first_of n (slice ∷ slices) = elim (cases_lt n slice.size) [

@@ -15,7 +15,8 @@ use Rattle.pdb_msf.specs.declared.directory.StreamPlace.{StreamPlace}
 use Rattle.pdb_msf.specs.Source.{HasFailed, bytes_or_eof}
 use Rattle.pdb_msf.specs.Pages.{pages, page_number, page_numbers, present, scatter, words}
 use Rattle.pdb_msf.specs.Header.{Head, directory_pages}
-use Rattle.pdb_msf.specs.Directory.{PagesOfStream, absent, directory_numbers, directory_of, stream_entry_of, limit_size, stream_place_in, sizes_of}
+use Rattle.pdb_msf.specs.Directory.{PagesOfStream, absent, directory_numbers, directory_of, stream_entry_of, limit_size}
+use Rattle.pdb_msf.specs.Directory.{stream_place_in, sizes_of}
 use Rattle.pdb_msf.specs.Directory.{start_of}
 use Rattle.pdb_msf.specs.File.{stream_of}
 use Rattle.pdb_msf.specs.Laws.{AreGood, IsDirectory, IsStream, Moment, IsLater, AnswersAlike, AgreeUnless}
@@ -162,7 +163,8 @@ is_stream file head n limit bytes e =
       numbers = numbers.0;
       good = are_good g.pages_used (pages g.page_size place.0.size)
           (words (drop place.0.start directory.0)) numbers.0 numbers.1;
-      lies = (scatters file g.page_size numbers.0 (limit_size place.0.size limit)).found bytes (found_there _ bytes lies);
+      lies = (scatters file g.page_size numbers.0 (limit_size place.0.size limit)).found bytes
+          (found_there _ bytes lies);
     }
 
 pub only_stream : (file : List ℕ) (head : Head) (n : ℕ) (limit : Option ℕ) (bytes : List ℕ)

@@ -9,7 +9,8 @@ use Rattle.pdb_msf.specs.declared.directory.StreamPlace.{StreamPlace}
 use Rattle.pdb_msf.specs.Source.{HasFailed, IsKept, State, bytes_or_eof}
 use Rattle.pdb_msf.specs.Pages.{scatter}
 use Rattle.pdb_msf.specs.Header.{Head, IsHeader, directory_pages, header_view}
-use Rattle.pdb_msf.specs.Directory.{PagesOfStream, HasStarts, directory_of, stream_entry_of, stream_place_in, size_in, stream_count_in}
+use Rattle.pdb_msf.specs.Directory.{PagesOfStream, HasStarts, directory_of, stream_entry_of, stream_place_in, size_in}
+use Rattle.pdb_msf.specs.Directory.{stream_count_in}
 
 -- an open file: its source, what its header says, how many bytes were requested from the source to read
 -- streams, and whether its directory is kept in memory

@@ -7,7 +7,8 @@ ghost use Rattle.pdb_msf.specs.Source.{HasFailed, IsKept, KeepsKind};
 ghost use Rattle.pdb_msf.specs.Header.{directory_pages, header_view, IsHeader};
 ghost use Rattle.pdb_msf.specs.Asked.{Asks};
 ghost use Rattle.pdb_msf.specs.Exactly.{RefusesExactly};
-ghost use Rattle.pdb_msf.specs.Directory.{absent, directory_numbers, directory_of, stream_entry_of, entry_view, limit_size, pages_taken, stream_place_in};
+ghost use Rattle.pdb_msf.specs.Directory.{absent, directory_numbers, directory_of, stream_entry_of, entry_view};
+ghost use Rattle.pdb_msf.specs.Directory.{limit_size, pages_taken, stream_place_in};
 ghost use Rattle.pdb_msf.specs.Directory.{starts_of, stream_count_in, HasPages, HasStarts};
 ghost use Rattle.pdb_msf.specs.File.{locating};
 

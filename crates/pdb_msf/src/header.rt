@@ -4,7 +4,8 @@ ghost use Rattle.std.specs.Prelude.{◌≡◌, ◌<◌, ◌≤◌, ◌*◌, ◌^
 ghost use Rattle.pdb_base.specs.Answer.{Answers, Gives};
 ghost use Rattle.pdb_base.specs.Place.{left};
 ghost use Rattle.pdb_msf.specs.Pages.{pages, words, valid_page, page_numbers};
-ghost use Rattle.pdb_msf.specs.Header.{is_page_size, magic_of, fields_of_header, geometry_of, head_of, header_view, IsHeader, directory_pages, location_pages};
+ghost use Rattle.pdb_msf.specs.Header.{is_page_size, magic_of, fields_of_header, geometry_of, head_of, header_view};
+ghost use Rattle.pdb_msf.specs.Header.{IsHeader, directory_pages, location_pages};
 ghost use Rattle.pdb_msf.specs.Exactly.{RefusesExactly};
 
 use crate::magic::{big, small};

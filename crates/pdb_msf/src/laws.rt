@@ -8,7 +8,8 @@ ghost use Rattle.pdb_msf.specs.Runs.{AreJoined};
 ghost use Rattle.pdb_msf.specs.Header.{Head, file_head};
 ghost use Rattle.pdb_msf.specs.File.{stream_of};
 ghost use Rattle.pdb_msf.specs.Layout.{LayoutValue, layout_of, stream_by};
-ghost use Rattle.pdb_msf.specs.Laws.{IsLeast, Scatters, HasHeaderAtOffsets, AreGood, FirstFault, CutsOnly, IsStream, Moment, IsLater, AnswersAlike};
+ghost use Rattle.pdb_msf.specs.Laws.{IsLeast, Scatters, HasHeaderAtOffsets, AreGood, FirstFault, CutsOnly, IsStream};
+ghost use Rattle.pdb_msf.specs.Laws.{Moment, IsLater, AnswersAlike};
 
 /// The number of pages that some bytes take is the least that holds them.
 pub fn pages()
@@ -77,7 +78,8 @@ pub fn streams()
 /// stream read by it from those bytes is the file's stream, or fails as that does.
 #[tactic(auto, using(crate::proofs::LayoutLemmas::head_read, crate::proofs::LayoutLemmas::same_stream))]
 pub fn layouts()
-    ensures head { (file : List ℕ) (layout : LayoutValue) → layout_of file ≡ Ok layout → file_head file ≡ Ok layout.head }
+    ensures head { (file : List ℕ) (layout : LayoutValue) → layout_of file ≡ Ok layout → file_head file
+        ≡ Ok layout.head }
     ensures stream { (file : List ℕ) (layout : LayoutValue) (n : ℕ) (limit : Option ℕ) →
         layout_of file ≡ Ok layout → stream_by layout file n limit ≡ stream_of file layout.head n limit }
 {}

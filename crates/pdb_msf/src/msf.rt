@@ -7,7 +7,8 @@ ghost use Rattle.pdb_msf.specs.Header.{geometry_of, head_of, opening, file_head}
 ghost use Rattle.pdb_msf.specs.Asked.{Asks};
 ghost use Rattle.pdb_msf.specs.Exactly.{RefusesExactly};
 ghost use Rattle.pdb_msf.specs.Directory.{directory_of};
-ghost use Rattle.pdb_msf.specs.File.{Opened, IsFresh, described_stream, locating, place_of_stream, stream_count_of, stream_of, stream_size_of, requested_size};
+ghost use Rattle.pdb_msf.specs.File.{Opened, IsFresh, described_stream, locating, place_of_stream, stream_count_of};
+ghost use Rattle.pdb_msf.specs.File.{stream_of, stream_size_of, requested_size};
 
 use crate::directory::Directory;
 use crate::header::{Header, read_header};
@@ -57,7 +58,8 @@ pub trait Msf<S: Source> {
         // returns.
         ensures asked { Asks (file self.old).asked (file self.new).asked
             (locating (file self.old).located (file self.old).head.geometry
-            + requested_size (described_stream (S.state (file self.old).source).bytes (file self.old).head stream_number limit))
+            + requested_size
+            (described_stream (S.state (file self.old).source).bytes (file self.old).head stream_number limit))
             result }
         // The directory stays kept, and after the call it is kept unless reading or keeping it
         // failed.

@@ -1,6 +1,7 @@
 //! The positions of pages in a file.
 
-ghost use Rattle.std.specs.Prelude.{◌≡◌, ◌==◌, ◌+◌, ◌^◌, ◌<◌, ◌≤◌, ◌∷◌, ◌++◌, [], false, true, length, take, IsOk, OnOk, OnErr};
+ghost use Rattle.std.specs.Prelude.{◌≡◌, ◌==◌, ◌+◌, ◌^◌, ◌<◌, ◌≤◌, ◌∷◌, ◌++◌, [], false, true, length, take, IsOk};
+ghost use Rattle.std.specs.Prelude.{OnOk, OnErr};
 ghost use Rattle.pdb_base.specs.Memory.{FailsOnlyForMemory};
 ghost use Rattle.pdb_msf.specs.Source.{positions};
 ghost use Rattle.pdb_msf.specs.PageList.{first_bytes_of, page_positions, page_slice, with_slice};
@@ -77,7 +78,10 @@ impl PageList {
     /// Keeps the first `len` bytes, or all if there are fewer. The list then counts as truncated,
     /// however many bytes it had.
     pub fn truncate(&mut self, len: usize)
-        ensures slices { self.new ≡ record self.old { slices = first_bytes_of len self.old.slices; is_truncated = true } }
+        ensures slices { self.new ≡ record self.old {
+          slices = first_bytes_of len self.old.slices;
+          is_truncated = true;
+        } }
         ensures positions { positions self.new.slices ≡ take len (positions self.old.slices) }
     {
         self.is_truncated = true;

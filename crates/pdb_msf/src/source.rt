@@ -1,8 +1,10 @@
 //! Where the bytes of a file come from.
 
-ghost use Rattle.std.specs.Prelude.{◌≡◌, ◌++◌, ℕ, List, length, map, true, IsTrue, IfOk, IfErr, IsErrAnd, None, slice_index};
+ghost use Rattle.std.specs.Prelude.{◌≡◌, ◌++◌, ℕ, List, length, map, true, IsTrue, IfOk, IfErr, IsErrAnd, None};
+ghost use Rattle.std.specs.Prelude.{slice_index};
 ghost use Rattle.std.specs.IoError.{error_kind};
-ghost use Rattle.pdb_msf.specs.Source.{State, IsKept, IsLastFault, in_memory, HasFailed, ShowsBytes, bytes_at, positions, slice_positions};
+ghost use Rattle.pdb_msf.specs.Source.{State, IsKept, IsLastFault, in_memory, HasFailed, ShowsBytes, bytes_at};
+ghost use Rattle.pdb_msf.specs.Source.{positions, slice_positions};
 ghost use Rattle.std.specs.List.{list_all};
 ghost use Rattle.pdb_msf.specs.Within.{is_within, if_fits_usize};
 

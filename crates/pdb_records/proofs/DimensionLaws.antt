@@ -10,7 +10,8 @@ use Rattle.pdb_base.specs.Numeric.{Numeral, unsigned_leaves}
 use Rattle.pdb_base.proofs.lemmas.Collected.{ok, err, ok_is, err_is, ok_is_no_err, bind_ok}
 use Rattle.pdb_records.specs.Agreement.{Agrees}
 use Rattle.pdb_records.specs.Shape.{num}
-use Rattle.pdb_records.specs.Dimensions.{IsDimension, NoDimension, HasAnotherDimension, AreDimensions, NoDimensionBehind}
+use Rattle.pdb_records.specs.Dimensions.{IsDimension, NoDimension, HasAnotherDimension, AreDimensions}
+use Rattle.pdb_records.specs.Dimensions.{NoDimensionBehind}
 use Rattle.pdb_records.specs.Dimensions.{NoDimensions, dimension_at, behind_dimension, dimensions_upto, dimensions_at}
 use Rattle.pdb_records.specs.Dimensions.{largest_dimension, too_large}
 use Rattle.pdb_records.proofs.Agreeing.{answer_cases, bind_at, bind_no, mapped_err}
@@ -126,7 +127,8 @@ found_upto (suc most) bytes fits ns rest is =
     found_behind most (found_upto most) bytes first.0.0 first.0.1 here
     (omega (arith, fits, num_takes bytes first.0.0 first.0.1 here.0)) ns rest first.2
 
-behind_goes : (more : List ℕ → Answer (List ℕ × List ℕ)) (n : ℕ) (mid : List ℕ) (ns rest : List ℕ) → HasAnotherDimension mid
+behind_goes : (more : List ℕ → Answer (List ℕ × List ℕ)) (n : ℕ) (mid : List ℕ) (ns rest : List ℕ)
+    → HasAnotherDimension mid
     → more mid ≡ Ok (ns, rest) → behind_dimension more n mid ≡ Ok (n ∷ ns, rest)
 behind_goes more n [] ns rest goes is = absurd goes
 behind_goes more n (zero ∷ mid) ns rest goes is = absurd (goes refl)

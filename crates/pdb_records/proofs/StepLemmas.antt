@@ -127,7 +127,8 @@ one_more : {A : Type 0} (said : ℕ → A) (count : ℕ) (bytes : List ℕ) (x :
     → index_at said bytes ≡ Ok (x, rest) → read_times (index_at said) count rest ≡ Ok xs
     → read_times (index_at said) (suc count) bytes ≡ Ok (x ∷ xs.0, xs.1)
 one_more said count bytes x rest xs is more =
-    bind_at (index_at said bytes) (λ y. read_times (index_at said) count y.1 >>= λ ys. ok (y.0 ∷ ys.0, ys.1)) (x, rest) is
+    bind_at (index_at said bytes) (λ y. read_times (index_at said) count y.1 >>= λ ys. ok (y.0 ∷ ys.0, ys.1))
+    (x, rest) is
     ∙ bind_at (read_times (index_at said) count rest) (λ ys. ok (x ∷ ys.0, ys.1)) xs more
 
 -- bytes that hold so many have them

@@ -14,5 +14,6 @@ count_bytes Bits32 = 4
 
 -- reads a count, and then that many indexes
 abbrev pub counted_at : {A : Type 0} → CountWidth → (ℕ → A) → List ℕ → Answer (List A × List ℕ)
-counted_at width said bytes = number_at (count_bytes width) bytes >>= λ count. read_times (index_at said) count.0 count.1
+counted_at width said bytes =
+    number_at (count_bytes width) bytes >>= λ count. read_times (index_at said) count.0 count.1
     >>= λ items. Ok (items.0, items.1)

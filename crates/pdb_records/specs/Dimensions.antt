@@ -44,7 +44,8 @@ abbrev pub NoDimensionBehind : List ℕ → List ℕ → Refusal → Type 0
 NoDimensionBehind [] bytes refusal = NoDimension bytes refusal
 NoDimensionBehind (n ∷ ns) bytes refusal =
     (mid : List ℕ) × IsDimension bytes n mid ×
-    (((mid ≡ []) × (ns ≡ []) × (refusal ≡ unexpected_eof)) ⊎ (HasAnotherDimension mid × NoDimensionBehind ns mid refusal))
+    (((mid ≡ []) × (ns ≡ []) × (refusal ≡ unexpected_eof))
+    ⊎ (HasAnotherDimension mid × NoDimensionBehind ns mid refusal))
 
 -- the dimensions are refused with their first fault
 abbrev pub NoDimensions : List ℕ → Refusal → Type 0

@@ -149,7 +149,8 @@ cut-step a end some =
 
 -- the first address of a part, and the part behind it
 part-step : (mapping : OmapValue) (next s e : ℕ) → mapping.source ≤ s → s < next → s < e
-    → flat (part mapping next (span s e)) ≡ visible (move_address mapping s) ++ flat (part mapping next (span (s + 1) e))
+    → flat (part mapping next (span s e)) ≡ visible (move_address mapping s)
+    ++ flat (part mapping next (span (s + 1) e))
 unfolding part move_address
 part-step mapping next s e at before some =
     let low : max mapping.source s ≡ s = omega arith in

@@ -8,13 +8,15 @@ use Rattle.pdb_space.specs.Conversions.{AddressMapValue, rva_to_internal_rva, in
 use Rattle.std.specs.declared.cmp.Ordering.{Ordering}
 use Rattle.std.specs.declared.cmp.Ordering.TheVariants.{Less, Equal, Greater}
 use Rattle.std.specs.Ordering.{MatchOrdering}
-use Rattle.pdb_space.specs.Sum.{Fits, if_fits_32_bits, clip_to_32_bits, wrap_to_32_bits, largest, distance_from, wrapped_distance_from}
+use Rattle.pdb_space.specs.Sum.{Fits, if_fits_32_bits, clip_to_32_bits, wrap_to_32_bits, largest, distance_from}
+use Rattle.pdb_space.specs.Sum.{wrapped_distance_from}
 use Rattle.pdb_space.specs.SectionPlace.{SectionPlace}
 
 -- A number of at most 32 bits stays as it is. For a larger number, `fitting` gives None and `clipped`
 -- the largest number of 32 bits.
 pub record IsCutToFit (number : ℕ) : Type 0 where
-  pub fits : Fits number → (if_fits_32_bits number ≡ Some number) × (clip_to_32_bits number ≡ number) × (wrap_to_32_bits number ≡ number)
+  pub fits : Fits number → (if_fits_32_bits number ≡ Some number) × (clip_to_32_bits number ≡ number)
+      × (wrap_to_32_bits number ≡ number)
   pub past : largest < number → (if_fits_32_bits number ≡ None) × (clip_to_32_bits number ≡ largest)
 
 -- The start plus the distance of a number from it is the number.

@@ -53,7 +53,8 @@ last_at_or_below table address = last_or None (filter (λ mapping. nat_le mappin
 -- Where a record moves an address: to its target plus the distance of the address from its source. The
 -- address goes nowhere if the target is 0 or the sum does not fit in 32 bits.
 unfoldable pub move_address : OmapValue → ℕ → Option ℕ
-move_address mapping address = if mapping.target == 0 then None else if_fits_32_bits (mapping.target + (address - mapping.source))
+move_address mapping address =
+    if mapping.target == 0 then None else if_fits_32_bits (mapping.target + (address - mapping.source))
 
 -- where a table moves an address: where the last record with a source at or below it does
 unfoldable pub shift : List OmapValue → ℕ → Option ℕ

@@ -3,7 +3,8 @@
 ghost use Rattle.std.specs.Prelude.{◌≡◌, ◌+◌, ◌-◌, ◌≤◌, Some, codes};
 ghost use Rattle.pdb_base.specs.ErrorText.{hexadecimal};
 ghost use Rattle.pdb_base.specs.Index.{debug_text};
-ghost use Rattle.pdb_space.specs.Sum.{Fits, clip_to_32_bits, distance_from, if_fits_32_bits, wrap_to_32_bits, wrapped_distance_from};
+ghost use Rattle.pdb_space.specs.Sum.{Fits, clip_to_32_bits, distance_from, if_fits_32_bits, wrap_to_32_bits};
+ghost use Rattle.pdb_space.specs.Sum.{wrapped_distance_from};
 
 use std::fmt;
 use std::marker::Model;

@@ -7,7 +7,12 @@
 
 ghost use Rattle.std.specs.Prelude.{◌≡◌, None, Some, IfSome};
 ghost use Rattle.pdb_space.specs.Omap.{MovesSomehow};
-ghost use Rattle.pdb_space.specs.Conversions.{ComesSomehow, IsByTable, rva_to_internal_rva, rva_to_section_offset, rva_to_internal_offset, internal_rva_to_rva, internal_rva_to_section_offset, internal_rva_to_internal_offset, section_offset_to_rva, section_offset_to_internal_rva, section_offset_to_internal_offset, internal_offset_to_internal_rva, internal_offset_to_rva, internal_offset_to_section_offset};
+ghost use Rattle.pdb_space.specs.Conversions.{ComesSomehow, IsByTable, rva_to_internal_rva, rva_to_section_offset};
+ghost use Rattle.pdb_space.specs.Conversions.{rva_to_internal_offset, internal_rva_to_rva};
+ghost use Rattle.pdb_space.specs.Conversions.{internal_rva_to_section_offset, internal_rva_to_internal_offset};
+ghost use Rattle.pdb_space.specs.Conversions.{section_offset_to_rva, section_offset_to_internal_rva};
+ghost use Rattle.pdb_space.specs.Conversions.{section_offset_to_internal_offset, internal_offset_to_internal_rva};
+ghost use Rattle.pdb_space.specs.Conversions.{internal_offset_to_rva, internal_offset_to_section_offset};
 
 use crate::address::Rva;
 use crate::address_map::{AddressMap, translate};

@@ -10,7 +10,8 @@ ghost use Rattle.pdb_space.specs.SectionPlace.{SectionPlace};
 ghost use Rattle.pdb_space.specs.Sections.{address_of, section_of};
 ghost use Rattle.pdb_space.specs.Sum.{Fits};
 ghost use Rattle.pdb_space.specs.Conversions.{AddressMapValue};
-ghost use Rattle.pdb_space.specs.Laws.{EndsForGood, IsCutToFit, IsFirstToReach, IsReached, KeepsNumbers, OrdersByNumber, OrdersBySource, OrdersWithinSections, TellsApart, UndoEachOther};
+ghost use Rattle.pdb_space.specs.Laws.{EndsForGood, IsCutToFit, IsFirstToReach, IsReached, KeepsNumbers};
+ghost use Rattle.pdb_space.specs.Laws.{OrdersByNumber, OrdersBySource, OrdersWithinSections, TellsApart, UndoEachOther};
 ghost use Rattle.pdb_space.specs.StringTableLaws.{FindsName, FindsNames, RefusesByFirstFault};
 
 use crate::address::Rva;

@@ -4,7 +4,8 @@ ghost use Rattle.std.specs.Prelude.{◌≡◌, ◌↔◌, ◌%◌, ◌≤◌, le
 ghost use Rattle.pdb_base.specs.Answer.{Gives};
 ghost use Rattle.pdb_base.specs.Count.{calls_of, after_calls};
 ghost use Rattle.pdb_base.specs.Halving.{binary_digits};
-ghost use Rattle.pdb_space.specs.Omap.{IsSortedBySource, MovesSomehow, last_at_or_below, mappings_of, shift, omap_table_of};
+ghost use Rattle.pdb_space.specs.Omap.{IsSortedBySource, MovesSomehow, last_at_or_below, mappings_of, shift};
+ghost use Rattle.pdb_space.specs.Omap.{omap_table_of};
 ghost use Rattle.pdb_space.specs.Ranges.{IsNotEmpty, end_to_end, parts, pointwise};
 
 use crate::omap_record::OMAPRecord;

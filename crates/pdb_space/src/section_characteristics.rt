@@ -3,7 +3,10 @@
 ghost use Rattle.std.specs.Prelude.{◌≡◌};
 ghost use Rattle.pdb_base.specs.Reading.{number_at, read_as};
 ghost use Rattle.pdb_space.specs.SectionHeader.{alignment_of};
-ghost use Rattle.pdb_space.specs.SectionFlags.{executable, initialized_data, uninitialized_data, other, info, remove, comdat, defer_speculative_exceptions, global_pointer_relative, purgeable, locked, preload, lnk_nreloc_ovfl, discardable, not_cached, not_paged, shared, execute, read, write};
+ghost use Rattle.pdb_space.specs.SectionFlags.{executable, initialized_data, uninitialized_data, other, info, remove};
+ghost use Rattle.pdb_space.specs.SectionFlags.{comdat, defer_speculative_exceptions, global_pointer_relative};
+ghost use Rattle.pdb_space.specs.SectionFlags.{purgeable, locked, preload, lnk_nreloc_ovfl, discardable, not_cached};
+ghost use Rattle.pdb_space.specs.SectionFlags.{not_paged, shared, execute, read, write};
 
 use pdb_base::{Le, Parse, Result, bit_field, is_bit_set};
 

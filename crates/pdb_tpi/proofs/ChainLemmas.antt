@@ -56,7 +56,8 @@ abbrev pub Follows : LookUp → ℕ → List TypeValue → ℕ → Option TypeIn
 Follows look index fields above continuation =
     fields_of look index ≡ in_front fields (fields_behind (λ i. fields_of look i) above continuation)
 
-pub follows_more : (look : LookUp) (index : ℕ) (fields : List TypeValue) (above : ℕ) (next : TypeIndex) (list : ContinuedList)
+pub follows_more : (look : LookUp) (index : ℕ) (fields : List TypeValue) (above : ℕ) (next : TypeIndex)
+    (list : ContinuedList)
     → Follows look index fields above (Some next) → next.0 < above → list_of look next.0 ≡ Ok list
     → Follows look index (fields ++ list.fields) next.0 list.continuation
 follows_more look index fields above next list so_far below is =

@@ -11,7 +11,8 @@ use Rattle.pdb_base.proofs.lemmas.Count.{few_calls}
 use Rattle.pdb_tpi.specs.Table.{Table, IsTable, count_in_header}
 use Rattle.pdb_tpi.specs.Steps.{WalkPosition, walk, walk_rest, nth_item}
 use Rattle.pdb_tpi.specs.Place.{IsPlace, ArePlaces}
-use Rattle.pdb_tpi.specs.Finder.{first_of_block, block_of, has_index, known_after, known_of, item_of, find_of, reads_between}
+use Rattle.pdb_tpi.specs.Finder.{first_of_block, block_of, has_index, known_after, known_of, item_of, find_of}
+use Rattle.pdb_tpi.specs.Finder.{reads_between}
 use Rattle.pdb_tpi.specs.Finder.{reads_of, most_blocks}
 use Rattle.pdb_tpi.proofs.TableLemmas.{place_first}
 
@@ -39,7 +40,8 @@ some_blocks table some =
     omega arith
 
 -- there is a place for one more block while iterators stand before its first item
-pub room_for : (table : Table) (known index position : ℕ) → IsPlace table index position → index ≡ first_of_block table known
+pub room_for : (table : Table) (known index position : ℕ) → IsPlace table index position → index
+    ≡ first_of_block table known
     → index < table.header.maximum_index → known < most_blocks table
 unfolding most_blocks
 room_for table known index position place is below =
@@ -74,7 +76,8 @@ places_push table positions capacity index position places place is below =
       reserved = places.reserved;
     }
 
-pub places_first : (table : Table) (capacity : ℕ) → IsTable table → 0 < count_in_header table → most_blocks table ≤ capacity
+pub places_first : (table : Table) (capacity : ℕ) → IsTable table → 0 < count_in_header table
+    → most_blocks table ≤ capacity
     → ArePlaces table (table.header.header_size ∷ []) capacity
 places_first table capacity sound some room =
     places_push table [] capacity table.header.minimum_index table.header.header_size (places_none table capacity room)

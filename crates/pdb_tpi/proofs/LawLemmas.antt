@@ -180,7 +180,8 @@ only_by limit bytes [] left (Err fault) fits e walk ih =
     (sym (items_none (suc limit) bytes fault e), walk.joined ∙ sym (rest_none (suc limit) bytes fault e))
 only_by limit bytes (item ∷ found) left answer fits e walk ih =
     let more = flat_map with_length found ++ left in
-    let whole : with_length item ++ more ≡ bytes = sym (append_assoc (with_length item) (flat_map with_length found) left)
+    let whole : with_length item ++ more ≡ bytes = sym (append_assoc (with_length item)
+    (flat_map with_length found) left)
     ∙ walk.joined in
     let front : first_item bytes ≡ Ok item = ap first_item (sym whole) ∙ framed_front item more walk.sized.0 in
     let tail : behind item bytes ≡ more = ap (behind item) (sym whole) ∙ behind_framed item more in

@@ -40,7 +40,8 @@ sized_from limit bytes (Ok item) e ih =
 sized_from limit bytes (Err fault) e ih =
     rw (items_none (suc limit) bytes fault e, rest_none (suc limit) bytes fault e) (omega arith)
 
-all_sized : (limit : ℕ) (bytes : List ℕ) → sum_by item_size (items limit bytes) + length (rest limit bytes) ≡ length bytes
+all_sized : (limit : ℕ) (bytes : List ℕ) → sum_by item_size (items limit bytes) + length (rest limit bytes)
+    ≡ length bytes
 all_sized zero bytes = rw (items_full bytes, rest_full bytes) (omega arith)
 all_sized (suc limit) bytes = sized_from limit bytes (first_item bytes) refl (all_sized limit)
 
@@ -54,7 +55,8 @@ pub stands_at : (table : Table) (index position : ℕ) → IsPlace table index p
 unfolding item_position
 stands_at table index position place =
     let n = index - table.header.minimum_index in
-    let further : sum_by item_size (drop n (walk table)) + length (walk_rest table) ≡ length (drop position table.bytes) =
+    let further : sum_by item_size (drop n (walk table)) + length (walk_rest table)
+    ≡ length (drop position table.bytes) =
     ap (λ (found : List (List ℕ)). sum_by item_size found + length (walk_rest table)) place.goes_on.items
     ∙ ap (λ (left : List ℕ). sum_by item_size (items (room table - n)
     (drop position table.bytes)) + length left) place.goes_on.rest
@@ -103,8 +105,10 @@ item_begins_by limit (suc n) bytes item (Ok first) e further is =
     let rest : ℕ = sum_by item_size (take n (items limit (behind first bytes))) in
     let size : sum_by item_size (take (suc n) (items (suc limit) bytes)) ≡ item_size first + rest =
     rw (items_more limit bytes first e) (sum_by-cons item_size first (take n (items limit (behind first bytes)))) in
-    let begins : first_item (drop rest (drop (item_size first) bytes)) ≡ Ok item = further n (behind first bytes) there in
-    ap (λ (s : ℕ). first_item (drop s bytes)) size ∙ ap first_item (sym (drop-drop rest (item_size first) bytes)) ∙ begins
+    let begins : first_item (drop rest (drop (item_size first) bytes))
+    ≡ Ok item = further n (behind first bytes) there in
+    ap (λ (s : ℕ). first_item (drop s bytes)) size ∙ ap first_item (sym (drop-drop rest (item_size first) bytes))
+    ∙ begins
 
 item_begins : (limit n : ℕ) (bytes item : List ℕ) → slice_get (items limit bytes) n ≡ Some item
     → first_item (drop (sum_by item_size (take n (items limit bytes))) bytes) ≡ Ok item

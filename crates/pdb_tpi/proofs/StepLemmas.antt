@@ -117,7 +117,8 @@ no_item stand [] item new e =
     some_is_none item (sym (ap (λ (p : Option (ℕ × List ℕ) × WalkPosition). p.0) (ok_is ended given e)))
 no_item stand (byte ∷ rest) item new e = ok_is_no_err (Some item, new) (fault_of (byte ∷ rest)) (sym e)
 
-at_end : (stand : WalkPosition) (rest : List ℕ) (new : WalkPosition) → step_at_end stand rest ≡ Ok (None, new) → rest ≡ []
+at_end : (stand : WalkPosition) (rest : List ℕ) (new : WalkPosition) → step_at_end stand rest ≡ Ok (None, new) → rest
+    ≡ []
 at_end stand [] new e = refl
 at_end stand (byte ∷ rest) new e = let none : Option (ℕ × List ℕ) = None in
     absurd (ok_is_no_err (none, new) (fault_of (byte ∷ rest)) (sym e))

@@ -28,7 +28,8 @@ listed_value list = record { fields = map type_value list.fields.items; continua
 
 -- the field list that a type is; any other type is refused with its kind
 abbrev pub as_field_list : ℕ → TypeValue → Answer ContinuedList
-as_field_list kind (field_list fields continuation) = Ok (record { fields = values_in fields; continuation = continuation })
+as_field_list kind (field_list fields continuation) = Ok
+    (record { fields = values_in fields; continuation = continuation })
 as_field_list kind other = Err (unimplemented_type_kind kind)
 
 -- The field list of an index. The first fault is that of the look-up, then that the item is of another
@@ -116,4 +117,5 @@ pub record IsChainAnswer (look : LookUp) (index : ℕ) : Type 0 where
   pub one : (lists others : List ContinuedList) → IsChain look index lists → IsChain look index others → lists ≡ others
   pub refused : (refusal : Refusal) → Breaks look index refusal → fields_of look index ≡ Err refusal
   pub broken : (refusal : Refusal) → fields_of look index ≡ Err refusal → Breaks look index refusal
-  pub never_both : (lists : List ContinuedList) (refusal : Refusal) → IsChain look index lists → ¬ Breaks look index refusal
+  pub never_both : (lists : List ContinuedList) (refusal : Refusal) → IsChain look index lists
+      → ¬ Breaks look index refusal

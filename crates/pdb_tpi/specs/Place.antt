@@ -23,7 +23,8 @@ pub record IsPlace (table : Table) (index position : ℕ) : Type 0 where
 -- The positions that a finder keeps: each block's first item, whose index is below the maximum, begins at
 -- its position, and the capacity is enough for the most blocks that can be known.
 pub record ArePlaces (table : Table) (positions : List ℕ) (capacity : ℕ) : Type 0 where
-  pub each : (block : ℕ) → block < length positions → IsPlace table (first_of_block table block) (slice_index positions block)
+  pub each : (block : ℕ) → block < length positions → IsPlace table (first_of_block table block)
+      (slice_index positions block)
   pub below : (block : ℕ) → block < length positions → first_of_block table block < table.header.maximum_index
   pub few : length positions ≤ most_blocks table
   pub reserved : most_blocks table ≤ capacity

@@ -8,7 +8,8 @@ ghost use Rattle.pdb_tpi.specs.Item.{item_bytes, index_of};
 ghost use Rattle.pdb_tpi.specs.Steps.{WalkPosition, nth_item};
 ghost use Rattle.pdb_tpi.specs.Table.{count_in_header};
 ghost use Rattle.pdb_tpi.specs.Place.{ArePlaces, IsPlace};
-ghost use Rattle.pdb_tpi.specs.Finder.{FinderState, first_of_block, known_when_new, known_after, known_of, max_index_of};
+ghost use Rattle.pdb_tpi.specs.Finder.{FinderState, first_of_block, known_when_new, known_after, known_of};
+ghost use Rattle.pdb_tpi.specs.Finder.{max_index_of};
 ghost use Rattle.pdb_tpi.specs.Finder.{most_blocks, find_of, reads_between, reads_of};
 
 use crate::item::Item;

@@ -52,7 +52,8 @@ impl<'t> Item<'t, TypeIndex> {
             IsRecord (item_bytes self.now) value rest → ShowsOrLacks type_value value result }
         ensures refused { first_record ≤ (index_of self.now).0 → (refusal : Refusal) →
             NoRecord (item_bytes self.now) refusal → RefusesOrLacks refusal result }
-        ensures memory { LacksOnlyIf result ((first_record ≤ (index_of self.now).0) × NeedsMemory (item_bytes self.now)) }
+        ensures memory { LacksOnlyIf result ((first_record ≤ (index_of self.now).0)
+            × NeedsMemory (item_bytes self.now)) }
         ensures cut { first_record ≤ (index_of self.now).0 →
             IsFalseCount (item_bytes self.now) → result ≡ Err UnexpectedEof }
         ensures short { IfOk result (λ value. IsShort (length (item_bytes self.now)) (type_value value)) }

@@ -94,7 +94,8 @@ decorated text = decorated_name text
 same_bytes : (xs ys : List ℕ) → bytes_eq xs ys ≡ true → xs ≡ ys
 same_bytes xs ys is = (bytes_eq-Decides xs ys).0 is
 
-the_entry : (index : ℕ) (own name : TypeName) → own ≡ name → is_entry (name_hash name) index (name_entry index own) ≡ true
+the_entry : (index : ℕ) (own name : TypeName) → own ≡ name → is_entry (name_hash name) index (name_entry index own)
+    ≡ true
 the_entry index own name same = and_from (eqb (name_hash own) (name_hash name)) (eqb index index)
     (eq-eqb (name_hash own) (name_hash name) (ap name_hash same)) (eq-eqb index index refl)
 

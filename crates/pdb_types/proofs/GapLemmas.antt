@@ -194,7 +194,8 @@ ends_more spans k end span within here so_far =
     let step : greatest_end (drop k spans) ≡ max span.end (greatest_end (drop (k + 1) spans)) = ap greatest_end next in
     so_far ∙ omega (arith, step)
 
-pub ends_all : (spans : List Span) (k end : ℕ) → length spans ≤ k → greatest_end spans ≡ max end (greatest_end (drop k spans))
+pub ends_all : (spans : List Span) (k end : ℕ) → length spans ≤ k → greatest_end spans
+    ≡ max end (greatest_end (drop k spans))
     → end ≡ greatest_end spans
 ends_all spans k end past so_far =
     let none : greatest_end (drop k spans) ≡ 0 = ap greatest_end (drop_of_length-le spans past) in
@@ -210,7 +211,8 @@ touched_below (span ∷ spans) byte is = elim (cases_Bool (holds byte span)) [
   | inr other ↦ let rest = touched_below spans byte (rw other at is) in omega (arith, rest)
 ]
 
-last_byte : (span : Span) → 0 < (bytes_touched span).end → holds ((bytes_touched span).end - 1) (bytes_touched span) ≡ true
+last_byte : (span : Span) → 0 < (bytes_touched span).end → holds ((bytes_touched span).end - 1) (bytes_touched span)
+    ≡ true
 last_byte span some = elim (cases_lt span.start span.end) as
     (λ _. holds ((bytes_touched span).end - 1) (bytes_touched span) ≡ true) [
       | inl less ↦
@@ -238,7 +240,8 @@ last_touched (span ∷ spans) some =
       | inr more ↦
           let is : own ≡ max own rest = omega (arith, more) in
           let positive : 0 < own = omega (arith, some, is) in
-          subst P is (or_left (holds (own - 1) (bytes_touched span)) (touched spans (own - 1)) (last_byte span positive))
+          subst P is (or_left (holds (own - 1) (bytes_touched span)) (touched spans (own - 1))
+          (last_byte span positive))
     ]
 
 -- where the virtual bases begin
@@ -459,10 +462,12 @@ hole_kind spans size virtual tail holes unused are = λ k d within. record {
       let last = touched_taken spans (greatest_end bytes - 1) (last_touched spans (omega (arith, some, most, below))) in
       let place : last.0 / 8 ≡ greatest_end bytes - 1 = last.1 in
       let end = hole.end in
-      let other : end ≤ greatest_end bytes - 1 = elim (cases_lt (greatest_end bytes - 1) end) as (λ _. end ≤ greatest_end bytes - 1) [
+      let other : end ≤ greatest_end bytes - 1 = elim (cases_lt (greatest_end bytes - 1) end) as
+      (λ _. end ≤ greatest_end bytes - 1) [
         | inl less ↦
             let last_byte_of : greatest_end bytes - 1 ≡ end - 1 = omega (arith, less, most, below) in
-            let in_it = held_test (greatest_end bytes - 1) hole.start hole.end (omega (arith, last_byte_of, some)) less in
+            let in_it = held_test (greatest_end bytes - 1) hole.start hole.end
+            (omega (arith, last_byte_of, some)) less in
             absurd (counted_at (holds (greatest_end bytes - 1)) holes k d within in_it
             (are.whole.taken (greatest_end bytes - 1) (last_touched spans (omega (arith, some, most, below)))))
         | inr more ↦ more

@@ -67,7 +67,8 @@ next_is : (table : Table) (records : List TypeValue) (items : List TypeData) (i 
     (found : List FieldValue) (field : Answer (Option FieldValue))
     → AreFieldsTo table records (map type_value (drop i items)) found → i < length items → get_or items i item ≡ item
     → field_of table (type_value item) ≡ field
-    → field_values_in table records ≡ behind found (next_fields field (field_values_in table (map type_value (drop (i + 1) items))))
+    → field_values_in table records ≡ behind found (next_fields field
+    (field_values_in table (map type_value (drop (i + 1) items))))
 next_is table records items i item found field so_far within here is =
     so_far.is
     ∙ ap (λ (l : List TypeValue). behind found (field_values_in table l)) (items_from items i item within here)

@@ -3,7 +3,8 @@
 ghost use Rattle.std.specs.Prelude.{◌≡◌};
 ghost use Rattle.std.specs.Option.{option_map};
 ghost use Rattle.pdb_values.specs.TypeView.{type_value};
-ghost use Rattle.pdb_types.specs.Declaration.{bears, declaration_of, declaration_value, is_forward, sought_name, type_name};
+ghost use Rattle.pdb_types.specs.Declaration.{bears, declaration_of, declaration_value, is_forward, sought_name};
+ghost use Rattle.pdb_types.specs.Declaration.{type_name};
 
 use crate::type_name::TypeName;
 use pdb_base::RawString;

@@ -4,7 +4,8 @@ ghost use Rattle.std.specs.Prelude.{◌≡◌, ◌≤◌, length, drop, map, Ok}
 ghost use Rattle.std.specs.Option.{option_map};
 ghost use Rattle.pdb_base.specs.Answer.{Answers};
 ghost use Rattle.pdb_types.specs.Declaration.{source_name, type_name};
-ghost use Rattle.pdb_types.specs.Definition.{all_definitions, defines, definition_by, definition_of, first_definition, whole_table};
+ghost use Rattle.pdb_types.specs.Definition.{all_definitions, defines, definition_by, definition_of, first_definition};
+ghost use Rattle.pdb_types.specs.Definition.{whole_table};
 ghost use Rattle.pdb_types.specs.DefinitionIndex.{IsIndexOf};
 ghost use Rattle.pdb_types.specs.Entries.{AreCandidates, IsIndexed};
 ghost use Rattle.pdb_types.specs.Shortcut.{AreShortcuts, IsAsLarge};

@@ -3,7 +3,8 @@
 ghost use Rattle.std.specs.Prelude.{◌≡◌, ◌++◌, ◌≤◌, ◌<◌, ◌^◌, IfOk, OnOk, map};
 ghost use Rattle.std.specs.List.{All};
 ghost use Rattle.pdb_base.specs.Memory.{FailsOnlyForMemory};
-ghost use Rattle.pdb_types.specs.Gap.{AreGapRows, bytes_touched, greatest_end, hole_row, tail_row, tail_start, unused_row};
+ghost use Rattle.pdb_types.specs.Gap.{AreGapRows, bytes_touched, greatest_end, hole_row, tail_row, tail_start};
+ghost use Rattle.pdb_types.specs.Gap.{unused_row};
 ghost use Rattle.pdb_types.specs.Span.{AreGaps, gap_of};
 
 use crate::span::{Span, gaps, greatest};

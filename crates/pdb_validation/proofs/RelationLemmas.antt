@@ -11,7 +11,8 @@ use Rattle.pdb_consistency.specs.declared.mismatch.Extent.TheVariants as extents
 use Rattle.pdb_consistency.specs.declared.mismatch.Mismatch.{Mismatch}
 use Rattle.pdb_validation.specs.Finding.{FaultPlace, error_count, errors_in, warning_count}
 use Rattle.pdb_validation.specs.Problem.{is_tolerated}
-use Rattle.pdb_validation.specs.Relations.{AreConsistent, IsConsistent, Relation, mismatch_fault, relation_faults, with_relations}
+use Rattle.pdb_validation.specs.Relations.{AreConsistent, IsConsistent, Relation, mismatch_fault, relation_faults}
+use Rattle.pdb_validation.specs.Relations.{with_relations}
 use Rattle.pdb_validation.specs.declared.finding.Part.{Part}
 
 pub nothing_asked : (extent : Extent) → asked_of extent [] ≡ []
@@ -50,7 +51,8 @@ errors_map : (layout : LayoutValue) (part : Part) (mismatches : List Mismatch)
 errors_map layout part [] = refl
 errors_map layout part (mismatch ∷ mismatches) = elim (cases_Bool (warns mismatch)) [
   | inl is ↦ rw is (errors_map layout part mismatches)
-  | inr is ↦ rw is (ap (λ (l : List FaultPlace). mismatch_fault layout part mismatch ∷ l) (errors_map layout part mismatches))
+  | inr is ↦ rw is (ap (λ (l : List FaultPlace). mismatch_fault layout part mismatch ∷ l)
+      (errors_map layout part mismatches))
 ]
 
 -- warnings alone have no error among them

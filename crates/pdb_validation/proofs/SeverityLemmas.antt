@@ -20,8 +20,10 @@ use Rattle.pdb_validation.specs.Names.{fault_of_answer, named_fault, names_fault
 use Rattle.pdb_validation.specs.Names.{string_table_number, whole_names}
 use Rattle.pdb_validation.specs.Places.{PagesValue, stream_pages}
 use Rattle.pdb_validation.specs.Problem.{ProblemValue, is_tolerated}
-use Rattle.pdb_validation.specs.Roles.{frames_problem, known_roles, numbered_fault, omap_problem, problem_in, role_fault}
-use Rattle.pdb_validation.specs.Roles.{role_index, role_problem, roles_fault, sections_problem, sources_rise, starts_rise}
+use Rattle.pdb_validation.specs.Roles.{frames_problem, known_roles, numbered_fault, omap_problem, problem_in}
+use Rattle.pdb_validation.specs.Roles.{role_fault}
+use Rattle.pdb_validation.specs.Roles.{role_index, role_problem, roles_fault, sections_problem, sources_rise}
+use Rattle.pdb_validation.specs.Roles.{starts_rise}
 use Rattle.pdb_validation.specs.Roles.{unless_sorted}
 use Rattle.pdb_validation.specs.Sizes.{streams_nameable}
 use Rattle.pdb_validation.specs.Streams.{bytes_fault, fault_there, if_read, streams_faults, unless_absent}
@@ -57,7 +59,8 @@ both : (xs ys : List FaultPlace) → AreErrors xs → AreErrors ys → AreErrors
 both [] ys are more = more
 both (x ∷ xs) ys are more = (are.0, both xs ys are.1 more)
 
-with_one : (xs : List FaultPlace) (o : Option FaultPlace) → AreErrors xs → MaybeError o → AreErrors (xs ++ option_to_list o)
+with_one : (xs : List FaultPlace) (o : Option FaultPlace) → AreErrors xs → MaybeError o
+    → AreErrors (xs ++ option_to_list o)
 with_one xs o are is = both xs (option_to_list o) are (listed o is)
 
 told : (extent : Extent) (faults : List FaultPlace) → AreErrors faults → AreErrors (by_extent extent faults)

@@ -24,7 +24,8 @@ one_enough extents.First None others enough = absurd (false≢true enough)
 one_enough extents.First (Some fault) others enough = refl
 one_enough extents.All one others enough = absurd (false≢true enough)
 
-pub told_alone : (extent : Extent) (one : Option FaultPlace) → by_extent extent (option_to_list one) ≡ option_to_list one
+pub told_alone : (extent : Extent) (one : Option FaultPlace) → by_extent extent (option_to_list one)
+    ≡ option_to_list one
 told_alone extents.First None = refl
 told_alone extents.First (Some fault) = refl
 told_alone extents.All one = refl
@@ -51,7 +52,8 @@ telling_more extent before all now now' left left' one found flag telling next i
     ∙ ap (λ (l : List FaultPlace). now ++ l) (sym (one_more extent one left' enough))
     ∙ ap (λ (l : List FaultPlace). now ++ by_extent extent l) (sym next) ∙ telling
 
-pub telling_enough : (extent : Extent) (before all now now' left left' : List FaultPlace) (one found : Option FaultPlace)
+pub telling_enough : (extent : Extent) (before all now now' left left' : List FaultPlace)
+    (one found : Option FaultPlace)
     (flag : Bool) → IsTelling extent before all now left → left ≡ option_to_list one ++ left'
     → said one ≡ Ok found → said (now ++ option_to_list found) ≡ Ok now'
     → flag ≡ is_enough extent found → flag ≡ true → said (before ++ by_extent extent all) ≡ Ok now'

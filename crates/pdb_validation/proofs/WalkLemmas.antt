@@ -28,7 +28,8 @@ behind fault table = fault_behind fault (table.header.minimum_index + length (wa
     (walk_rest table)
 
 -- the faults of the records that an iterator has still to give
-abbrev pub faults_left : {A : Type 0} → (ℕ → Refusal → FaultPlace) → (ℕ → List ℕ → Answer A) → WalkPosition → List FaultPlace
+abbrev pub faults_left : {A : Type 0} → (ℕ → Refusal → FaultPlace) → (ℕ → List ℕ → Answer A) → WalkPosition
+    → List FaultPlace
 faults_left fault means stand = item_faults fault means stand.index (drop (steps_taken stand) (walk stand.table))
     (behind fault stand.table)
 

@@ -22,7 +22,8 @@ use Rattle.pdb_tpi.specs.Table.{Table, table_of}
 use Rattle.pdb_validation.proofs.RelationLemmas.{counted_none, none_with, uncounted, with_none}
 use Rattle.pdb_validation.proofs.SeverityLemmas.{refused_errors}
 use Rattle.pdb_validation.specs.Finding.{FaultPlace, by_extent, error_count, errors_in, finding_view, stream_fault}
-use Rattle.pdb_validation.specs.IsWhole.{AreFaultless, AreWholeIds, AreNames, AreWholeTypes, HasRole, HasWholeNames, HasWholeParts}
+use Rattle.pdb_validation.specs.IsWhole.{AreFaultless, AreWholeIds, AreNames, AreWholeTypes, HasRole, HasWholeNames}
+use Rattle.pdb_validation.specs.IsWhole.{HasWholeParts}
 use Rattle.pdb_validation.specs.IsWhole.{HasWholeRecords, IfRead, IsNumbered, IsReadOrAbsent, IsThere, IsWhole}
 use Rattle.pdb_validation.specs.IsWhole.{IsWholeBehind}
 use Rattle.pdb_validation.specs.Names.{fault_of_answer, named_fault, names_fault, string_table_fault}
@@ -37,9 +38,11 @@ use Rattle.pdb_validation.specs.Roles.{known_roles, numbered_fault, role_fault, 
 use Rattle.pdb_validation.specs.Sizes.{directory_size, nameable, streams_nameable, streams_size}
 use Rattle.pdb_validation.specs.Streams.{bytes_fault, fault_there, if_read, streams_faults, unless_absent}
 use Rattle.pdb_validation.specs.Tables.{fault_behind, id_faults, checked_id, ids_faults, item_fault, item_faults}
-use Rattle.pdb_validation.specs.Tables.{missing_fault, record_faults, refusal_fault, table_faults, type_faults, checked_type}
+use Rattle.pdb_validation.specs.Tables.{missing_fault, record_faults, refusal_fault, table_faults, type_faults}
+use Rattle.pdb_validation.specs.Tables.{checked_type}
 use Rattle.pdb_validation.specs.Tables.{types_faults}
-use Rattle.pdb_validation.specs.Whole.{faults_behind, faults_by, faults_of, faults_of_ids, faults_of_types, fixed_faults}
+use Rattle.pdb_validation.specs.Whole.{faults_behind, faults_by, faults_of, faults_of_ids, faults_of_types}
+use Rattle.pdb_validation.specs.Whole.{fixed_faults}
 use Rattle.pdb_validation.specs.Whole.{opened_faults, part_faults, refused_faults, sized_faults, with_role, with_roles}
 use Rattle.pdb_consistency.specs.declared.mismatch.Extent.{Extent}
 use Rattle.pdb_consistency.specs.declared.mismatch.Extent.TheVariants as extents
@@ -313,7 +316,8 @@ stream_ids pages stream is = whole_ids pages (table_of stream) is
 
 -- ---- names
 
-named_whole : (layout : LayoutValue) (file : List ℕ) (answer : Answer (Option ℕ)) → named_fault layout file answer ≡ None
+named_whole : (layout : LayoutValue) (file : List ℕ) (answer : Answer (Option ℕ)) → named_fault layout file answer
+    ≡ None
     → AreNames layout file answer
 unfolding string_table_fault
 named_whole layout file (Ok None) is = tt
@@ -354,7 +358,8 @@ numbered_whole layout file part (Some number) is =
     (λ stream. role_problem part stream ≡ None)
     (λ stream. no_problem part number (role_problem part stream)) (stream_by layout file number None) is
 
-whole_numbered : (layout : LayoutValue) (file : List ℕ) (part : Part) (number : Option ℕ) → IsNumbered layout file part number
+whole_numbered : (layout : LayoutValue) (file : List ℕ) (part : Part) (number : Option ℕ)
+    → IsNumbered layout file part number
     → numbered_fault layout file part number ≡ None
 whole_numbered layout file part None is = refl
 whole_numbered layout file part (Some number) is =
@@ -387,7 +392,8 @@ record NoneByRole (layout : LayoutValue) (file : List ℕ) (roles : Option DBIEx
   pub old : role_fault layout file parts.OldFrames roles ≡ None
   pub new : role_fault layout file parts.NewFrames roles ≡ None
 
-by_part : (layout : LayoutValue) (file : List ℕ) (roles : Option DBIExtraStreams) → NoneByRole layout file roles → (part : Part)
+by_part : (layout : LayoutValue) (file : List ℕ) (roles : Option DBIExtraStreams) → NoneByRole layout file roles
+    → (part : Part)
     → role_fault layout file part roles ≡ None
 unfolding role_index
 by_part layout file roles none parts.SectionHeaders = none.sections
@@ -432,7 +438,8 @@ roles_none layout file roles faults is =
       },
     )
 
-none_roles : (layout : LayoutValue) (file : List ℕ) (roles : Option DBIExtraStreams) (faults : List FaultPlace) → faults ≡ []
+none_roles : (layout : LayoutValue) (file : List ℕ) (roles : Option DBIExtraStreams) (faults : List FaultPlace) → faults
+    ≡ []
     → ((part : Part) → role_fault layout file part roles ≡ None) → with_roles layout file roles faults ≡ []
 unfolding with_roles
 none_roles layout file roles faults none each =
@@ -544,7 +551,8 @@ agreed extent layout file faults are =
     (none_with extent layout (name_relations layout file) _
     (none_with extent layout (id_relations layout file) _
     (none_with extent layout (type_relations layout file) _
-    (none_with extent layout (container_relations file) faults are.none are.pages) are.types) are.ids) are.names) are.roles
+    (none_with extent layout (container_relations file) faults are.none are.pages) are.types) are.ids) are.names)
+    are.roles
 
 no_part_faults : (extent : Extent) (layout : LayoutValue) (file : List ℕ)
     → errors_in (sized_faults extent layout file) ≡ [] → HasWholeParts layout file
@@ -660,7 +668,8 @@ abbrev said : List FaultPlace → Answer (List FaultPlace)
 said faults = Ok faults
 
 pub whole_findings : {X : Type 0} (items : X → List Finding) (result : Result X Error) (extent : Extent)
-    (file : List ℕ) → Answers (λ (findings : X). map finding_view (items findings)) result (said (faults_of extent file))
+    (file : List ℕ) → Answers (λ (findings : X). map finding_view (items findings)) result
+    (said (faults_of extent file))
     → IfOk result (λ findings. (error_count (map finding_view (items findings)) ≡ 0) ↔ IsWhole file)
 whole_findings items (Ok findings) extent file is =
     let same : faults_of extent file ≡ map finding_view (items findings) = ok_is _ _ is in (

@@ -27,5 +27,6 @@ stream_pages layout n = record {
 unfoldable pub file_byte : PagesValue → ℕ → Option ℕ
 file_byte pages i =
     if nat_lt i pages.size
-    then option_map (λ page. page * pages.page_size + i % pages.page_size) (slice_get pages.numbers (i / pages.page_size))
+    then option_map (λ page. page * pages.page_size + i % pages.page_size)
+    (slice_get pages.numbers (i / pages.page_size))
     else None

@@ -48,7 +48,8 @@ inconsistency_text (kinds.ReferenceNotBelow index) =
     codes "a reference to index " ++ hexadecimal index ++ codes " is not below the record's own"
 inconsistency_text kinds.RecordUnaligned = codes "the record does not end at a multiple of four bytes"
 inconsistency_text (kinds.KindNotRead kind) = codes "records of kind " ++ hexadecimal kind ++ codes " are not read"
-inconsistency_text (kinds.HashCount count) = codes "there are " ++ decimal count ++ codes " hash values for other records"
+inconsistency_text (kinds.HashCount count) =
+    codes "there are " ++ decimal count ++ codes " hash values for other records"
 inconsistency_text (kinds.HashTooLarge value) =
     codes "hash value " ++ decimal value ++ codes " is not below the number of buckets"
 inconsistency_text (kinds.IndexOffset index) =

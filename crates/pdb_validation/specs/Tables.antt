@@ -98,7 +98,8 @@ fault_behind fault index maximum [] = missing_fault fault index maximum
 fault_behind fault index maximum (byte ∷ rest) = Some (fault index (fault_of (byte ∷ rest)))
 
 -- the faults of the records of a table
-unfoldable pub record_faults : {A : Type 0} → (ℕ → Refusal → FaultPlace) → (ℕ → List ℕ → Answer A) → Table → List FaultPlace
+unfoldable pub record_faults : {A : Type 0} → (ℕ → Refusal → FaultPlace) → (ℕ → List ℕ → Answer A) → Table
+    → List FaultPlace
 record_faults fault means table =
     item_faults fault means table.header.minimum_index (walk table)
     (fault_behind fault (table.header.minimum_index + length (walk table)) table.header.maximum_index (walk_rest table))

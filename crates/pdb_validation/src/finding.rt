@@ -3,7 +3,8 @@
 ghost use Rattle.std.specs.Prelude.{◌≡◌, ◌++◌, map, Some, Ok, IfOk};
 ghost use Rattle.std.specs.Option.{option_map, option_to_list};
 ghost use Rattle.pdb_base.specs.Answer.{Answers};
-ghost use Rattle.pdb_validation.specs.Finding.{code_text, fault_code, file_fault, finding_view, is_enough, part_code, record_code};
+ghost use Rattle.pdb_validation.specs.Finding.{code_text, fault_code, file_fault, finding_view, is_enough, part_code};
+ghost use Rattle.pdb_validation.specs.Finding.{record_code};
 ghost use Rattle.pdb_validation.specs.Finding.{stream_fault};
 ghost use Rattle.pdb_validation.specs.Problem.{problem_view};
 

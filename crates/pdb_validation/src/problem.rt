@@ -3,7 +3,8 @@
 ghost use Rattle.std.specs.Prelude.{◌≡◌, Some};
 ghost use Rattle.std.specs.Fmt.{DisplaysOnOk};
 ghost use Rattle.pdb_base.specs.Refusal.{refusal_of};
-ghost use Rattle.pdb_validation.specs.Problem.{error_code, inconsistency_text, is_tolerated, problem_text, problem_view};
+ghost use Rattle.pdb_validation.specs.Problem.{error_code, inconsistency_text, is_tolerated, problem_text};
+ghost use Rattle.pdb_validation.specs.Problem.{problem_view};
 
 use pdb_base::Error;
 use pdb_consistency::Inconsistency;

@@ -10,7 +10,8 @@ ghost use Rattle.pdb_values.specs.TypeView.{type_value};
 ghost use Rattle.pdb_validation.specs.Finding.{by_extent, finding_view};
 ghost use Rattle.pdb_validation.specs.Tables.{continued_in, continues_at, fault_at, id_faults, checked_id, ids_faults};
 ghost use Rattle.pdb_validation.specs.Tables.{missing_fault, walk_before_records, read_in, refusal_fault};
-ghost use Rattle.pdb_validation.specs.Tables.{refusal_in, fail_with, type_faults, checked_type, types_faults, unless_unread};
+ghost use Rattle.pdb_validation.specs.Tables.{refusal_in, fail_with, type_faults, checked_type, types_faults};
+ghost use Rattle.pdb_validation.specs.Tables.{unless_unread};
 ghost use Rattle.pdb_validation.specs.declared.finding.Part.TheVariants as parts;
 
 use crate::finding::{Finding, Part, add, add_until, in_stream};

@@ -13,7 +13,8 @@ use Rattle.pdb_values.specs.declared.primitive.Indirection.TheVariants as pointe
 use Rattle.pdb_values.specs.declared.primitive.PrimitiveKind.{PrimitiveKind}
 use Rattle.pdb_values.specs.declared.primitive.PrimitiveKind.TheVariants as kinds
 use Rattle.pdb_values.specs.declared.primitive.PrimitiveType.{PrimitiveType}
-use Rattle.pdb_values.specs.Primitive.{first_record, primitive_kinds, indirections, value_or_not_found, beside_number, primitive_kind}
+use Rattle.pdb_values.specs.Primitive.{first_record, primitive_kinds, indirections, value_or_not_found, beside_number}
+use Rattle.pdb_values.specs.Primitive.{primitive_kind}
 use Rattle.pdb_values.specs.Primitive.{primitive_indirection, primitive_type}
 use Rattle.pdb_values.specs.Laws.{HasOneIndex, IsRefusedByIndex}
 
@@ -175,7 +176,8 @@ has_one_index type = record {
 }
 
 -- what is not found is refused as the index
-not_found : {A : Type 0} (index : ℕ) (row : Option A) (e : Refusal) → value_or_not_found index row ≡ Err e → e ≡ type_not_found index
+not_found : {A : Type 0} (index : ℕ) (row : Option A) (e : Refusal) → value_or_not_found index row ≡ Err e → e
+    ≡ type_not_found index
 not_found {A} index (Some x) e is = absurd (ok_is_no_err x e is)
 not_found {A} index None e is = sym (err_is {A = A} (type_not_found index) e is)
 

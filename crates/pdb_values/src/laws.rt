@@ -3,7 +3,9 @@
 
 ghost use Rattle.std.specs.Prelude.{◌≡◌, ℕ, List};
 ghost use Rattle.pdb_values.specs.declared.primitive.PrimitiveType.{PrimitiveType};
-ghost use Rattle.pdb_values.specs.LeafNumbers.{CountUpFrom, old_type_leaves, old_inner_leaves, old_entry_leaves, type_leaves, inner_leaves, entry_leaves, named_leaves, last_leaves, id_leaves, last_id_leaves, prefixes, later_prefixes, pads};
+ghost use Rattle.pdb_values.specs.LeafNumbers.{CountUpFrom, old_type_leaves, old_inner_leaves, old_entry_leaves};
+ghost use Rattle.pdb_values.specs.LeafNumbers.{type_leaves, inner_leaves, entry_leaves, named_leaves, last_leaves};
+ghost use Rattle.pdb_values.specs.LeafNumbers.{id_leaves, last_id_leaves, prefixes, later_prefixes, pads};
 ghost use Rattle.pdb_values.specs.Laws.{HasOneIndex, IsRefusedByIndex};
 ghost use Rattle.pdb_values.specs.TypeValue.{TypeValue, Fields, as_fields, values_in};
 ghost use Rattle.pdb_values.specs.declared.primitive.TheConstants.{FIRST_RECORD};

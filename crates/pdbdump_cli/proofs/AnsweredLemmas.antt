@@ -67,7 +67,8 @@ answers_of form file head ((line, Some query) ∷ questions) (reply ∷ all) is 
 pub answers_next : (form : Form) (questions : List Question) (i : ℕ) (d : Question) (left rest : List Reply)
     (reply : Option Reply) → i < length questions
     → reply ≡ (next_reply (get_or questions i d).query left).0 → rest ≡ (next_reply (get_or questions i d).query left).1
-    → answers_text form (map asking_of (drop i questions)) left ≡ answered_text form (get_or questions i d).line.now reply
+    → answers_text form (map asking_of (drop i questions)) left
+    ≡ answered_text form (get_or questions i d).line.now reply
     ++ answers_text form (map asking_of (drop (i + 1) questions)) rest
 unfolding answers_text
 answers_next form questions i d left rest reply within is others =

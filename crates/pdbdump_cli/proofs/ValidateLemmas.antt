@@ -1,5 +1,6 @@
 -- The words of `validate`, and the status with which it ends.
-use Rattle.std.proofs.Common.{◌≡◌, ℕ, ◌+◌, ◌<◌, ◌==◌, Bool, true, false, List, [], ◌∷◌, ◌++◌, Bor, filter, get_or, length}
+use Rattle.std.proofs.Common.{◌≡◌, ℕ, ◌+◌, ◌<◌, ◌==◌, Bool, true, false, List, [], ◌∷◌, ◌++◌, Bor, filter, get_or}
+use Rattle.std.proofs.Common.{length}
 use Rattle.std.proofs.Common.{length-append, map, take, refl, sym, ap, Some, ◌∙◌}
 use Rattle.std.specs.Prelude.{◌||◌}
 use Rattle.std.specs.List.{flat_map, list_any}
@@ -15,7 +16,8 @@ use Rattle.pdbdump_cli.specs.ValidateWords.{is_unknown, options_in, paths_in, va
 use Rattle.pdbdump_cli.specs.declared.command.ValidateOptions.{ValidateOptions}
 
 -- a test of words is one of what they say
-pub any_said : (test : List ℕ → Bool) (words : List (Bor (List ℕ))) → list_any test (map (λ word. word.now) words) ≡ list_any (λ word. test word.now) words
+pub any_said : (test : List ℕ → Bool) (words : List (Bor (List ℕ))) → list_any test (map (λ word. word.now) words)
+    ≡ list_any (λ word. test word.now) words
 any_said test [] = refl
 any_said test (word ∷ words) = ap (λ (others : Bool). test word.now || others) (any_said test words)
 
@@ -31,12 +33,14 @@ asked_with words (path ∷ paths) options known is said some =
 
 -- the line of one finding more
 pub lines_more : (text : FaultPlace → List ℕ) (findings : List Finding) (i : ℕ) (d : Finding) → i < length findings
-    → flat_map text (map finding_view (take (i + 1) findings)) ≡ flat_map text (map finding_view (take i findings)) ++ text (finding_view (get_or findings i d))
+    → flat_map text (map finding_view (take (i + 1) findings))
+    ≡ flat_map text (map finding_view (take i findings)) ++ text (finding_view (get_or findings i d))
 lines_more text findings i d within =
     ap (λ (some : List Finding). flat_map text (map finding_view some)) (take_more findings i d within)
     ∙ ap (flat_map text) (map-append finding_view (take i findings) (get_or findings i d ∷ []))
     ∙ flat_map-append text (map finding_view (take i findings)) (finding_view (get_or findings i d) ∷ [])
-    ∙ ap (λ (last : List ℕ). flat_map text (map finding_view (take i findings)) ++ last) (append-nil (text (finding_view (get_or findings i d))))
+    ∙ ap (λ (last : List ℕ). flat_map text (map finding_view (take i findings)) ++ last)
+    (append-nil (text (finding_view (get_or findings i d))))
 
 -- the number of warnings with one finding more
 pub warnings_more : (findings : List Finding) (i : ℕ) (d : Finding) → i < length findings

@@ -52,5 +52,6 @@ IsAsked form file questions old new (Ok all) = (lines : List ℕ) × AreAnswerLi
     × Gets old new lines
 IsAsked form file questions old new (Err e) =
     ((file_head file ≡ Err (refusal_of e)) × (new ≡ old))
-    ⊎ (((e ≡ OutOfMemory) × (new ≡ old)) ⊎ ((lines : List ℕ) × (all : Bool) × AreAnswerLines form file questions lines all
+    ⊎ (((e ≡ OutOfMemory) × (new ≡ old)) ⊎ ((lines : List ℕ) × (all : Bool)
+    × AreAnswerLines form file questions lines all
     × IsCutShort lines old new e))

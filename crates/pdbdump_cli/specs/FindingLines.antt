@@ -56,7 +56,8 @@ labelled_number label (Some n) = label_and_number label n
 -- file, as far as there are such
 unfoldable pub finding_place : ℕ → Option ℕ → Option ℕ → Option ℕ → List ℕ
 finding_place stream index byte file_byte =
-    codes " [stream " ++ decimal stream ++ labelled_number (codes " index ") index ++ labelled_number (codes " byte ") byte
+    codes " [stream " ++ decimal stream ++ labelled_number (codes " index ") index
+    ++ labelled_number (codes " byte ") byte
     ++ labelled_number (codes ", file byte ") file_byte ++ codes "]"
 
 -- where a fault is, as far as it has a place
@@ -82,7 +83,8 @@ unfoldable pub count_of_things : ℕ → List ℕ → List ℕ
 count_of_things n thing = decimal n ++ codes " " ++ thing ++ (if n == 1 then [] else codes "s")
 
 unfoldable pub counts_text : Counts → List ℕ
-counts_text counts = count_of_things counts.errors (codes "error") ++ codes ", " ++ count_of_things counts.warnings (codes "warning")
+counts_text counts =
+    count_of_things counts.errors (codes "error") ++ codes ", " ++ count_of_things counts.warnings (codes "warning")
 
 -- the same behind a colon, if there are any
 abbrev pub counts_if_any : Counts → List ℕ

@@ -1,5 +1,6 @@
 -- The words that `id` takes: `[--format FORMAT] [--name NAME] [--expect ID] FILE`.
-use Rattle.std.specs.Prelude.{ℕ, ◌&&◌, if◌then◌else◌, List, [], ◌∷◌, codes, Option, Some, None, option_and_then, unwrap_or}
+use Rattle.std.specs.Prelude.{ℕ, ◌&&◌, if◌then◌else◌, List, [], ◌∷◌, codes, Option, Some, None, option_and_then}
+use Rattle.std.specs.Prelude.{unwrap_or}
 use Rattle.std.specs.Option.{is_none, option_map}
 use Rattle.std.specs.Path.{path_file_name}
 use Rattle.pdb_cli.specs.Words.{same}
@@ -40,7 +41,8 @@ no_words = record { style = None; name = None; expected = None; path = None }
 -- with one option more, and the word behind it; none may be given twice
 abbrev pub with_id_option : IdGiven → List ℕ → List ℕ → Option IdGiven
 with_id_option given option value =
-    if same option (codes "--format") && is_none given.style then option_map (λ style. record given { style = Some style }) (style_of value)
+    if same option (codes "--format") && is_none given.style
+    then option_map (λ style. record given { style = Some style }) (style_of value)
     else if same option (codes "--name") && is_none given.name then Some (record given { name = Some value })
     else if same option (codes "--expect") && is_none given.expected then Some (record given { expected = Some value })
     else None
@@ -81,6 +83,11 @@ unfoldable pub identify_of : List (List ℕ) → Option IdentifyValue
 identify_of words =
     option_and_then
     (λ given. option_map
-    (λ path. record { path = path; style = unwrap_or given.style styles.Key; name = unwrap_or given.name (own_name path); expected = given.expected })
+    (λ path. record {
+      path = path;
+      style = unwrap_or given.style styles.Key;
+      name = unwrap_or given.name (own_name path);
+      expected = given.expected;
+    })
     given.path)
     (id_words no_words words)

@@ -1,5 +1,6 @@
 -- What `id` does with a file, and how the program ends.
-use Rattle.std.specs.Prelude.{◌≡◌, ◌⊎◌, ◌↔◌, ℕ, Bool, false, IsTrue, ⊤, List, codes, Option, Some, None, Result, Ok, Err, IfOk, IfSome}
+use Rattle.std.specs.Prelude.{◌≡◌, ◌⊎◌, ◌↔◌, ℕ, Bool, false, IsTrue, ⊤, List, codes, Option, Some, None, Result, Ok}
+use Rattle.std.specs.Prelude.{Err, IfOk, IfSome}
 use Rattle.pdb_base.specs.declared.error.Error.{Error}
 use Rattle.pdb_base.specs.declared.error.Error.TheVariants.{OutOfMemory}
 use Rattle.pdb_base.specs.Answer.{Answer, ◌>>=◌}
@@ -28,15 +29,19 @@ IsExpected (Some word) identity = IsKey word identity
 
 -- The line of what identifies a file was written, or cut short; and the result says whether the file is the
 -- expected one.
-pub record IsIdentityShown (form : Form) (asked : IdentifyValue) (identity : Identity) (out out' : OutputState) (result : Result Bool Error) : Type 0 where
+pub record IsIdentityShown (form : Form) (asked : IdentifyValue) (identity : Identity) (out out' : OutputState)
+    (result : Result Bool Error) : Type 0 where
   pub writes : Writes (identity_line form asked.style asked.name identity) out out' (done_of result)
   pub expected : IfOk result (λ is_expected. IsTrue is_expected ↔ IsExpected asked.expected identity)
 
 -- What `id` does with a file: what identifies it was found and written; or it is refused, or memory for it, and
 -- nothing is written.
-pub data IsIdentified (form : Form) (asked : IdentifyValue) (file : List ℕ) (out out' : OutputState) (result : Result Bool Error) : Type 0 where
-  found : (identity : Identity) → identity_in file ≡ Ok identity → IsIdentityShown form asked identity out out' result → IsIdentified form asked file out out' result
-  refused : (fault : Error) → result ≡ Err fault → (identity_in file ≡ Err (refusal_of fault)) ⊎ (fault ≡ OutOfMemory) → out' ≡ out → IsIdentified form asked file out out' result
+pub data IsIdentified (form : Form) (asked : IdentifyValue) (file : List ℕ) (out out' : OutputState)
+    (result : Result Bool Error) : Type 0 where
+  found : (identity : Identity) → identity_in file ≡ Ok identity → IsIdentityShown form asked identity out out' result
+      → IsIdentified form asked file out out' result
+  refused : (fault : Error) → result ≡ Err fault → (identity_in file ≡ Err (refusal_of fault)) ⊎ (fault ≡ OutOfMemory)
+      → out' ≡ out → IsIdentified form asked file out out' result
 
 -- what is written of a file of another format than the one that is read
 abbrev pub other_format : Format → Option (List ℕ)
@@ -54,16 +59,23 @@ unexpected_line = codes "the file has another key than the expected one\n"
 -- How the program ends after a file was identified: as behind a listing; or, if the file is not the expected one,
 -- it says so behind that, with status 1.
 pub data IsConcluded (result : Result Bool Error) (written out' err err' : OutputState) (status : ℕ) : Type 0 where
-  ended : (result ≡ Ok false → ⊥) → IsEnded (done_of result) written out' err err' status → IsConcluded result written out' err err' status
-  differs : (told : OutputState) (ended : ℕ) → result ≡ Ok false → IsEnded (Ok tt) written out' err told ended → GetsUnlessFailed told err' unexpected_line → status ≡ 1
+  ended : (result ≡ Ok false → ⊥) → IsEnded (done_of result) written out' err err' status
+      → IsConcluded result written out' err err' status
+  differs : (told : OutputState) (ended : ℕ) → result ≡ Ok false → IsEnded (Ok tt) written out' err told ended
+      → GetsUnlessFailed told err' unexpected_line → status ≡ 1
       → IsConcluded result written out' err err' status
 
 -- What the program did for `id`: it reported why the input can't be read, or what else the file is, and wrote
 -- no output; or it identified the file, flushed the output, and ended. If the bytes of the input are known, these
 -- are the file.
-pub data IsIdServed (form : Form) (asked : IdentifyValue) (had : Option (List ℕ)) (out out' err err' : OutputState) (status : ℕ) : Type 0 where
-  unread : (fault : Error) → IsUnread fault → out' ≡ out → IsFaultReported fault err err' status → IsIdServed form asked had out out' err err' status
-  other : (file text : List ℕ) → IfSome had (λ bytes. file ≡ bytes) → other_format (format_of file) ≡ Some text → out' ≡ out → GetsUnlessFailed err err' text → status ≡ 1
+pub data IsIdServed (form : Form) (asked : IdentifyValue) (had : Option (List ℕ)) (out out' err err' : OutputState)
+    (status : ℕ) : Type 0 where
+  unread : (fault : Error) → IsUnread fault → out' ≡ out → IsFaultReported fault err err' status
       → IsIdServed form asked had out out' err err' status
-  identified : (file : List ℕ) (written : OutputState) (result : Result Bool Error) → IfSome had (λ bytes. file ≡ bytes) → other_format (format_of file) ≡ None
-      → IsIdentified form asked file out written result → IsConcluded result written out' err err' status → IsIdServed form asked had out out' err err' status
+  other : (file text : List ℕ) → IfSome had (λ bytes. file ≡ bytes) → other_format (format_of file) ≡ Some text → out'
+      ≡ out → GetsUnlessFailed err err' text → status ≡ 1
+      → IsIdServed form asked had out out' err err' status
+  identified : (file : List ℕ) (written : OutputState) (result : Result Bool Error) → IfSome had (λ bytes. file ≡ bytes)
+      → other_format (format_of file) ≡ None
+      → IsIdentified form asked file out written result → IsConcluded result written out' err err' status
+      → IsIdServed form asked had out out' err err' status

@@ -16,12 +16,16 @@ pub record AreLaidOut (file : List ℕ) (result : Result Bool Error) (err told :
 -- How the program ends behind layouts: as behind a listing, but with status 1 if something was told.
 abbrev pub IsLayoutEnded : Result Bool Error → OutputState → OutputState → OutputState → OutputState → ℕ → Type 0
 IsLayoutEnded (Ok true) written out' told err' status = IsEnded (Ok tt) written out' told err' status
-IsLayoutEnded (Ok false) written out' told err' status = ((ended : ℕ) × IsEnded (Ok tt) written out' told err' ended) × (status ≡ 1)
+IsLayoutEnded (Ok false) written out' told err' status =
+    ((ended : ℕ) × IsEnded (Ok tt) written out' told err' ended) × (status ≡ 1)
 IsLayoutEnded (Err fault) written out' told err' status = IsEnded (Err fault) written out' told err' status
 
 -- What the program did for `layout`: it reported why the input can't be read, and wrote no output; or it showed
 -- layouts, flushed the output, and ended. If the bytes of the input are known, these are the file.
 pub data IsLayoutServed (had : Option (List ℕ)) (out out' err err' : OutputState) (status : ℕ) : Type 0 where
-  unread : (fault : Error) → IsUnread fault → out' ≡ out → IsFaultReported fault err err' status → IsLayoutServed had out out' err err' status
-  laid_out : (file : List ℕ) (written told : OutputState) (result : Result Bool Error) → IfSome had (λ bytes. file ≡ bytes)
-      → AreLaidOut file result err told → IsLayoutEnded result written out' told err' status → IsLayoutServed had out out' err err' status
+  unread : (fault : Error) → IsUnread fault → out' ≡ out → IsFaultReported fault err err' status
+      → IsLayoutServed had out out' err err' status
+  laid_out : (file : List ℕ) (written told : OutputState) (result : Result Bool Error)
+      → IfSome had (λ bytes. file ≡ bytes)
+      → AreLaidOut file result err told → IsLayoutEnded result written out' told err' status
+      → IsLayoutServed had out out' err err' status

@@ -1,5 +1,6 @@
 -- The words that `layout` takes: `[--style STYLE] [--sort ORDER] [--expand N] [--holes] [--all] FILE NAME..`.
-use Rattle.std.specs.Prelude.{ℕ, true, false, ◌&&◌, not, if◌then◌else◌, List, [], ◌∷◌, map, codes, Option, Some, None, option_and_then, unwrap_or}
+use Rattle.std.specs.Prelude.{ℕ, true, false, ◌&&◌, not, if◌then◌else◌, List, [], ◌∷◌, map, codes, Option, Some, None}
+use Rattle.std.specs.Prelude.{option_and_then, unwrap_or}
 use Rattle.std.specs.List.{list_any}
 use Rattle.std.specs.Option.{is_none, option_map}
 use Rattle.std.specs.Borrow.{Bor}
@@ -62,7 +63,8 @@ abbrev pub options_view : LayoutOptions × Bor (List (Bor (List ℕ))) → Behin
 options_view pair = record { options = pair.0; words = map (λ word. word.now) pair.1.now }
 
 -- behind an option: as after a flag, or else as after an option with the word behind it
-abbrev pub flag_or_value : (LayoutOptions → Option Behind) → (LayoutOptions → Option Behind) → Option LayoutOptions → Option LayoutOptions → Option Behind
+abbrev pub flag_or_value : (LayoutOptions → Option Behind) → (LayoutOptions → Option Behind) → Option LayoutOptions
+    → Option LayoutOptions → Option Behind
 flag_or_value after_flag after_value (Some more) valued = after_flag more
 flag_or_value after_flag after_value None valued = option_and_then after_value valued
 
@@ -74,7 +76,8 @@ layout_options options (word ∷ []) =
     else Some (record { options = options; words = word ∷ [] })
 layout_options options (word ∷ next ∷ words) =
     if is_option word
-    then flag_or_value (λ more. layout_options more (next ∷ words)) (λ more. layout_options more words) (with_flag options word) (with_value options word next)
+    then flag_or_value (λ more. layout_options more (next ∷ words)) (λ more. layout_options more words)
+    (with_flag options word) (with_value options word next)
     else Some (record { options = options; words = word ∷ next ∷ words })
 
 -- what `layout` is asked: the path of the file, names, and how layouts are shown
@@ -84,7 +87,11 @@ pub record LayoutsValue : Type 0 where
   pub options : Options
 
 abbrev pub layouts_view : Layouts → LayoutsValue
-layouts_view asked = record { path = asked.path.now; names = map (λ word. word.now) asked.names.now; options = asked.options }
+layouts_view asked = record {
+  path = asked.path.now;
+  names = map (λ word. word.now) asked.names.now;
+  options = asked.options;
+}
 
 -- how layouts are shown with options
 abbrev pub shown_with : LayoutOptions → Options
@@ -100,10 +107,12 @@ shown_with options = record {
 abbrev pub none_given : LayoutOptions
 none_given = record { style = None; order = None; depth = None; has_holes = false; all = false }
 
--- with the words behind the options: the path, and then names, of which there is none exactly if all layouts are asked for
+-- with the words behind the options: the path, and then names, of which there is none exactly if all layouts are asked
+-- for
 abbrev pub with_path : LayoutOptions → List (List ℕ) → Option LayoutsValue
 with_path options [] = None
-with_path options (path ∷ []) = if options.all then Some (record { path = path; names = []; options = shown_with options }) else None
+with_path options (path ∷ []) = if options.all then Some
+    (record { path = path; names = []; options = shown_with options }) else None
 with_path options (path ∷ name ∷ names) =
     if list_any is_option (name ∷ names) then None
     else if options.all then None

@@ -26,9 +26,12 @@ id_stream = 4
 
 -- The table in a stream is listed, as the bytes of the stream determine; or the stream is refused, or memory
 -- for it, and nothing is written.
-pub data IsListedIn (listed : List ℕ → OutputState → OutputState → Result (Unit {0}) Error → Type 0) (file : List ℕ) (head : Head) (n : ℕ) (out out' : OutputState) (result : Result (Unit {0}) Error) : Type 0 where
-  read : (stream : List ℕ) → stream_of file head n None ≡ Ok stream → listed stream out out' result → IsListedIn listed file head n out out' result
-  unread : (fault : Error) → result ≡ Err fault → (stream_of file head n None ≡ Err (refusal_of fault)) ⊎ (fault ≡ OutOfMemory) → out' ≡ out → IsListedIn listed file head n out out' result
+pub data IsListedIn (listed : List ℕ → OutputState → OutputState → Result (Unit {0}) Error → Type 0) (file : List ℕ)
+    (head : Head) (n : ℕ) (out out' : OutputState) (result : Result (Unit {0}) Error) : Type 0 where
+  read : (stream : List ℕ) → stream_of file head n None ≡ Ok stream → listed stream out out' result
+      → IsListedIn listed file head n out out' result
+  unread : (fault : Error) → result ≡ Err fault → (stream_of file head n None ≡ Err (refusal_of fault))
+      ⊎ (fault ≡ OutOfMemory) → out' ≡ out → IsListedIn listed file head n out out' result
 
 -- the types of a table, or the one of an index
 abbrev pub AreTypes : Form → Option ℕ → List ℕ → OutputState → OutputState → Result (Unit {0}) Error → Type 0
@@ -43,8 +46,10 @@ AreIds form (Some index) stream = records.IsShown (id_lines_at form index stream
 -- what a command does with a file with this header
 abbrev pub DoesIn : Form → Command → List ℕ → Head → OutputState → OutputState → Result (Unit {0}) Error → Type 0
 DoesIn form commands.Summary file head = IsListed (summary_listing form file head)
-DoesIn form (commands.Types stream index) file head = IsListedIn (AreTypes form index) file head (unwrap_or stream type_stream)
-DoesIn form (commands.Ids stream index) file head = IsListedIn (AreIds form index) file head (unwrap_or stream id_stream)
+DoesIn form (commands.Types stream index) file head =
+    IsListedIn (AreTypes form index) file head (unwrap_or stream type_stream)
+DoesIn form (commands.Ids stream index) file head =
+    IsListedIn (AreIds form index) file head (unwrap_or stream id_stream)
 DoesIn form (commands.Names stream) file head = IsListed (file_names form file head stream)
 DoesIn form (commands.Sections stream) file head = IsListed (file_sections form file head stream)
 DoesIn form (commands.Omap stream) file head = IsListed (file_omap form file head stream)
@@ -53,6 +58,9 @@ DoesIn form (commands.FramesIn old new) file head = IsListed (frames_in form fil
 DoesIn form (commands.Map address streams) file head = IsMapped form (map_in file head streams) address
 
 -- What a command does with a file; or the header is refused, or memory for it, and nothing is written.
-pub data Does (form : Form) (command : Command) (file : List ℕ) (out out' : OutputState) (result : Result (Unit {0}) Error) : Type 0 where
-  listed : (head : Head) → file_head file ≡ Ok head → DoesIn form command file head out out' result → Does form command file out out' result
-  refused : (fault : Error) → result ≡ Err fault → (file_head file ≡ Err (refusal_of fault)) ⊎ (fault ≡ OutOfMemory) → out' ≡ out → Does form command file out out' result
+pub data Does (form : Form) (command : Command) (file : List ℕ) (out out' : OutputState)
+    (result : Result (Unit {0}) Error) : Type 0 where
+  listed : (head : Head) → file_head file ≡ Ok head → DoesIn form command file head out out' result
+      → Does form command file out out' result
+  refused : (fault : Error) → result ≡ Err fault → (file_head file ≡ Err (refusal_of fault)) ⊎ (fault ≡ OutOfMemory)
+      → out' ≡ out → Does form command file out out' result

@@ -25,7 +25,8 @@ pub record IsQuiet (old new : OutputState) (status : ℕ) : Type 0 where
 -- it reports the fault, with status 1.
 abbrev pub EndsProgram : Result (Unit {0}) Error → OutputState → OutputState → ℕ → Type 0
 EndsProgram (Ok done) old new status = IsQuiet old new status
-EndsProgram (Err fault) old new status = (IsClosed fault → IsQuiet old new status) × ((IsClosed fault → ⊥) → IsFaultReported fault old new status)
+EndsProgram (Err fault) old new status =
+    (IsClosed fault → IsQuiet old new status) × ((IsClosed fault → ⊥) → IsFaultReported fault old new status)
 
 -- The output was flushed behind a listing, and the program ended as the first fault of both says, if there
 -- is one.
@@ -37,7 +38,11 @@ pub record IsEnded (listed : Result (Unit {0}) Error) (written out' err err' : O
 -- What the program did with a command and an input: it reported why the input can't be read, and wrote no
 -- output; or it listed what the command asks of the file in the input, flushed the output, and ended. If
 -- the bytes of the input are known, these are the file.
-pub data IsCommandServed (form : Form) (command : Command) (had : Option (List ℕ)) (out out' err err' : OutputState) (status : ℕ) : Type 0 where
-  unread : (fault : Error) → IsUnread fault → out' ≡ out → IsFaultReported fault err err' status → IsCommandServed form command had out out' err err' status
-  listed : (file : List ℕ) (written : OutputState) (result : Result (Unit {0}) Error) → IfSome had (λ bytes. file ≡ bytes)
-      → Does form command file out written result → IsEnded result written out' err err' status → IsCommandServed form command had out out' err err' status
+pub data IsCommandServed (form : Form) (command : Command) (had : Option (List ℕ)) (out out' err err' : OutputState)
+    (status : ℕ) : Type 0 where
+  unread : (fault : Error) → IsUnread fault → out' ≡ out → IsFaultReported fault err err' status
+      → IsCommandServed form command had out out' err err' status
+  listed : (file : List ℕ) (written : OutputState) (result : Result (Unit {0}) Error)
+      → IfSome had (λ bytes. file ≡ bytes)
+      → Does form command file out written result → IsEnded result written out' err err' status
+      → IsCommandServed form command had out out' err err' status

@@ -1,5 +1,6 @@
 -- The words that the program takes: `COMMAND [OPTION].. FILE [OPERAND]`, or `FILE` alone.
-use Rattle.std.specs.Prelude.{ℕ, Bool, false, ◌&&◌, nat_eq, not, filter, if◌then◌else◌, List, [], ◌∷◌, codes, Option, Some, None, option_and_then, unwrap_or, Result, Ok, Err}
+use Rattle.std.specs.Prelude.{ℕ, Bool, false, ◌&&◌, nat_eq, not, filter, if◌then◌else◌, List, [], ◌∷◌, codes, Option}
+use Rattle.std.specs.Prelude.{Some, None, option_and_then, unwrap_or, Result, Ok, Err}
 use Rattle.std.specs.List.{starts_with}
 use Rattle.std.specs.Option.{is_none, option_map, option_map_or}
 use Rattle.pdb_cli.specs.Words.{number_of, same}
@@ -49,10 +50,14 @@ first_verb (word ∷ words) = verb_of word
 -- the streams of an address map, with the one that an option gives; none may be given twice
 abbrev pub with_stream : MapStreams → List ℕ → ℕ → Option MapStreams
 with_stream streams option stream =
-    if same option (codes "--sections") && is_none streams.sections then Some (record streams { sections = Some stream })
-    else if same option (codes "--transformed") && is_none streams.transformed then Some (record streams { transformed = Some stream })
-    else if same option (codes "--to") && is_none streams.to_original then Some (record streams { to_original = Some stream })
-    else if same option (codes "--from") && is_none streams.to_transformed then Some (record streams { to_transformed = Some stream })
+    if same option (codes "--sections") && is_none streams.sections
+    then Some (record streams { sections = Some stream })
+    else if same option (codes "--transformed") && is_none streams.transformed
+    then Some (record streams { transformed = Some stream })
+    else if same option (codes "--to") && is_none streams.to_original
+    then Some (record streams { to_original = Some stream })
+    else if same option (codes "--from") && is_none streams.to_transformed
+    then Some (record streams { to_transformed = Some stream })
     else None
 
 -- the options of `types` and `ids`: `--stream S` and `--index I`
@@ -64,7 +69,8 @@ record_option options option value =
 
 -- the option of `names`, `sections` and `omap`: `--stream S`
 abbrev pub stream_option : Options → List ℕ → ℕ → Option Options
-stream_option options option value = if same option (codes "--stream") && is_none options.stream then Some (record options { stream = Some value }) else None
+stream_option options option value = if same option (codes "--stream") && is_none options.stream
+    then Some (record options { stream = Some value }) else None
 
 -- the options of `frames`: `--old S` and `--new S`
 abbrev pub frame_option : Options → List ℕ → ℕ → Option Options
@@ -88,7 +94,8 @@ with_option verbs.Names options option value = stream_option options option valu
 with_option verbs.Sections options option value = stream_option options option value
 with_option verbs.Omap options option value = stream_option options option value
 with_option verbs.Frames options option value = frame_option options option value
-with_option verbs.Map options option value = option_map (λ streams. record options { map = streams }) (with_stream options.map option value)
+with_option verbs.Map options option value =
+    option_map (λ streams. record options { map = streams }) (with_stream options.map option value)
 with_option verbs.Extract options option value = part_option options option value
 with_option verbs.Summary options option value = None
 with_option verbs.Ask options option value = None
@@ -98,7 +105,8 @@ with_option verbs.Layout options option value = None
 
 -- the options with the one that its name and the number in the word after it give
 unfoldable pub option_given : Verb → Options → List ℕ → List ℕ → Option Options
-option_given verb options option value = option_and_then (λ number. with_option verb options option number) (number_of value)
+option_given verb options option value =
+    option_and_then (λ number. with_option verb options option number) (number_of value)
 
 -- ---- arguments
 
@@ -149,7 +157,8 @@ unfoldable pub arguments_with : Verb → Given → List (List ℕ) → Option Gi
 arguments_with verb given [] = Some given
 arguments_with verb given (word ∷ []) = if is_option word then None else with_operand given word
 arguments_with verb given (word ∷ next ∷ words) =
-    if is_option word then option_and_then (λ options. arguments_with verb (record given { options = options }) words) (option_given verb given.options word next)
+    if is_option word then option_and_then (λ options. arguments_with verb (record given { options = options }) words)
+    (option_given verb given.options word next)
     else option_and_then (λ more. arguments_with verb more (next ∷ words)) (with_operand given word)
 
 -- ---- calls
@@ -188,7 +197,8 @@ call_view call = record { path = call.path.now; task = call.task }
 -- the call of a command with the words behind its name
 unfoldable pub call_with : Verb → List (List ℕ) → Option CallValue
 call_with verb words =
-    option_and_then (λ given. option_and_then (λ path. option_map (λ task. record { path = path; task = task }) (task_with verb given.options given.operand)) given.path)
+    option_and_then (λ given. option_and_then (λ path. option_map (λ task. record { path = path; task = task })
+    (task_with verb given.options given.operand)) given.path)
     (arguments_with verb none_given words)
 
 -- what `extract` is asked: the path of the file, the word for the stream, how many bytes are left out, and how
@@ -200,14 +210,24 @@ pub record ExtractValue : Type 0 where
   pub limit : Option ℕ
 
 abbrev pub extract_view : Extract → ExtractValue
-extract_view extract = record { path = extract.path.now; stream = extract.stream.now; skip = extract.skip; limit = extract.limit }
+extract_view extract = record {
+  path = extract.path.now;
+  stream = extract.stream.now;
+  skip = extract.skip;
+  limit = extract.limit;
+}
 
 -- what `extract` is asked with the words behind its name
 unfoldable pub extract_of : List (List ℕ) → Option ExtractValue
 extract_of words =
     option_and_then
     (λ given. option_and_then
-    (λ path. option_map (λ stream. record { path = path; stream = stream; skip = unwrap_or given.options.skip 0; limit = given.options.limit }) given.operand)
+    (λ path. option_map (λ stream. record {
+      path = path;
+      stream = stream;
+      skip = unwrap_or given.options.skip 0;
+      limit = given.options.limit;
+    }) given.operand)
     given.path)
     (arguments_with verbs.Extract none_given words)
 

@@ -10,7 +10,8 @@ ghost use Rattle.pdbdump_rows.specs.Line.{ShowsFields};
 ghost use Rattle.pdbdump_rows.specs.Lines.{row_text};
 ghost use Rattle.pdbdump_rows.specs.Refused.{refusal_shown};
 ghost use Rattle.pdbdump_rows.specs.Row.{text as shown_text};
-ghost use Rattle.pdbdump_cli.specs.Answers.{answer_text, answered_text, bytes_shown, is_answer, name_field, range_shown, record_shown, reply_text};
+ghost use Rattle.pdbdump_cli.specs.Answers.{answer_text, answered_text, bytes_shown, is_answer, name_field};
+ghost use Rattle.pdbdump_cli.specs.Answers.{range_shown, record_shown, reply_text};
 
 use pdb_base::RawString;
 use pdb_container::{Error, Reply, Result};
@@ -41,7 +42,8 @@ fn write_text<W: Write>(
 
 /// Adds the index of a record, its kind and its name, if it has one.
 fn show_record(line: &mut Line, index: u32, leaf: u16, name: Option<&[u8]>) -> Result<()>
-    ensures { ShowsFields (record_shown index leaf (option_map (λ name. name.now) name.entry)) line.old line.new result }
+    ensures { ShowsFields (record_shown index leaf (option_map
+        (λ name. name.now) name.entry)) line.old line.new result }
 {
     line.field("index", Value::Hexadecimal(index))?;
     line.field("kind", Value::Kind(leaf))?;

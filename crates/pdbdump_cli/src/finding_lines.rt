@@ -8,9 +8,11 @@ ghost use Rattle.pdbdump_rows.specs.Line.{Adds, ShowsFields};
 ghost use Rattle.pdbdump_rows.specs.Row.{value_shown};
 ghost use Rattle.pdb_validation.specs.Finding.{fault_code, finding_view, warning_count};
 ghost use Rattle.pdb_validation.specs.Problem.{is_tolerated, problem_view};
-ghost use Rattle.pdbdump_cli.specs.FindingLines.{count_of_things, counts_if_any, counts_of, counts_text, fault_in, fault_line};
+ghost use Rattle.pdbdump_cli.specs.FindingLines.{count_of_things, counts_if_any, counts_of, counts_text, fault_in};
+ghost use Rattle.pdbdump_cli.specs.FindingLines.{fault_line};
 ghost use Rattle.pdbdump_cli.specs.FindingLines.{fault_shown, finding_text, file_in, file_line, file_shown};
-ghost use Rattle.pdbdump_cli.specs.FindingLines.{label_and_number, labelled_number, lines_unless, finding_place, place_text};
+ghost use Rattle.pdbdump_cli.specs.FindingLines.{label_and_number, labelled_number, lines_unless, finding_place};
+ghost use Rattle.pdbdump_cli.specs.FindingLines.{place_text};
 ghost use Rattle.pdbdump_cli.specs.FindingLines.{problem_words, severity, tally_view, validate_lines, whole_text};
 
 use crate::names::{

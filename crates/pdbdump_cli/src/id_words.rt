@@ -2,7 +2,8 @@
 
 ghost use Rattle.std.specs.Prelude.{◌≡◌, map};
 ghost use Rattle.std.specs.Option.{option_map};
-ghost use Rattle.pdbdump_cli.specs.IdWords.{id_view, id_words, identify_of, identify_view, own_name, style_of, with_id_option, with_path};
+ghost use Rattle.pdbdump_cli.specs.IdWords.{id_view, id_words, identify_of, identify_view, own_name, style_of};
+ghost use Rattle.pdbdump_cli.specs.IdWords.{with_id_option, with_path};
 
 use crate::command::Identify;
 use crate::words::is_option;

@@ -5,7 +5,8 @@ ghost use Rattle.std.specs.Option.{option_map};
 ghost use Rattle.pdb_base.specs.Answer.{Answers};
 ghost use Rattle.pdb_base.specs.Memory.{FailsOnlyForMemory};
 ghost use Rattle.pdbdump_cli.specs.IdWords.{identify_view};
-ghost use Rattle.pdbdump_cli.specs.Identified.{IsConcluded, IsExpected, IsIdentityShown, IsIdServed, IsIdentified, identity_in, other_format};
+ghost use Rattle.pdbdump_cli.specs.Identified.{IsConcluded, IsExpected, IsIdentityShown, IsIdServed, IsIdentified};
+ghost use Rattle.pdbdump_cli.specs.Identified.{identity_in, other_format};
 
 use crate::command::Identify;
 use crate::served::end;

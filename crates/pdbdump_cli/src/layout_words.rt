@@ -3,7 +3,9 @@
 ghost use Rattle.std.specs.Prelude.{◌≡◌, map, false};
 ghost use Rattle.std.specs.List.{list_any};
 ghost use Rattle.std.specs.Option.{option_map};
-ghost use Rattle.pdbdump_cli.specs.LayoutWords.{layout_options, layouts_of, layouts_view, options_view, order_of, shown_with, style_of, with_depth, with_flag, with_order, with_path, with_style, with_value};
+ghost use Rattle.pdbdump_cli.specs.LayoutWords.{layout_options, layouts_of, layouts_view, options_view, order_of};
+ghost use Rattle.pdbdump_cli.specs.LayoutWords.{shown_with, style_of, with_depth, with_flag, with_order, with_path};
+ghost use Rattle.pdbdump_cli.specs.LayoutWords.{with_style, with_value};
 ghost use Rattle.pdbdump_cli.specs.Words.{is_option};
 
 use crate::command::Layouts;

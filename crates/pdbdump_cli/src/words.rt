@@ -5,8 +5,11 @@ ghost use Rattle.std.specs.Option.{option_map};
 ghost use Rattle.std.specs.List.{list_any};
 ghost use Rattle.pdb_base.specs.Memory.{FailsOnlyForMemory};
 ghost use Rattle.pdb_cli.specs.Words.{same};
-ghost use Rattle.pdbdump_cli.specs.Words.{arguments_view, arguments_with, call_of, call_view, call_with, command_with, extract_of, extract_view, first_verb, frame_option, is_option};
-ghost use Rattle.pdbdump_cli.specs.Words.{none_given, option_given, part_option, plain_words, record_option, result_view, stream_option, task_with, unless_twice, verb_of, with_operand, with_option, with_stream};
+ghost use Rattle.pdbdump_cli.specs.Words.{arguments_view, arguments_with, call_of, call_view, call_with, command_with};
+ghost use Rattle.pdbdump_cli.specs.Words.{extract_of, extract_view, first_verb, frame_option, is_option};
+ghost use Rattle.pdbdump_cli.specs.Words.{none_given, option_given, part_option, plain_words, record_option};
+ghost use Rattle.pdbdump_cli.specs.Words.{result_view, stream_option, task_with, unless_twice, verb_of, with_operand};
+ghost use Rattle.pdbdump_cli.specs.Words.{with_option, with_stream};
 
 use crate::command::{Call, Command, Extract, Misuse, Task, Verb};
 use pdb_cli::number;

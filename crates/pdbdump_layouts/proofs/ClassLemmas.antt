@@ -45,7 +45,8 @@ along_other table start k index value other leads below is has =
 
 -- a type without one
 pub along_last : (table : Table) (start k index : ℕ) (value : TypeValue) → LeadsOn table start k index → k < 16
-    → type_at table index ≡ Ok value → None ≡ modified_type value → class_layout table start ≡ layout_of_type table index
+    → type_at table index ≡ Ok value → None ≡ modified_type value → class_layout table start
+    ≡ layout_of_type table index
 along_last table start k index value leads below is has =
     by_one table start k index (Ok value) leads below is
     ∙ ap (λ (o : Option ℕ). option_map_or (layout_along (16 - (k + 1)) table) o (layout_of_type table index)) (sym has)

@@ -76,7 +76,8 @@ within depth deepest below left mid left' rows old new same few shown = record {
 pub step_shown : (depth deepest left mid left' : ℕ) (rows all : List LayoutRow) (row : ShownRow)
     (old between new : List ShownRow) → row.depth ≡ depth → depth ≤ deepest → all ≡ rows ++ row.row ∷ []
     → AreRowsShown depth deepest rows left mid old between
-    → AreRowsShown depth deepest [] mid left' (between ++ row ∷ []) new → AreRowsShown depth deepest all left left' old new
+    → AreRowsShown depth deepest [] mid left' (between ++ row ∷ []) new
+    → AreRowsShown depth deepest all left left' old new
 step_shown depth deepest left mid left' rows all row old between new same deep are first second =
     rw are (more_shown depth deepest left mid left' rows (row.row ∷ []) old between new first
     (more_shown depth deepest mid mid left' (row.row ∷ []) [] between (between ++ row ∷ []) new

@@ -260,12 +260,14 @@ ends view signs text (Some x) lacks room is = (λ yes. ended signs text (view x)
 ends view signs text None lacks room is = (
   λ no. cc,
   λ m.
-      let some : behind_signs signs (drop (length text - length signs) text) ≡ Some [] = (end_of signs text lacks m).1 in
+      let some : behind_signs signs (drop (length text - length signs) text)
+      ≡ Some [] = (end_of signs text lacks m).1 in
       cc,
 )
 
 -- the same with a further part of the pattern before it
-pub found_on : {A : Type 0} (pattern signs others text rest : List ℕ) → A ↔ Means (42 ∷ pattern) text → LacksByte 42 signs
+pub found_on : {A : Type 0} (pattern signs others text rest : List ℕ) → A ↔ Means (42 ∷ pattern) text
+    → LacksByte 42 signs
     → pattern ≡ signs ++ 42 ∷ others → (place : ℕ) × IsFirst signs text rest place → A ↔ Means (42 ∷ others) rest
 found_on pattern signs others text rest same lacks is first =
     let more = first_found signs others text rest first.0 lacks first.1 in

@@ -9,7 +9,8 @@ use Rattle.pdb_output.specs.Output.{OutputState}
 use Rattle.pdbdump_rows.specs.declared.form.Form.{Form}
 use Rattle.pdb_tpi.specs.Table.{Table, table_of}
 use Rattle.pdb_types.specs.Definition.{whole_table}
-use Rattle.pdbdump_layouts.specs.Shown.{Accounts, AreLayoutsShown, AreNamesMeant, AreTypesShown, IsNameMeant, IsShowResult}
+use Rattle.pdbdump_layouts.specs.Shown.{Accounts, AreLayoutsShown, AreNamesMeant, AreTypesShown, IsNameMeant}
+use Rattle.pdbdump_layouts.specs.Shown.{IsShowResult}
 use Rattle.pdbdump_layouts.specs.Shown.{IsMessageTold, IsTypeShown, IsTextWritten, ShowState, TellsMessages}
 use Rattle.pdbdump_layouts.specs.declared.options.Options.{Options}
 
@@ -23,7 +24,8 @@ table_refused stream names options form out err e (inl is) =
 table_refused stream names options form out err e (inr memory) = IsShowResult.stopped e (inr memory)
 
 pub walk_refused : (stream : List ℕ) (names : List (List ℕ)) (options : Options) (form : Form) (out err : OutputState)
-    (table : Table) (e : Error) → table_of stream ≡ Ok table → (whole_table table ≡ Err (refusal_of e)) ⊎ (e ≡ OutOfMemory)
+    (table : Table) (e : Error) → table_of stream ≡ Ok table
+    → (whole_table table ≡ Err (refusal_of e)) ⊎ (e ≡ OutOfMemory)
     → IsShowResult stream names options form out out err err (Err e)
 walk_refused stream names options form out err table e read (inl is) =
     IsShowResult.refused e (ap (λ (a : Answer Table). a >>= whole_table) read ∙ is) refl refl

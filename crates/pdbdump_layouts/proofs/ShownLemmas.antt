@@ -21,9 +21,12 @@ use Rattle.pdb_types.specs.Definition.{all_definitions}
 use Rattle.pdb_base.specs.Refusal.{refusal_of}
 use Rattle.pdbdump_layouts.specs.Classes.{AreClasses, class_layout}
 use Rattle.pdbdump_layouts.specs.Pattern.{is_sign}
-use Rattle.pdbdump_layouts.specs.Shown.{Accounts, AreLayoutsShown, AreNamesMeant, AreTypesNamed, AreTypesShown, HasLayout}
-use Rattle.pdbdump_layouts.specs.Shown.{IsNameMeant, IsStopped, IsMessageTold, IsTypeShown, IsTextWritten, ShowState, TellsMessages, by_name}
-use Rattle.pdbdump_layouts.specs.Shown.{by_pattern, is_wanted, member, no_class, nothing, one, refused, layout_separator, types}
+use Rattle.pdbdump_layouts.specs.Shown.{Accounts, AreLayoutsShown, AreNamesMeant, AreTypesNamed, AreTypesShown}
+use Rattle.pdbdump_layouts.specs.Shown.{HasLayout}
+use Rattle.pdbdump_layouts.specs.Shown.{IsNameMeant, IsStopped, IsMessageTold, IsTypeShown, IsTextWritten, ShowState}
+use Rattle.pdbdump_layouts.specs.Shown.{TellsMessages, by_name}
+use Rattle.pdbdump_layouts.specs.Shown.{by_pattern, is_wanted, member, no_class, nothing, one, refused}
+use Rattle.pdbdump_layouts.specs.Shown.{layout_separator, types}
 use Rattle.pdbdump_layouts.specs.Shown.{unwanted, unwritten, written}
 use Rattle.pdbdump_layouts.specs.declared.options.Options.{Options}
 use Rattle.pdbdump_layouts.specs.declared.show.Progress.{Progress}

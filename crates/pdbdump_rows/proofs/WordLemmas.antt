@@ -1,5 +1,6 @@
 -- Words of flags, one after another.
-use Rattle.std.proofs.Common.{◌≡◌, ℕ, ◌+◌, ◌<◌, Bool, true, false, cond, codes, List, [], ◌∷◌, ◌++◌, length, take, map, get_or}
+use Rattle.std.proofs.Common.{◌≡◌, ℕ, ◌+◌, ◌<◌, Bool, true, false, cond, codes, List, [], ◌∷◌, ◌++◌, length, take, map}
+use Rattle.std.proofs.Common.{get_or}
 use Rattle.std.proofs.Common.{zero, suc, refl, sym, ap, ◌∙◌, arith, append_assoc, Bor}
 use Rattle.std.proofs.lemmas.Bool.{false≢true}
 use Rattle.std.proofs.lemmas.List.{append-nil, map-append, take_more}
@@ -50,7 +51,8 @@ words_more : (text : List ℕ → List ℕ) (flags : List Flag) (i : ℕ) (d : F
     ++ (before (codes ",") (words_beside_true (map told (take i flags))) ++ text (get_or flags i d).1.now))
     × (is_none (words_beside_true (map told (take (i + 1) flags))) ≡ false)
 words_more text flags i d within is_set =
-    let more : words_beside_true (map told (take (i + 1) flags)) ≡ words_beside_true (map told (take i flags)) ++ (get_or flags i d).1.now ∷ [] =
+    let more : words_beside_true (map told (take (i + 1) flags))
+    ≡ words_beside_true (map told (take i flags)) ++ (get_or flags i d).1.now ∷ [] =
     chosen_more flags i d within ∙ ap (λ (set : Bool). words_beside_true (map told (take i flags))
     ++ cond set ((get_or flags i d).1.now ∷ []) []) is_set in (
       ap (separate (codes ",") text) more
@@ -91,7 +93,8 @@ word_added text flags i d first next start old new within is_set none so_far is 
       is ∙ sym more.1,
       add ∙ ap (λ (b : Bool). old ++ (cond b [] (codes ",") ++ word)) none
           ∙ ap (λ (front : List ℕ). front ++ (before (codes ",") (words_to flags i) ++ word)) so_far
-          ∙ append_assoc start (separate (codes ",") text (words_to flags i)) (before (codes ",") (words_to flags i) ++ word)
+          ∙ append_assoc start (separate (codes ",") text (words_to flags i))
+          (before (codes ",") (words_to flags i) ++ word)
           ∙ ap (λ (all : List ℕ). start ++ all) (sym more.0),
     )
 

@@ -44,7 +44,13 @@ field_bytes line field = if line.is_full then field_line field else between line
 -- a line with one field more; a field that its form does not show changes nothing
 unfoldable pub add_field : LineState → ShownField → LineState
 add_field line field = if is_shown line.form field
-    then record { form = line.form; is_full = line.is_full; bytes = line.bytes ++ field_bytes line field; is_empty = false }
+    then record {
+      form = line.form;
+      is_full = line.is_full;
+      bytes = line.bytes
+          ++ field_bytes line field;
+      is_empty = false;
+    }
     else line
 
 -- a line with more fields, one after another
@@ -80,7 +86,8 @@ pub record IsLineEnded (old : LineState) (added : Result (Unit {0}) Error) (new 
     (result : Result (Unit {0}) Error) : Type 0 where
   pub row : (form : Form) (start : LineState) (row : ShownRow) → ShowsFields row start old added → start ≡ begun form
       → EndsLine (row_text form row) new result
-  pub full : (form : Form) (start : LineState) (row : ShownRow) → ShowsFields row start old added → start ≡ begun_full form
+  pub full : (form : Form) (start : LineState) (row : ShownRow) → ShowsFields row start old added → start
+      ≡ begun_full form
       → EndsLine (full_text form row) new result
 
 -- The line of the fields that were added was written, whichever they are; or it was cut short.

@@ -1,9 +1,12 @@
 //! Ids, field by field.
 
 ghost use Rattle.std.specs.Prelude.{◌≡◌};
-ghost use Rattle.pdb_values.specs.IdValue.{build_arguments, function_value, id_value, member_function_value, string_value, text_parts};
+ghost use Rattle.pdb_values.specs.IdValue.{build_arguments, function_value, id_value, member_function_value};
+ghost use Rattle.pdb_values.specs.IdValue.{string_value, text_parts};
 ghost use Rattle.pdbdump_rows.specs.Line.{ShowsFields};
-ghost use Rattle.pdbdump_rows.specs.IdRows.{build_info_fields, function_fields, id_fields, id_row, member_function_fields, source_fields, source_file, source_module, string_fields, string_list_fields};
+ghost use Rattle.pdbdump_rows.specs.IdRows.{build_info_fields, function_fields, id_fields, id_row};
+ghost use Rattle.pdbdump_rows.specs.IdRows.{member_function_fields, source_fields, source_file, source_module};
+ghost use Rattle.pdbdump_rows.specs.IdRows.{string_fields, string_list_fields};
 ghost use Rattle.pdbdump_rows.specs.Row.{value_shown};
 
 use crate::line::Line;

@@ -1,7 +1,8 @@
 //! A line that is written field by field.
 
 ghost use Rattle.std.specs.Prelude.{◌≡◌, ◌∷◌, []};
-ghost use Rattle.pdbdump_rows.specs.Line.{EndsLine, IsLineAppended, IsLineEnded, IsLineWritten, ShowsFields, begun, begun_full, line_bytes};
+ghost use Rattle.pdbdump_rows.specs.Line.{EndsLine, IsLineAppended, IsLineEnded, IsLineWritten, ShowsFields, begun};
+ghost use Rattle.pdbdump_rows.specs.Line.{begun_full, line_bytes};
 ghost use Rattle.pdbdump_rows.specs.Row.{value_shown};
 
 use crate::form::Form;

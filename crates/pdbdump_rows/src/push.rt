@@ -3,7 +3,8 @@
 ghost use Rattle.std.specs.Prelude.{◌≡◌, ◌++◌, if◌then◌else◌, [], codes, map, not, OnOk};
 ghost use Rattle.pdb_base.specs.Memory.{FailsOnlyForMemory};
 ghost use Rattle.pdbdump_rows.specs.Line.{ending, line_opening};
-ghost use Rattle.pdbdump_rows.specs.Lines.{field_line, field_text, index_text, is_leading, is_none, is_shown_value, shown_leaf_text, list_text, separator, value_text};
+ghost use Rattle.pdbdump_rows.specs.Lines.{field_line, field_text, index_text, is_leading, is_none, is_shown_value};
+ghost use Rattle.pdbdump_rows.specs.Lines.{shown_leaf_text, list_text, separator, value_text};
 ghost use Rattle.pdbdump_rows.specs.Row.{value_shown};
 ghost use Rattle.pdbdump_rows.specs.Text.{in_quotes};
 ghost use Rattle.pdbdump_rows.specs.Words.{words_beside_true};
@@ -69,7 +70,8 @@ fn push_word(form: Form, is_first: bool, word: &str, out: &mut Vec<u8>) -> Resul
 #[tactic(auto, unfolding(crate::specs::Lines::list_text))]
 fn push_words(form: Form, flags: &[Flag], out: &mut Vec<u8>) -> Result<()>
     ensures ok { OnOk result (out.new.items
-        ≡ out.old.items ++ list_text (in_quotes form) (words_beside_true (map (λ flag. (flag.0, flag.1.now)) flags.now))) }
+        ≡ out.old.items ++ list_text (in_quotes form) (words_beside_true
+        (map (λ flag. (flag.0, flag.1.now)) flags.now))) }
     ensures memory { FailsOnlyForMemory result }
 {
     out.push(b'[')?;

@@ -3,7 +3,8 @@
 ghost use Rattle.std.specs.Prelude.{◌≡◌, ◌<◌, ◌↔◌, ◌++◌, IsTrue, OnOk};
 ghost use Rattle.std.specs.List.{list_all};
 ghost use Rattle.pdb_base.specs.Memory.{FailsOnlyForMemory};
-ghost use Rattle.pdbdump_rows.specs.Text.{escape, is_escaped, is_plain, short_escape, in_quotes, shown_char, shown_text};
+ghost use Rattle.pdbdump_rows.specs.Text.{escape, is_escaped, is_plain, short_escape, in_quotes, shown_char};
+ghost use Rattle.pdbdump_rows.specs.Text.{shown_text};
 
 use crate::form::Form;
 use crate::number::four_digits;

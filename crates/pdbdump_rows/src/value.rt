@@ -3,7 +3,8 @@
 ghost use Rattle.std.specs.Prelude.{◌≡◌};
 ghost use Rattle.std.specs.Option.{option_map};
 ghost use Rattle.pdb_values.specs.Text.{text_bytes};
-ghost use Rattle.pdbdump_rows.specs.Fields.{nonzero, optional_hexadecimal, optional_id, optional_number, optional_text, optional_type, type_index};
+ghost use Rattle.pdbdump_rows.specs.Fields.{nonzero, optional_hexadecimal, optional_id, optional_number, optional_text};
+ghost use Rattle.pdbdump_rows.specs.Fields.{optional_type, type_index};
 ghost use Rattle.pdbdump_rows.specs.Row.{value_shown};
 
 use pdb_base::{IdIndex, RawString, TypeIndex};

@@ -77,7 +77,8 @@ more_here {X} seen line old new x out mid out' so step appends =
     record {
       same = step.stays;
       least = omega arith;
-      lines = subst (λ (n : ℕ). Gets out out' (item_lines line table n)) counted (subst (Gets out out') (sym all) whole);
+      lines = subst (λ (n : ℕ). Gets out out' (item_lines line table n)) counted
+          (subst (Gets out out') (sym all) whole);
     }
 
 pub so_far_more : {X : Type 0} (seen : X → ℕ × List ℕ) (line : Line) (table : Table) (old new : WalkPosition) (x : X)

@@ -22,7 +22,8 @@ use Rattle.pdb_frames.specs.declared.frame_data.FrameData.{FrameData}
 use Rattle.pdbdump_rows.specs.declared.form.Form.{Form}
 use Rattle.pdbdump_rows.specs.Lines.{row_text}
 use Rattle.pdbdump_rows.specs.TableRows.{section_row, omap_row, frame_row}
-use Rattle.pdbdump_tables.specs.Tables.{section_lines, omap_lines, frame_lines, omap_rises, offset_name_lines, name_shown, names_from}
+use Rattle.pdbdump_tables.specs.Tables.{section_lines, omap_lines, frame_lines, omap_rises, offset_name_lines}
+use Rattle.pdbdump_tables.specs.Tables.{name_shown, names_from}
 use Rattle.pdbdump_tables.specs.Tables.{next_place}
 
 -- the line of a first record stands before those of the others
@@ -60,7 +61,8 @@ given_first {A} (y ∷ ys) rest x first others =
 -- a header that is read is the first
 pub read_first : (bytes : List ℕ) (header : ImageSectionHeader) (rest : List ℕ) → 40 ≤ length bytes
     → section_header_at bytes ≡ Ok (header, rest)
-    → (values_of_size 40 section_header bytes ≡ header ∷ values_of_size 40 section_header rest) × (length rest ≡ length bytes - 40)
+    → (values_of_size 40 section_header bytes ≡ header ∷ values_of_size 40 section_header rest)
+    × (length rest ≡ length bytes - 40)
 read_first bytes header rest long read = header_step [] bytes header rest long read
 
 -- bytes of less than a header have no line
@@ -90,7 +92,8 @@ omap_rises-from_sorted highest [] sorted first = refl
 omap_rises-from_sorted highest (mapping ∷ []) sorted first =
     and_from (leb highest mapping.source) true (le-leb highest mapping.source first) refl
 omap_rises-from_sorted highest (mapping ∷ next ∷ records) sorted first =
-    and_from (leb highest mapping.source) (omap_rises mapping.source (next ∷ records)) (le-leb highest mapping.source first)
+    and_from (leb highest mapping.source) (omap_rises mapping.source (next ∷ records))
+    (le-leb highest mapping.source first)
     (omap_rises-from_sorted mapping.source (next ∷ records) (sorted-rest mapping (next ∷ records) sorted)
     (sorted 0 1 mapping (omega arith) (omega arith)))
 

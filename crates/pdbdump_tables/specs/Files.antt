@@ -41,7 +41,8 @@ numbered_omap form file head n = listed_of (omap_listing form) (stream_of file h
 -- the OMAP records of the stream with a role, behind a line with that role; an empty listing if there is
 -- none
 unfoldable pub role_omap : Form → List ℕ → Head → List ℕ → Option ℕ → Listing
-role_omap form file head role (Some n) = with_lines_before (row_text form (role_shown role n)) (numbered_omap form file head n)
+role_omap form file head role (Some n) =
+    with_lines_before (row_text form (role_shown role n)) (numbered_omap form file head n)
 role_omap form file head role None = whole []
 
 -- The OMAP records that move addresses of the image as it is loaded to those of the original image, and

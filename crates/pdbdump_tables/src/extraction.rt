@@ -3,7 +3,8 @@
 ghost use Rattle.std.specs.Prelude.{◌≡◌, drop, take};
 ghost use Rattle.pdb_msf.specs.File.{ReadsFile};
 ghost use Rattle.pdbdump_tables.specs.Listing.{IsListed};
-ghost use Rattle.pdbdump_tables.specs.Extracted.{address_role, extraction, fixed_stream, stream_of_role, listed_role_of, part_of, role_number, section_role, stream_meant};
+ghost use Rattle.pdbdump_tables.specs.Extracted.{address_role, extraction, fixed_stream, stream_of_role};
+ghost use Rattle.pdbdump_tables.specs.Extracted.{listed_role_of, part_of, role_number, section_role, stream_meant};
 ghost use Rattle.pdb_file.specs.File.{file_number};
 
 use pdb_base::{Error, Result, StreamIndex};

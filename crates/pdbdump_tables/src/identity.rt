@@ -9,7 +9,10 @@ ghost use Rattle.pdbdump_rows.specs.Line.{ShowsFields};
 ghost use Rattle.pdbdump_rows.specs.Row.{value_shown};
 ghost use Rattle.pdbdump_rows.specs.Words.{words_beside_true};
 ghost use Rattle.pdb_identity.specs.Header.{cpu_of};
-ghost use Rattle.pdbdump_tables.specs.Identity.{IsKey, age_source, feature_words, guid_line, identity_line, identity_shown, key_line, lower_key_of, module_line, module_text, optional_features, optional_flag, optional_machine, store_path, upper_key_of};
+ghost use Rattle.pdbdump_tables.specs.Identity.{IsKey, age_source, feature_words, guid_line, identity_line};
+ghost use Rattle.pdbdump_tables.specs.Identity.{identity_shown, key_line, lower_key_of, module_line, module_text};
+ghost use Rattle.pdbdump_tables.specs.Identity.{optional_features, optional_flag, optional_machine, store_path};
+ghost use Rattle.pdbdump_tables.specs.Identity.{upper_key_of};
 
 use pdb_base::{RawString, Result};
 use pdb_file::Features;

@@ -1,4 +1,5 @@
-//! What `pdbdump` lists of a program database: its tables, a line for each record or one record in full, what an address
+//! What `pdbdump` lists of a program database: its tables, a line for each record or one record in full, what an
+//! address
 //! map makes of an address, which file it is, and a summary of its parts.
 #![tactic(auto)]
 

@@ -10,7 +10,8 @@ ghost use Rattle.pdbdump_rows.specs.Line.{ShowsFields};
 ghost use Rattle.pdbdump_rows.specs.Row.{value_shown};
 ghost use Rattle.pdb_output.specs.Output.{Writes};
 ghost use Rattle.pdbdump_tables.specs.Known.{known_view};
-ghost use Rattle.pdbdump_tables.specs.Streams.{nameable, pages_held, size_line, stream_line, stream_lines, stream_shown};
+ghost use Rattle.pdbdump_tables.specs.Streams.{nameable, pages_held, size_line, stream_line, stream_lines};
+ghost use Rattle.pdbdump_tables.specs.Streams.{stream_shown};
 
 use crate::parts::{Part, write_refused};
 use crate::roles::{name_of, role_of};

@@ -10,7 +10,9 @@ ghost use Rattle.pdb_output.specs.Output.{Writes, done_of};
 ghost use Rattle.pdbdump_tables.specs.Known.{known_view};
 ghost use Rattle.pdbdump_tables.specs.Refused.{refused_line};
 ghost use Rattle.pdbdump_tables.specs.Streams.{stream_lines};
-ghost use Rattle.pdbdump_tables.specs.Summary.{counted_layout, named_part, streams_with_names, no_roles, pages_line, pages_of, pages_shown, parts_lines, said_or, streams_part, summary_listing, tables_part, refusal_line};
+ghost use Rattle.pdbdump_tables.specs.Summary.{counted_layout, named_part, streams_with_names, no_roles, pages_line};
+ghost use Rattle.pdbdump_tables.specs.Summary.{pages_of, pages_shown, parts_lines, said_or, streams_part};
+ghost use Rattle.pdbdump_tables.specs.Summary.{summary_listing, tables_part, refusal_line};
 ghost use Rattle.pdbdump_tables.specs.declared.parts.Part.TheVariants as parts;
 ghost use Rattle.pdbdump_tables.specs.Listing.{IsListed};
 

@@ -7,7 +7,8 @@ ghost use Rattle.pdb_base.specs.Refusal.{refusal_of};
 ghost use Rattle.pdbdump_rows.specs.Line.{ShowsFields};
 ghost use Rattle.pdbdump_rows.specs.Lines.{row_text};
 ghost use Rattle.pdb_output.specs.Output.{Writes};
-ghost use Rattle.pdbdump_tables.specs.Kinds.{kind_lines, kind_shown, stop_line, table_found, table_lines, table_part, table_shown};
+ghost use Rattle.pdbdump_tables.specs.Kinds.{kind_lines, kind_shown, stop_line, table_found, table_lines, table_part};
+ghost use Rattle.pdbdump_tables.specs.Kinds.{table_shown};
 
 use crate::kinds::{KindCount, Walked, walk_over};
 use crate::parts::{Part, write_refused};

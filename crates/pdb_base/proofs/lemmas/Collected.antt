@@ -33,12 +33,14 @@ bind_err : {A B : Type 0} (r : Answer A) (f : A → B) (e : Refusal) → (r >>= 
 bind_err (Ok x) f e h = absurd cc
 bind_err (Err d) f e h = cc
 
-pub values_of_all-append_ok : {A : Type 0} (answers more : List (Answer A)) (xs ys : List A) → values_of_all answers ≡ Ok xs
+pub values_of_all-append_ok : {A : Type 0} (answers more : List (Answer A)) (xs ys : List A) → values_of_all answers
+    ≡ Ok xs
     → values_of_all more ≡ Ok ys → values_of_all (answers ++ more) ≡ Ok (xs ++ ys)
 values_of_all-append_ok {A} [] more xs ys e f = f ∙ ap (λ (zs : List A). Ok (zs ++ ys)) (ok_is [] xs e)
 values_of_all-append_ok {A} (Ok x ∷ answers) more xs ys e f =
     let b = bind_ok (values_of_all answers) (λ zs. Ok (x ∷ zs)) xs e in
-    rw (values_of_all-append_ok answers more b.0 ys b.1 f) (ap (λ (zs : List A). Ok (zs ++ ys)) (ok_is (x ∷ b.0) xs b.2))
+    rw (values_of_all-append_ok answers more b.0 ys b.1 f)
+    (ap (λ (zs : List A). Ok (zs ++ ys)) (ok_is (x ∷ b.0) xs b.2))
 values_of_all-append_ok {A} (Err d ∷ answers) more xs ys e f = absurd cc
 
 pub values_of_all-append_err : {A : Type 0} (answers more : List (Answer A)) (xs : List A) (r : Refusal)
@@ -72,7 +74,8 @@ collects_all {A} answers = (
 )
 
 -- the first that refuses is found
-first_refusal : {A : Type 0} (answers : List (Answer A)) (e : Refusal) → values_of_all answers ≡ Err e → (before : List A)
+first_refusal : {A : Type 0} (answers : List (Answer A)) (e : Refusal) → values_of_all answers ≡ Err e
+    → (before : List A)
     × (behind : List (Answer A)) × (answers ≡ map ok before ++ err e ∷ behind)
 first_refusal [] e h = absurd cc
 first_refusal {A} (Ok x ∷ answers) e h =
@@ -114,7 +117,8 @@ collected_more f i xs x so_far here =
 
 -- the first of them that refuses is the refusal of all
 pub collected_stops : {A : Type 0} (f : ℕ → Answer A) (i count : ℕ) (xs : List A) (r : Refusal) → i < count
-    → values_of_all (map f (range_with_len 0 i)) ≡ Ok xs → f i ≡ Err r → values_of_all (map f (range_with_len 0 count)) ≡ Err r
+    → values_of_all (map f (range_with_len 0 i)) ≡ Ok xs → f i ≡ Err r → values_of_all (map f (range_with_len 0 count))
+    ≡ Err r
 collected_stops f i count xs r within so_far here =
     let all : count ≡ i + suc (count - i - 1) = omega arith in
     ap (λ (n : ℕ). values_of_all (map f (range_with_len 0 n))) all

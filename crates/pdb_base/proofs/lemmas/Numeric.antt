@@ -10,7 +10,8 @@ use Rattle.pdb_base.specs.Refusal.{Refusal, unexpected_eof, unexpected_numeric_p
 use Rattle.pdb_base.specs.Answer.{Answer, ◌>>=◌}
 use Rattle.pdb_base.specs.Reading.{number_at}
 use Rattle.pdb_base.specs.Numeric.{NumberKind, u16, Numeral, least_leaf, numeric_leaves, unsigned_leaves, kind_behind}
-use Rattle.pdb_base.specs.Numeric.{number_width, variant_of, number_of_kind, numeral_behind, numeral_at, num_at, variant_at}
+use Rattle.pdb_base.specs.Numeric.{number_width, variant_of, number_of_kind, numeral_behind, numeral_at, num_at}
+use Rattle.pdb_base.specs.Numeric.{variant_at}
 use Rattle.pdb_base.specs.Spelling.{SpellsNumber, SpellsItself, SpellsPrefixed, SpellsNumeral, SpellsNum, SpellsVariant}
 use Rattle.pdb_base.specs.Spelling.{Begins, ReadsWhatIsSpelled}
 use Rattle.pdb_base.specs.Laws.{BeginsBadly, RefusesPrefixFirst}
@@ -214,7 +215,8 @@ short_kind : (prefix : ℕ) (found : Option NumberKind) (bytes : List ℕ) (e : 
     → number_of_kind prefix found bytes ≡ Err e → (found ≡ None) ⊎ (e ≡ unexpected_eof)
 short_kind prefix None bytes e refused = inl refl
 short_kind prefix (Some kind) bytes e refused =
-    elim (bind_err (number_at (number_width kind) bytes) (λ n. Ok (record { kind = kind; number = n.0 }, n.1)) e refused) [
+    elim (bind_err (number_at (number_width kind) bytes)
+    (λ n. Ok (record { kind = kind; number = n.0 }, n.1)) e refused) [
       | inl cut ↦ inr (short (number_width kind) bytes e cut)
       | inr read ↦ absurd (ok_is_no_err (record { kind = kind; number = read.0.0 }, read.0.1) e read.2)
     ]

@@ -5,7 +5,8 @@ ghost use Rattle.pdb_base.specs.Place.{left};
 ghost use Rattle.pdb_records.specs.Row.{row};
 ghost use Rattle.pdb_values.specs.TypeView.{type_value};
 ghost use Rattle.pdb_records.specs.Records.{plain_at};
-ghost use Rattle.pdb_records.specs.Rows.{procedure_row, member_function_row, overloaded_method_row, method_row, listed_method_row};
+ghost use Rattle.pdb_records.specs.Rows.{procedure_row, member_function_row, overloaded_method_row, method_row};
+ghost use Rattle.pdb_records.specs.Rows.{listed_method_row};
 
 use crate::parse::shape::{parse_some_type, parse_text, parse_type_index};
 use pdb_base::{ParseBuffer, Result};

@@ -5,7 +5,8 @@ ghost use Rattle.pdb_base.specs.Answer.{Gives};
 ghost use Rattle.pdb_base.specs.Place.{left};
 ghost use Rattle.pdb_values.specs.IdValue.{id_value};
 ghost use Rattle.pdb_records.specs.Ids.{id_row_of, plain_id_at, plain_id_leaf};
-ghost use Rattle.pdb_records.specs.IdRows.{function_id_row, member_function_id_row, string_id_row, source_row, remote_source_row};
+ghost use Rattle.pdb_records.specs.IdRows.{function_id_row, member_function_id_row, string_id_row, source_row};
+ghost use Rattle.pdb_records.specs.IdRows.{remote_source_row};
 
 use crate::parse::shape::{parse_id_index, parse_some_id, parse_text, parse_type_index};
 use pdb_base::{ParseBuffer, Result};

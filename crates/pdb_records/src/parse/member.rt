@@ -4,7 +4,8 @@ ghost use Rattle.pdb_base.specs.Answer.{Gives};
 ghost use Rattle.pdb_base.specs.Place.{left};
 ghost use Rattle.pdb_values.specs.TypeView.{type_value};
 ghost use Rattle.pdb_records.specs.Records.{plain_at};
-ghost use Rattle.pdb_records.specs.Rows.{member_row, static_member_row, nested_row, base_row, virtual_base_row, table_pointer_row};
+ghost use Rattle.pdb_records.specs.Rows.{member_row, static_member_row, nested_row, base_row, virtual_base_row};
+ghost use Rattle.pdb_records.specs.Rows.{table_pointer_row};
 
 use crate::parse::shape::{low_32_bits, parse_text, parse_type_index};
 use pdb_base::{ParseBuffer, Result};

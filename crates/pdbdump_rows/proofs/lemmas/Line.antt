@@ -1,5 +1,6 @@
 -- A line that is written field by field is the one line of its fields.
-use Rattle.std.proofs.Common.{◌≡◌, ℕ, Bool, true, false, List, [], ◌∷◌, ◌++◌, codes, refl, ap, sym, subst, Result, ◌∙◌, ⊎_elim, append_assoc}
+use Rattle.std.proofs.Common.{◌≡◌, ℕ, Bool, true, false, List, [], ◌∷◌, ◌++◌, codes, refl, ap, sym, subst, Result, ◌∙◌}
+use Rattle.std.proofs.Common.{⊎_elim, append_assoc}
 use Rattle.std.specs.List.{filter, flat_map}
 use Rattle.std.proofs.lemmas.Bool.{cond-true, cond-false, cases_Bool}
 use Rattle.std.proofs.lemmas.List.{append-nil}
@@ -7,9 +8,11 @@ use Rattle.pdb_base.specs.declared.error.Error.{Error}
 use Rattle.pdb_output.specs.Output.{OutputState, Writes}
 use Rattle.pdbdump_rows.specs.declared.form.Form.{Form}
 use Rattle.pdbdump_rows.specs.declared.form.Form.TheVariants.{Text, Json}
-use Rattle.pdbdump_rows.specs.Line.{Adds, EndsLine, IsLineAppended, IsLineEnded, IsLineWritten, LineState, ShowsFields, all_shown, begun}
+use Rattle.pdbdump_rows.specs.Line.{Adds, EndsLine, IsLineAppended, IsLineEnded, IsLineWritten, LineState, ShowsFields}
+use Rattle.pdbdump_rows.specs.Line.{all_shown, begun}
 use Rattle.pdbdump_rows.specs.Line.{begun_full, line_bytes, ending, line_opening, add_field}
-use Rattle.pdbdump_rows.specs.Lines.{field_line, field_text, fields_text, full_text, is_shown, row_text, separate, separator}
+use Rattle.pdbdump_rows.specs.Lines.{field_line, field_text, fields_text, full_text, is_shown, row_text, separate}
+use Rattle.pdbdump_rows.specs.Lines.{separator}
 use Rattle.pdbdump_rows.specs.Row.{ShownField, ShownRow}
 
 -- a line that shows a field
@@ -88,7 +91,8 @@ whole form row = line_opening form ++ separate (separator form) (field_text form
 all_begun : (form : Form) (row : ShownRow)
     → line_bytes (all_shown (begun form) row) ≡ whole form (filter (is_shown form) row)
 unfolding whole
-all_begun form [] = ended_begun form ∙ ap (λ (front : List ℕ). front ++ ending form) (sym (append-nil (line_opening form)))
+all_begun form [] =
+    ended_begun form ∙ ap (λ (front : List ℕ). front ++ ending form) (sym (append-nil (line_opening form)))
 all_begun form (field ∷ row) = ⊎_elim
     (λ (holds : is_shown form field ≡ true).
     ap (λ (line : LineState). line_bytes (all_shown line row)) (shows_first form field holds)
@@ -135,14 +139,16 @@ full_is Json row = line_is Json row
 
 -- a line with these fields ends as the one line of them
 pub ends_line : (form : Form) (start : LineState) (row : ShownRow) (old new : LineState)
-    (result : Result (Unit {0}) Error) → old ≡ all_shown start row → start ≡ begun form → EndsLine (line_bytes old) new result
+    (result : Result (Unit {0}) Error) → old ≡ all_shown start row → start ≡ begun form
+    → EndsLine (line_bytes old) new result
     → EndsLine (row_text form row) new result
 ends_line form start row old new result is first ends =
     subst (λ (text : List ℕ). EndsLine text new result)
     (ap line_bytes (is ∙ ap (λ (line : LineState). all_shown line row) first) ∙ line_is form row) ends
 
 pub ends_full : (form : Form) (start : LineState) (row : ShownRow) (old new : LineState)
-    (result : Result (Unit {0}) Error) → old ≡ all_shown start row → start ≡ begun_full form → EndsLine (line_bytes old) new result
+    (result : Result (Unit {0}) Error) → old ≡ all_shown start row → start ≡ begun_full form
+    → EndsLine (line_bytes old) new result
     → EndsLine (full_text form row) new result
 ends_full form start row old new result is first ends =
     subst (λ (text : List ℕ). EndsLine text new result)
@@ -161,12 +167,14 @@ pub full_ended : (form : Form) (row : ShownRow) (start old new : LineState) (add
 full_ended form row start old new added result is shows first = is.full form start row shows first
 
 pub row_written : (form : Form) (row : ShownRow) (start line : LineState) (old new : OutputState)
-    (added result : Result (Unit {0}) Error) → IsLineWritten line added old new result → ShowsFields row start line added
+    (added result : Result (Unit {0}) Error) → IsLineWritten line added old new result
+    → ShowsFields row start line added
     → start ≡ begun form → Writes (row_text form row) old new result
 row_written form row start line old new added result is shows first = is.row form start row shows first
 
 pub row_appended : (form : Form) (row : ShownRow) (start line : LineState) (old new : List ℕ)
-    (added result : Result (Unit {0}) Error) → IsLineAppended line added old new result → ShowsFields row start line added
+    (added result : Result (Unit {0}) Error) → IsLineAppended line added old new result
+    → ShowsFields row start line added
     → start ≡ begun form → Adds (row_text form row) old new result
 row_appended form row start line old new added result is shows first = is.row form start row shows first
 

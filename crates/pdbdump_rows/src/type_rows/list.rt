@@ -6,7 +6,8 @@ ghost use Rattle.pdb_values.specs.Method.{listed_methods};
 ghost use Rattle.pdb_values.specs.TableShape.{table_shape_value};
 ghost use Rattle.pdb_values.specs.TypeView.{field_list_value};
 ghost use Rattle.pdbdump_rows.specs.Line.{ShowsFields};
-ghost use Rattle.pdbdump_rows.specs.TypeRows.{argument_list_fields, array_fields, method_list_fields, table_shape_fields, type_fields};
+ghost use Rattle.pdbdump_rows.specs.TypeRows.{argument_list_fields, array_fields, method_list_fields};
+ghost use Rattle.pdbdump_rows.specs.TypeRows.{table_shape_fields, type_fields};
 
 use crate::line::Line;
 use crate::lists::{byte_numbers, method_numbers, type_numbers};

@@ -7,7 +7,8 @@ use Rattle.pdb_file.proofs.section_headers.section_headers.Given as goal
 
 abbrev pub invariant-loop : goal.invariant-loop
 invariant-loop l = record {
-  all : values_of_size 40 section_header l.fn.stream ≡ l.headers.items ++ values_of_size 40 section_header (left l.buffer);
+  all : values_of_size 40 section_header l.fn.stream ≡ l.headers.items
+      ++ values_of_size 40 section_header (left l.buffer);
   rest : length (left l.buffer) ≡ 40 * (l.count - l.counter);
   counted : vec_len l.headers ≡ l.counter;
   room : l.count ≤ vec_capacity l.headers;

@@ -10,7 +10,8 @@ use Rattle.pdb_frames.proofs.search.search.Goals as goal
 -- the part that begins at the place ahead has been compared
 pub loop-part-preserved : goal.loop-part-preserved
 loop-part-preserved g c =
-    let starts = start_at g.R.AddrRange.span (values_of_size g.R.FrameRecord.SIZE g.R.FrameRecord.value c.args.bytes.now) in
+    let starts = start_at g.R.AddrRange.span (values_of_size g.R.FrameRecord.SIZE g.R.FrameRecord.value
+    c.args.bytes.now) in
     let places = length c.args.bytes.now / g.R.FrameRecord.SIZE in
     let step = c.loop-size-2.size / 8 in
     elim c.if-next-address.branch [
@@ -32,7 +33,8 @@ loop-part-preserved g c =
 -- all parts have been compared
 pub loop-size-2-preserved : goal.loop-size-2-preserved
 loop-size-2-preserved g c =
-    let starts = start_at g.R.AddrRange.span (values_of_size g.R.FrameRecord.SIZE g.R.FrameRecord.value c.args.bytes.now) in
+    let starts = start_at g.R.AddrRange.span (values_of_size g.R.FrameRecord.SIZE g.R.FrameRecord.value
+    c.args.bytes.now) in
     let places = length c.args.bytes.now / g.R.FrameRecord.SIZE in
     let all : c.loop-part.part ≡ 8 = omega (arith, c.loop-part-test.false, c.loop-part.auto.part-end) in
     record {
@@ -45,7 +47,8 @@ loop-size-2-preserved g c =
 -- the record in the middle has been compared
 pub loop-size-3-preserved : goal.loop-size-3-preserved
 loop-size-3-preserved g c =
-    let starts = start_at g.R.AddrRange.span (values_of_size g.R.FrameRecord.SIZE g.R.FrameRecord.value c.args.bytes.now) in
+    let starts = start_at g.R.AddrRange.span (values_of_size g.R.FrameRecord.SIZE g.R.FrameRecord.value
+    c.args.bytes.now) in
     let places = length c.args.bytes.now / g.R.FrameRecord.SIZE in
     let place = c.loop-size-3.place in
     let size = c.loop-size-3.size in

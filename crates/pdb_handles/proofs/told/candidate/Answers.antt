@@ -6,9 +6,11 @@ use Rattle.std.proofs.lemmas.Option.{slice_get_past}
 use Rattle.pdb_handles.proofs.told.candidate.Goals as goal
 
 pub returns-in-2 : goal.returns-in-2
-returns-in-2 c = ap (λ (s : ℕ). candidate (record { status = s; first = c.args.first; second = c.args.second })) (sym c.in-2.is)
+returns-in-2 c = ap (λ (s : ℕ). candidate (record { status = s; first = c.args.first; second = c.args.second }))
+    (sym c.in-2.is)
 
 pub returns-then-status-gt28 : goal.returns-then-status-gt28
 returns-then-status-gt28 c =
-    sym (ap (λ (telling : Option RefusalByNumbers). option_map_or (λ tells. tells c.args.first c.args.second) telling None)
+    sym (ap (λ (telling : Option RefusalByNumbers). option_map_or
+    (λ tells. tells c.args.first c.args.second) telling None)
     (slice_get_past tellings c.args.status (omega (arith, c.if-status-gt28.true))))

@@ -21,5 +21,6 @@ pub returns-in-FieldList : goal.returns-in-FieldList
 returns-in-FieldList c =
     let list = c.in-FieldList.list in
     ap (λ (value : TypeValue). as_field_list c.args.kind value) (ap type_value c.in-FieldList.is ∙ list_seen list)
-    ∙ ap (λ (fields : List TypeValue). ok {A = ContinuedList} (record { fields = fields; continuation = list.continuation }))
+    ∙ ap (λ (fields : List TypeValue). ok {A = ContinuedList}
+    (record { fields = fields; continuation = list.continuation }))
     (fields.listed (map type_value list.fields.items))

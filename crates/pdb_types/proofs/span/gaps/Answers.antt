@@ -11,4 +11,5 @@ sorted_gaps-requires c = IsNonDecreasingBy-from_sort_by_key
 
 pub returns-clause-gaps : goal.returns-clause-gaps
 returns-clause-gaps c =
-    IfOk-weaker _ _ _ (λ gaps are. gaps_moved _ _ _ _ c.sort_unstable_by_key.ensures.permutation are) c.sorted_gaps.ensures.gaps
+    IfOk-weaker _ _ _ (λ gaps are. gaps_moved _ _ _ _ c.sort_unstable_by_key.ensures.permutation are)
+    c.sorted_gaps.ensures.gaps

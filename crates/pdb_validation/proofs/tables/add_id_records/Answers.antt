@@ -1,5 +1,6 @@
 use Rattle.std.proofs.Common.{refl}
-use Rattle.pdb_validation.proofs.WalkLemmas.{checking_ended, checking_enough, checking_more, checking_none, checking_stopped}
+use Rattle.pdb_validation.proofs.WalkLemmas.{checking_ended, checking_enough, checking_more, checking_none}
+use Rattle.pdb_validation.proofs.WalkLemmas.{checking_stopped}
 use Rattle.pdb_validation.proofs.tables.add_id_records.Goals as goal
 
 pub loop-item-init : goal.loop-item-init

@@ -8,7 +8,8 @@ use Rattle.pdb_validation.proofs.WalkLemmas.{IsChecking}
 use Rattle.pdb_validation.proofs.tables.add_type_records.Given as goal
 
 abbrev pub invariant-loop-item : goal.invariant-loop-item
-invariant-loop-item l = IsChecking (item_fault parts.Types 2 l.pages l.types.table) (checked_type l.types.table) l.types.table l.items
+invariant-loop-item l =
+    IsChecking (item_fault parts.Types 2 l.pages l.types.table) (checked_type l.types.table) l.types.table l.items
     l.extent (map finding_view l.initial.findings.items) (map finding_view l.findings.items)
 
 abbrev pub decreases-loop-item : goal.decreases-loop-item

@@ -10,5 +10,6 @@ returns-in-Err g c = refused c.in-Err.fault refl (refused_or_lacking _ _ c.in-Er
 
 pub returns-in-Ok : goal.returns-in-Ok
 returns-in-Ok g c =
-    let lists = λ (file : List ℕ). IsListed (extraction_in file c.in-Ok.file.head (extract_view c.args.asked.now)) c.args.out.now c.extract_opened.new.out c.extract_opened.result in
+    let lists = λ (file : List ℕ). IsListed (extraction_in file c.in-Ok.file.head
+    (extract_view c.args.asked.now)) c.args.out.now c.extract_opened.new.out c.extract_opened.result in
     extracted c.in-Ok.file.head c.in-Ok.ensures.head (subst lists c.in-Ok.ensures.kept.bytes c.extract_opened.ensures)

@@ -5,5 +5,9 @@ use Rattle.pdbdump_cli.proofs.identified.conclude.Goals as goal
 pub returns-in-Ok-false : goal.returns-in-Ok-false
 unfolding unexpected_line
 returns-in-Ok-false g c =
-    let is : c.args.identified ≡ Ok false = (rw (c.in-Ok-false.is, ← c.in-Ok-false.field-0-is, c.in-Ok-false.field-0-test) refl) in
+    let is : c.args.identified ≡ Ok false = (rw (
+      c.in-Ok-false.is,
+      ← c.in-Ok-false.field-0-is,
+      c.in-Ok-false.field-0-test,
+    ) refl) in
     differs c.end-in-Ok-false.new.err c.end-in-Ok-false.result is c.end-in-Ok-false.ensures c.report.ensures refl

@@ -11,7 +11,8 @@ returns-in-Some g c =
 pub returns-in-None : goal.returns-in-None
 returns-in-None g c =
     let format = rw (c.of.ensures, c.deref.ensures.value) at c.in-None.ensures in
-    identified c.in-Ok.file.items c.identify-identified.new.out c.identify-identified.result c.in-Ok.ensures.bytes (sym format) c.identify-identified.ensures c.conclude.ensures
+    identified c.in-Ok.file.items c.identify-identified.new.out c.identify-identified.result c.in-Ok.ensures.bytes
+    (sym format) c.identify-identified.ensures c.conclude.ensures
 
 pub returns-in-Err : goal.returns-in-Err
 returns-in-Err g c = unread c.in-Err.unread c.in-Err.ensures.refused refl c.tell.ensures

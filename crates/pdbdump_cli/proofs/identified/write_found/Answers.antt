@@ -4,4 +4,7 @@ use Rattle.pdbdump_cli.proofs.identified.write_found.Goals as goal
 
 pub returns-in_err-is_expected : goal.returns-in_err-is_expected
 returns-in_err-is_expected g c =
-    rw (passed_on _ _ c.from_residual.ensures.1) (record { writes = lacks_all _ _ _ c.in_err-is_expected.ensures.memory; expected = tt })
+    rw (passed_on _ _ c.from_residual.ensures.1) (record {
+      writes = lacks_all _ _ _ c.in_err-is_expected.ensures.memory;
+      expected = tt;
+    })

@@ -4,4 +4,5 @@ use Rattle.pdbdump_cli.specs.ValidateWords.{paths_in}
 use Rattle.pdbdump_cli.proofs.validate_words.paths_in.Given as goal
 
 abbrev pub invariant-loop-word : goal.invariant-loop-word
-invariant-loop-word l = map (λ path. path.now) l.paths.items ≡ paths_in (map (λ word. word.now) (take l.word-index l.words))
+invariant-loop-word l =
+    map (λ path. path.now) l.paths.items ≡ paths_in (map (λ word. word.now) (take l.word-index l.words))

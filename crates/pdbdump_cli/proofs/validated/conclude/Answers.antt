@@ -21,6 +21,7 @@ returns g c = λ file faults whole. record {
   writes = rw faults c.write_findings-written.ensures;
   ended = c.end-status.result;
   ends = c.end-status.ensures;
-  judged = rw faults (judged_other _ _ c.end-status.result (λ has. false≢true (sym c.if-has_passed.false ∙ c.has_passed.ensures.1 has)));
+  judged = rw faults (judged_other _ _ c.end-status.result
+      (λ has. false≢true (sym c.if-has_passed.false ∙ c.has_passed.ensures.1 has)));
   whole = rw faults whole;
 }

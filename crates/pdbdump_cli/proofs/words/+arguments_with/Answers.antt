@@ -5,14 +5,16 @@ use Rattle.pdbdump_cli.specs.Words.{Given, arguments_view, arguments_with, is_op
 use Rattle.pdbdump_cli.proofs.words.+arguments_with.Goals as goal
 
 -- a word that is no option is taken off
-operand_taken : (verb : Verb) (given more : Given) (word : List ℕ) (words : List (List ℕ)) → is_option word ≡ false → Some more ≡ with_operand given word
+operand_taken : (verb : Verb) (given more : Given) (word : List ℕ) (words : List (List ℕ)) → is_option word ≡ false
+    → Some more ≡ with_operand given word
     → arguments_with verb more words ≡ arguments_with verb given (word ∷ words)
 unfolding arguments_with
 operand_taken verb given more word [] plain is = rw (plain, sym is) refl
 operand_taken verb given more word (next ∷ words) plain is = rw (plain, sym is) refl
 
 -- an option and its number are taken off
-option_taken : (verb : Verb) (given : Given) (options : Options) (word value : List ℕ) (words : List (List ℕ)) → is_option word ≡ true → Some options ≡ option_given verb given.options word value
+option_taken : (verb : Verb) (given : Given) (options : Options) (word value : List ℕ) (words : List (List ℕ))
+    → is_option word ≡ true → Some options ≡ option_given verb given.options word value
     → arguments_with verb (record given { options = options }) words ≡ arguments_with verb given (word ∷ value ∷ words)
 unfolding arguments_with
 option_taken verb given options word value words is_option is = rw (is_option, sym is) refl
@@ -22,15 +24,22 @@ returns-then-not-is_option t c =
     let plain : is_option c.in-Some.word.now.now ≡ false = search in
     let is : c.args.words.now ≡ c.in-Some.word.now ∷ c.in-Some.words.now = c.in-Some.ensures.cases.0 in
     c.arguments_with.ensures
-    ∙ operand_taken c.args.verb (arguments_view c.args.arguments) (arguments_view c.in_ok-arguments.arguments) c.in-Some.word.now.now (map (λ word. word.now) c.in-Some.words.now) plain c.in_ok-arguments.ensures
-    ∙ ap (λ (words : List (Bor (List ℕ))). arguments_with c.args.verb (arguments_view c.args.arguments) (map (λ word. word.now) words)) (sym is)
+    ∙ operand_taken c.args.verb (arguments_view c.args.arguments)
+    (arguments_view c.in_ok-arguments.arguments) c.in-Some.word.now.now
+    (map (λ word. word.now) c.in-Some.words.now) plain c.in_ok-arguments.ensures
+    ∙ ap (λ (words : List (Bor (List ℕ))). arguments_with c.args.verb (arguments_view c.args.arguments)
+    (map (λ word. word.now) words)) (sym is)
 
 pub returns : goal.returns
 returns t c =
     let is_option : is_option c.in-Some.word.now.now ≡ true = search in
     let is : c.args.words.now ≡ c.in-Some.word.now ∷ c.in-Some.words.now = c.in-Some.ensures.cases.0 in
-    let behind : c.in-Some.words.now ≡ c.in_ok-value.value.now ∷ c.in_ok-value.words.now = c.in_ok-value.ensures.cases.0 in
+    let behind : c.in-Some.words.now ≡ c.in_ok-value.value.now
+    ∷ c.in_ok-value.words.now = c.in_ok-value.ensures.cases.0 in
     c.arguments_with-2.ensures
-    ∙ option_taken c.args.verb (arguments_view c.args.arguments) c.in_ok-options.options c.in-Some.word.now.now c.in_ok-value.value.now.now (map (λ word. word.now) c.in_ok-value.words.now) is_option c.in_ok-options.ensures
-    ∙ ap (λ (words : List (Bor (List ℕ))). arguments_with c.args.verb (arguments_view c.args.arguments) (c.in-Some.word.now.now ∷ map (λ word. word.now) words)) (sym behind)
-    ∙ ap (λ (words : List (Bor (List ℕ))). arguments_with c.args.verb (arguments_view c.args.arguments) (map (λ word. word.now) words)) (sym is)
+    ∙ option_taken c.args.verb (arguments_view c.args.arguments) c.in_ok-options.options c.in-Some.word.now.now
+    c.in_ok-value.value.now.now (map (λ word. word.now) c.in_ok-value.words.now) is_option c.in_ok-options.ensures
+    ∙ ap (λ (words : List (Bor (List ℕ))). arguments_with c.args.verb (arguments_view c.args.arguments)
+    (c.in-Some.word.now.now ∷ map (λ word. word.now) words)) (sym behind)
+    ∙ ap (λ (words : List (Bor (List ℕ))). arguments_with c.args.verb (arguments_view c.args.arguments)
+    (map (λ word. word.now) words)) (sym is)

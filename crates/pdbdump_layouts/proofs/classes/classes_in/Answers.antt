@@ -19,7 +19,8 @@ pub loop-number-preserved : goal.loop-number-preserved
 loop-number-preserved c =
     rw (c.in_ok-push.ensures.items, map-append)
     (selected_taken _ _ _ _ (rw (c.header-header.ensures.header, c.items.ensures) at c.loop-number.auto.number)
-    c.loop-number.invariant (item_class _ _ _ _ _ c.in-Ok.ensures.index c.in-Ok.ensures.item (c.in_ok-is_class.ensures.is.0 c.if-not-branch.false)))
+    c.loop-number.invariant (item_class _ _ _ _ _ c.in-Ok.ensures.index c.in-Ok.ensures.item
+    (c.in_ok-is_class.ensures.is.0 c.if-not-branch.false)))
 
 pub returns-in_default-clause-classes : goal.returns-in_default-clause-classes
 returns-in_default-clause-classes c =

@@ -9,4 +9,5 @@ pub returns-in_err-table : goal.returns-in_err-table
 unfolding file_names
 returns-in_err-table g c =
     rw (passed_on _ _ c.from_residual.ensures.1)
-    (refused_listed (λ names. whole (offset_name_lines c.args.form (all_names names))) _ _ _ c.in_err-table.ensures.answer)
+    (refused_listed (λ names. whole (offset_name_lines c.args.form
+    (all_names names))) _ _ _ c.in_err-table.ensures.answer)

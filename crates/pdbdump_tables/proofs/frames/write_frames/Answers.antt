@@ -9,7 +9,8 @@ loop-frame-preserved g c =
     let first = given_first c.loop-frame.frames c.next.new.self c.in-Ok-Some.frame
     (rw c.in-Ok-Some.field-0-is at c.in-Ok-Some.ensures.first) c.in-Ok-Some.ensures.others in
     let next = frame_next c.args.form c.loop-frame.frames c.in-Ok-Some.frame c.next.new.self first in
-    written_more _ _ _ _ _ _ _ next c.loop-frame.invariant (c.in_ok-write_line.ensures.row _ _ _ c.show_frame-added.ensures c.begin.ensures)
+    written_more _ _ _ _ _ _ _ next c.loop-frame.invariant
+    (c.in_ok-write_line.ensures.row _ _ _ c.show_frame-added.ensures c.begin.ensures)
 
 pub returns-in_err-write_line : goal.returns-in_err-write_line
 returns-in_err-write_line g c =
@@ -17,4 +18,5 @@ returns-in_err-write_line g c =
     (rw c.in-Ok-Some.field-0-is at c.in-Ok-Some.ensures.first) c.in-Ok-Some.ensures.others in
     let next = frame_next c.args.form c.loop-frame.frames c.in-Ok-Some.frame c.next.new.self first in
     rw (passed_on _ _ c.from_residual.ensures.1)
-    (inr (cut_more _ _ _ _ _ _ _ _ next c.loop-frame.invariant (c.in_err-write_line.ensures.row _ _ _ c.show_frame-added.ensures c.begin.ensures)))
+    (inr (cut_more _ _ _ _ _ _ _ _ next c.loop-frame.invariant
+    (c.in_err-write_line.ensures.row _ _ _ c.show_frame-added.ensures c.begin.ensures)))

@@ -23,4 +23,5 @@ loop-leaf-preserved c =
 
 pub returns-clause-present : goal.returns-clause-present
 returns-clause-present c = present_end
-    (λ leaf. slice_index_or c.args.counts.now leaf 0) 0x10000 c.loop-leaf.leaf _ _ c.loop-leaf-test.false c.loop-leaf.invariant
+    (λ leaf. slice_index_or c.args.counts.now leaf 0) 0x10000 c.loop-leaf.leaf _ _ c.loop-leaf-test.false
+    c.loop-leaf.invariant

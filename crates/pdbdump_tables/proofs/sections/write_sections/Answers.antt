@@ -21,7 +21,8 @@ loop-place-preserved g c =
     (left c.parse.new.buffer) long c.in_ok-header.ensures.read in
     let next = section_next c.args.form _ _ c.in_ok-header.header _ step.0 in
     record {
-      written = written_more _ _ _ _ _ _ _ next c.loop-place.invariant.written (c.in_ok-write_line.ensures.row _ _ _ c.show_section-added.ensures c.begin.ensures);
+      written = written_more _ _ _ _ _ _ _ next c.loop-place.invariant.written
+          (c.in_ok-write_line.ensures.row _ _ _ c.show_section-added.ensures c.begin.ensures);
       rest = omega (arith, step.1, c.loop-place.invariant.rest, c.loop-place-test.true);
     }
 
@@ -53,4 +54,5 @@ returns-in_err-write_line g c =
     (left c.parse.new.buffer) long c.in_ok-header.ensures.read in
     let next = section_next c.args.form _ _ c.in_ok-header.header _ step.0 in
     rw (passed_on _ _ c.from_residual-in_err-write_line.ensures.1)
-    (inr (cut_more _ _ _ _ _ _ _ _ next c.loop-place.invariant.written (c.in_err-write_line.ensures.row _ _ _ c.show_section-added.ensures c.begin.ensures)))
+    (inr (cut_more _ _ _ _ _ _ _ _ next c.loop-place.invariant.written
+    (c.in_err-write_line.ensures.row _ _ _ c.show_section-added.ensures c.begin.ensures)))

@@ -3,7 +3,8 @@ use Rattle.std.proofs.Common.{Ok, Err, inl, ap}
 use Rattle.pdb_base.proofs.lemmas.Refused.{passed_on}
 use Rattle.pdb_base.specs.declared.index.TypeIndex.{TypeIndex}
 use Rattle.pdbdump_tables.proofs.ListingLemmas.{line_written}
-use Rattle.pdbdump_tables.proofs.ShownLemmas.{behind_none, cut_members, cut_record, full_written, lacks_early, refuses_early}
+use Rattle.pdbdump_tables.proofs.ShownLemmas.{behind_none, cut_members, cut_record, full_written, lacks_early}
+use Rattle.pdbdump_tables.proofs.ShownLemmas.{refuses_early}
 use Rattle.pdbdump_tables.proofs.ShownLemmas.{refuses_late, shows_whole, type_meant, type_unfound, type_unparsed}
 use Rattle.pdbdump_rows.specs.TypeRows.{type_row}
 use Rattle.pdb_values.specs.TypeView.{type_value}

@@ -9,7 +9,8 @@ use Rattle.pdb_handles.specs.contracts.held.Held as held
 use Rattle.pdb_handles.specs.contracts.held.Held.into_parts as f
 use Rattle.pdb_handles.proofs.held.Held.into_parts.Statement.{statement}
 use Rattle.pdb_handles.proofs.held.Held.into_parts.Code as code
-use Rattle.pdb_handles.proofs.HeldSteps.{inside, inside_is, PartsRow, pair, held_tells, ptr_typed, alloc_typed, pair_typed}
+use Rattle.pdb_handles.proofs.HeldSteps.{inside, inside_is, PartsRow, pair, held_tells, ptr_typed, alloc_typed}
+use Rattle.pdb_handles.proofs.HeldSteps.{pair_typed}
 
 abbrev stayed : Stays f.ended.signature.params f.ended.kept
 stayed = (stay_dropped _ yes, tt)
@@ -26,7 +27,8 @@ into_parts_spec 𝓤 𝓛 𝓜 𝓡 wired =
     move ! (1 ∷ []) $ heard ! (IsSome h.content) (λ there.
     let made : PartsRow.Denot = record { ptr = h.ptr; alloc = h.alloc; value = inside h.content there } in
     split ! $ move ! (1 ∷ []) $ split ! $ keep ! (0 ∷ []) $
-    rewrite ! 0 (λ (o : Option Content). ‵ (held.the_row.own_val (record h { content = o }) (word ∷ []))) (inside_is h.content there) refl $
+    rewrite ! 0 (λ (o : Option Content). ‵ (held.the_row.own_val (record h { content = o }) (word ∷ [])))
+    (inside_is h.content there) refl $
     use1 𝓛 (‵ (PartsRow.own_val made (word ∷ []))) (id⊢ 𝓤 _) $
     enter ! _ _ _ _ _ $ alloc_all ! (λ l. pass_all ! refl (pair_typed h.ptr h.alloc, tt) $
     sets ! (of_opd ! (get_in ! (fld ! refl (stop !)) (sub ! 0 refl (whole !)))) refl (ptr_typed h.ptr) $

@@ -31,7 +31,9 @@ nothing_spec 𝓤 𝓛 𝓜 𝓡 wired =
     returns ! (look_at ! 0 refl) $ free_all ! refl $
     suffices ! _ (ends_at 𝓛 f.ended stayed c y word made (tt, tt) (tt, tt)) $ says ! refl $
     -- [the allocator], and of it the fields, and beside them what null owns
-    nothing ! $ nothing ! $ move ! (2 ∷ 0 ∷ []) $ fjoin ! $ feq_i ! (List Val) (ptr_val null_ptr ∷ []) (ptr_val null_ptr ∷ []) refl $ fjoin ! $
+    nothing ! $ nothing ! $ move ! (2 ∷ 0 ∷ []) $ fjoin ! $ feq_i ! (List Val) (ptr_val null_ptr ∷ [])
+    (ptr_val null_ptr ∷ []) refl $ fjoin ! $
     feq_i ! (List Val) (word ∷ []) (word ∷ []) refl $ fjoin ! $
-    fpack ! (Valss (shape held.the_type).fields) (within (shape held.the_type) (to held.the_type made) (word ∷ [])) (ptr_val null_ptr ∷ [], (global_laws.lowered g ∷ [], tt)) $ fjoin ! $
+    fpack ! (Valss (shape held.the_type).fields) (within (shape held.the_type) (to held.the_type made) (word ∷ []))
+    (ptr_val null_ptr ∷ [], (global_laws.lowered g ∷ [], tt)) $ fjoin ! $
     nothing ! $ nothing ! $ join ! $ nothing ! $ done !))

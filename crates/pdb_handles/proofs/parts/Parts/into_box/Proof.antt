@@ -45,26 +45,38 @@ into_box_spec 𝓤 𝓛 𝓜 𝓡 wired X Z LX LZ g d dd allocator md =
     split ! $ move ! (1 ∷ []) $ fsplit ! $
     box_out box ! boxed y.0.4.0 (λ b o handle at_block words typed_handle. fjoin ! $
     let parted = word box handle b o in
-    let z : Called.Ghost = ((κs, qs, tt, (alloc, (block_ptr b o, tt)), (handle ∷ [], (vptr b o ∷ [], tt))), parts.value) in
-    let Γ : List (Item 𝓤) = ‵ (box_owns (token box.al alloc) (R box) (block_ptr b o) parts.value) ∷ ‵ ((P box).own_val alloc (handle ∷ [])) ∷ ‵ ftrue ∷ tokens ∷ (lives_x ⊛ lives_z ⊛ ‵ ftrue) ∷ [] in
+    let z : Called.Ghost = (
+      (κs, qs, tt, (alloc, (block_ptr b o, tt)), (handle ∷ [], (vptr b o ∷ [], tt))),
+      parts.value,
+    ) in
+    let Γ : List (Item 𝓤) = ‵ (box_owns (token box.al alloc) (R box) (block_ptr b o) parts.value)
+    ∷ ‵ ((P box).own_val alloc (handle ∷ [])) ∷ ‵ ftrue ∷ tokens ∷ (lives_x ⊛ lives_z ⊛ ‵ ftrue) ∷ [] in
     by ! (subst (λ (ws : List Val). ent 𝓤 (types.Kit.⋆ 𝓛 Γ) (WpFn 𝓤 𝓛.H 𝓣.C 𝓣.Λ here (ws ++ []) Post)) (sym words)
-    (qed 𝓛 Γ ∵ enter ! 𝓣.C 𝓣.Λ here (parted ∷ []) _ $ alloc_all ! (λ ls. pass_all ! refl (box_typed box handle b o typed_handle, tt) $
+    (qed 𝓛 Γ ∵ enter ! 𝓣.C 𝓣.Λ here (parted ∷ []) _ $ alloc_all !
+    (λ ls. pass_all ! refl (box_typed box handle b o typed_handle, tt) $
     sets ! (of_opd ! (get_in ! (fld ! refl (stop !)) (sub ! 0 refl (whole !)))) refl (tt, tt) $
     sets ! (of_opd ! (get_in ! (fld ! refl (stop !)) (sub ! 1 refl (whole !)))) refl typed_handle $
     first ! $ blocks ! $ sets ! (of_opd ! (get ! refl)) refl typed_handle $
     -- what the call takes: the tokens, the allocator and the pointer, and the value with the right to free it
-    move ! (4 ∷ []) $ split3 ! $ move ! (2 ∷ []) $ drop ! $ move ! (1 ∷ 2 ∷ []) $ join ! $ move ! (1 ∷ 0 ∷ []) $ join ! $
-    move ! (2 ∷ []) $ feq_i ! (List Val) (vptr b o ∷ []) (vptr b o ∷ []) refl $ fjoin ! $ move ! (2 ∷ 0 ∷ []) $ fjoin ! $ move ! (2 ∷ 0 ∷ []) $ join ! $ join ! $
+    move ! (4 ∷ []) $ split3 ! $ move ! (2 ∷ []) $ drop ! $ move ! (1 ∷ 2 ∷ []) $ join ! $ move !
+    (1 ∷ 0 ∷ []) $ join ! $
+    move ! (2 ∷ []) $ feq_i ! (List Val) (vptr b o ∷ []) (vptr b o ∷ []) refl $ fjoin ! $ move !
+    (2 ∷ 0 ∷ []) $ fjoin ! $ move ! (2 ∷ 0 ∷ []) $ join ! $ join ! $
     use1 𝓛 (raw (Called.pre z)) (id⊢ 𝓤 _) $
-    calls_at_last ! (framed 𝓤 𝓛.H 𝓜 𝓣) Called (from_raw_met.met 𝓤 𝓛 𝓜 𝓡 (code.calls-std_alloc::boxed::Box::from_raw 𝓡.env wired) X Z LX LZ g d dd allocator md) z
+    calls_at_last ! (framed 𝓤 𝓛.H 𝓜 𝓣) Called (from_raw_met.met 𝓤 𝓛 𝓜 𝓡
+    (code.calls-std_alloc::boxed::Box::from_raw 𝓡.env wired) X Z LX LZ g d dd allocator md) z
     (and_then ! (get ! refl) (and_then ! (get ! refl) (no_more !))) (λ v.
-    use1 𝓛 (later (some (λ (r : D box). (tokens ⊛ ‵ ((B box).own_val r (v ∷ []))) ⊛ some (λ (_ : Unit {0} × (Unit {0} × Unit {0})).
-    ‵ (fsep ftrue (fsep ftrue ftrue)) ⊛ (raw (fact 𝓤 (r.value ≡ parts.value)) ⊛ raw (fact 𝓤 (r.alloc ≡ alloc))))))) (id⊢ 𝓤 _) $
-    await ! tt $ pick ! (λ r. split ! $ move ! (1 ∷ []) $ pick ! (λ _. split3 ! $ drop ! $ heard ! (r.value ≡ parts.value) (λ same. drop ! $ split ! $ move ! (1 ∷ []) $
+    use1 𝓛 (later (some (λ (r : D box). (tokens ⊛ ‵ ((B box).own_val r (v ∷ []))) ⊛ some
+    (λ (_ : Unit {0} × (Unit {0} × Unit {0})).
+    ‵ (fsep ftrue (fsep ftrue ftrue)) ⊛ (raw (fact 𝓤 (r.value ≡ parts.value)) ⊛ raw (fact 𝓤 (r.alloc ≡ alloc)))))))
+    (id⊢ 𝓤 _) $
+    await ! tt $ pick ! (λ r. split ! $ move ! (1 ∷ []) $ pick !
+    (λ _. split3 ! $ drop ! $ heard ! (r.value ≡ parts.value) (λ same. drop ! $ split ! $ move ! (1 ∷ []) $
     -- the box that came back, as it is in memory
     box_out box ! r (v ∷ []) (λ b' o' handle' at' is_word typed'. box_in box ! r b' o' r.value at' refl $
     rewrite ! 0 (λ (ws : List Val). ‵ ((B box).own_val r ws)) (sym is_word) refl $
-    let typed : T (has_ty (box_ty box) v) × WT v = subst (λ (w : Val). T (has_ty (box_ty box) w) × WT w) (sym (ap only is_word)) (box_typed box handle' b' o' typed') in
+    let typed : T (has_ty (box_ty box) v) × WT v = subst (λ (w : Val). T (has_ty (box_ty box) w) × WT w)
+    (sym (ap only is_word)) (box_typed box handle' b' o' typed') in
     lands_last ! refl typed $ exec ! 𝓣.C 𝓣.Λ (env here.locals ls) behind (at_ret (env here.locals ls) Post) $
     sets ! (of_opd ! (get ! refl)) refl typed $ returns ! (look_at ! 0 refl) $ free_all ! refl $
     suffices ! _ (ends_at 𝓛 (ended box) (stayed box) c y v r ((tt, (tt, tt)), tt) (tt, tt)) $ says ! same $

@@ -39,33 +39,47 @@ of_spec 𝓤 𝓛 𝓜 𝓡 wired X Z LX LZ g d dd dx allocator md glue =
     qed 𝓛 ((tokens ⊛ ‵ (fsep ((B box).own_val whole_box y.0.4.0) ftrue)) ∷ lives ∷ []) ∵
     split ! $ move ! (1 ∷ []) $ fsplit ! $
     -- the box: a block that is not null, its value, and the right to free it
-    box_out box ! whole_box y.0.4.0 (λ b o handle at_block words typed_handle. box_in box ! whole_box b o whole_box.value at_block refl $
+    box_out box ! whole_box y.0.4.0 (λ b o handle at_block words typed_handle. box_in box ! whole_box b o
+    whole_box.value at_block refl $
     let boxed = word box handle b o in
     let z : Called.Ghost = ((κs, qs, tt, (whole_box, tt), (boxed ∷ [], tt)), tt) in
     let Γ : List (Item 𝓤) = ‵ ((B box).own_val whole_box (boxed ∷ [])) ∷ ‵ ftrue ∷ tokens ∷ lives ∷ [] in
     by ! (subst (λ (ws : List Val). ent 𝓤 (types.Kit.⋆ 𝓛 Γ) (WpFn 𝓤 𝓛.H 𝓣.C 𝓣.Λ here (ws ++ []) Post)) (sym words)
-    (qed 𝓛 Γ ∵ enter ! 𝓣.C 𝓣.Λ here (boxed ∷ []) _ $ alloc_all ! (λ ls. pass_all ! refl (box_typed box handle b o typed_handle, tt) $
+    (qed 𝓛 Γ ∵ enter ! 𝓣.C 𝓣.Λ here (boxed ∷ []) _ $ alloc_all !
+    (λ ls. pass_all ! refl (box_typed box handle b o typed_handle, tt) $
     sets ! (of_opd ! (get ! refl)) refl (box_typed box handle b o typed_handle) $
     fjoin ! $ move ! (1 ∷ 0 ∷ []) $ join ! $ join ! $ use1 𝓛 (raw (Called.pre z)) (id⊢ 𝓤 _) $
-    calls_at ! (framed 𝓤 𝓛.H 𝓜 𝓣) Called (into_raw_met.met 𝓤 𝓛 𝓜 𝓡 (code.calls-std_alloc::boxed::Box::into_raw_with_allocator 𝓡.env wired) X Z LX LZ g d dd dx allocator md glue) z
+    calls_at ! (framed 𝓤 𝓛.H 𝓜 𝓣) Called (into_raw_met.met 𝓤 𝓛 𝓜 𝓡
+    (code.calls-std_alloc::boxed::Box::into_raw_with_allocator 𝓡.env wired) X Z LX LZ g d dd dx allocator md glue) z
     (and_then ! (get ! refl) (no_more !)) (λ v.
-    use1 𝓛 (later (some (λ (r : Ptr × Z.Denot). (tokens ⊛ ‵ ((Tuple (RawPtr ∷ P box ∷ [])).own_val r (v ∷ []))) ⊛ some (λ (_ : (Unit {0} × (Unit {0} × Unit {0})) × Unit {0}).
-    ‵ (fsep (fsep ftrue (fsep ftrue ftrue)) ftrue) ⊛ (raw (fact 𝓤 (r.1 ≡ alloc)) ⊛ ‵ (box_owns (token box.al alloc) (R box) r.0 whole_box.value)))))) (id⊢ 𝓤 _) $
-    await ! tt $ pick ! (λ r. split ! $ move ! (1 ∷ []) $ pick ! (λ _. split3 ! $ drop ! $ heard ! (r.1 ≡ alloc) (λ same_alloc.
+    use1 𝓛 (later (some (λ (r : Ptr × Z.Denot). (tokens ⊛ ‵ ((Tuple (RawPtr ∷ P box ∷ [])).own_val r (v ∷ []))) ⊛ some
+    (λ (_ : (Unit {0} × (Unit {0} × Unit {0})) × Unit {0}).
+    ‵ (fsep (fsep ftrue (fsep ftrue ftrue)) ftrue) ⊛ (raw (fact 𝓤 (r.1 ≡ alloc)) ⊛ ‵
+    (box_owns (token box.al alloc) (R box) r.0 whole_box.value)))))) (id⊢ 𝓤 _) $
+    await ! tt $ pick ! (λ r. split ! $ move ! (1 ∷ []) $ pick !
+    (λ _. split3 ! $ drop ! $ heard ! (r.1 ≡ alloc) (λ same_alloc.
     -- [the value with its token; the tokens with the pair]: the pair is the pointer and the allocator
-    in_a_block ! r.0 (λ p. box_owns (token box.al alloc) (R box) p whole_box.value) (fst∗ 𝓤 (never 𝓤) (sem 𝓛 (token box.al alloc (bare (τ box)) null_ptr))) (λ b' o' at'.
-    move ! (1 ∷ []) $ split ! $ move ! (1 ∷ []) $ fpick ! (λ vss. fsplit ! $ feq_l ! (λ is_pair. fsplit ! $ feq_l ! (λ is_ptr. fsplit ! $
-    rewrite ! 0 (λ (it : Z.Denot). ‵ (Z.own_val it vss.1.0)) same_alloc refl $ handle_tells box.al ! alloc vss.1.0 (λ handle' is_handle typed'.
+    in_a_block ! r.0 (λ p. box_owns (token box.al alloc) (R box) p whole_box.value)
+    (fst∗ 𝓤 (never 𝓤) (sem 𝓛 (token box.al alloc (bare (τ box)) null_ptr))) (λ b' o' at'.
+    move ! (1 ∷ []) $ split ! $ move ! (1 ∷ []) $ fpick !
+    (λ vss. fsplit ! $ feq_l ! (λ is_pair. fsplit ! $ feq_l ! (λ is_ptr. fsplit ! $
+    rewrite ! 0 (λ (it : Z.Denot). ‵ (Z.own_val it vss.1.0)) same_alloc refl $ handle_tells box.al ! alloc vss.1.0
+    (λ handle' is_handle typed'.
     let whole' : D box = record { ptr = block_ptr b' o'; alloc = alloc; value = whole_box.value } in
     let made : (PartsRow box).Denot = record { ptr = block_ptr b' o'; alloc = alloc; value = whole_box.value } in
     let parted = word box handle' b' o' in
-    lands_as ! (ap only (is_pair ∙ (λ j. vstruct (of_list ((is_ptr ∙ ap (λ (p : Ptr). ptr_val p ∷ []) at') j ++ (is_handle j ++ []))) ∷ []))) refl (box_typed box handle' b' o' typed') $
+    lands_as ! (ap only (is_pair ∙ (λ j. vstruct (of_list
+    ((is_ptr ∙ ap (λ (p : Ptr). ptr_val p ∷ []) at') j ++ (is_handle j ++ []))) ∷ []))) refl
+    (box_typed box handle' b' o' typed') $
     sets ! (of_opd ! (get_in ! (fld ! refl (stop !)) (sub ! 0 refl (whole !)))) refl (tt, tt) $
     sets ! (of_opd ! (get_in ! (fld ! refl (stop !)) (sub ! 1 refl (whole !)))) refl typed' $
     sets ! (of_opd ! (get ! refl)) refl typed' $
-    sets ! (agg ! (and_then ! (get ! refl) (and_then ! (get ! refl) (no_more !)))) refl (box_typed box handle' b' o' typed') $
+    sets ! (agg ! (and_then ! (get ! refl) (and_then ! (get ! refl) (no_more !)))) refl
+    (box_typed box handle' b' o' typed') $
     returns ! (look_at ! 0 refl) $ free_all ! refl $
     -- [the handle; true; the tokens; the value with its token], of which the parts are made as a box is
-    move ! (3 ∷ []) $ fsplit ! $ box_in box ! whole' b' o' whole_box.value refl refl $ use1 𝓛 (‵ ((PartsRow box).own_val made (parted ∷ []))) (id⊢ 𝓤 _) $ move ! (1 ∷ []) $ drop ! $
-    suffices ! _ (ends_at 𝓛 (ended box dx) (stayed box dx) c y parted made ((tt, (tt, tt)), tt) (tt, tt)) $ says ! refl $
+    move ! (3 ∷ []) $ fsplit ! $ box_in box ! whole' b' o' whole_box.value refl refl $ use1 𝓛
+    (‵ ((PartsRow box).own_val made (parted ∷ []))) (id⊢ 𝓤 _) $ move ! (1 ∷ []) $ drop ! $
+    suffices ! _ (ends_at 𝓛 (ended box dx) (stayed box dx) c y parted made ((tt, (tt, tt)), tt)
+    (tt, tt)) $ says ! refl $
     nothing ! $ nothing ! $ fjoin ! $ join ! $ move ! (1 ∷ 0 ∷ []) $ join ! $ done !))))))))))))))

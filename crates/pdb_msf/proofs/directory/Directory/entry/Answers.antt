@@ -27,7 +27,10 @@ returns-clause-entry c =
     entry_found g c.args.stream_number c.args.limit d place c.in_ok-pages.pages.items c.in_ok-place.ensures.place
     (numbers_read g place.size place.start _ d c.as_slice.result.now _ _ _ c.as_slice.ensures.value
     c.from-buffer.ensures c.seek.ensures c.pages-count.ensures.pages c.in_ok-pages.ensures.numbers)
-    ∙ ap (λ (size : ℕ). Ok (let entry : PagesOfStream = record { size = size; pages = c.in_ok-pages.pages.items } in entry))
+    ∙ ap (λ (size : ℕ). Ok (let entry : PagesOfStream = record {
+      size = size;
+      pages = c.in_ok-pages.pages.items;
+    } in entry))
     (sym c.limited.ensures.size)
 
 pub returns-clause-whole : goal.returns-clause-whole

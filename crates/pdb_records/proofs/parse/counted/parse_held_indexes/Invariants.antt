@@ -9,7 +9,8 @@ use Rattle.pdb_records.proofs.parse.counted.parse_held_indexes.Given as goal
 abbrev pub invariant-loop-indexes : goal.invariant-loop-indexes
 invariant-loop-indexes g l = record {
   all : read_times (index_at g.I.Index.said) l.count (left l.fn.buffer)
-      ≡ behind l.indexes.items (read_times (index_at g.I.Index.said) (l.count - length l.indexes.items) (left l.buffer));
+      ≡ behind l.indexes.items (read_times (index_at g.I.Index.said) (l.count - length l.indexes.items)
+      (left l.buffer));
   most : length l.indexes.items ≤ l.count;
 }
 

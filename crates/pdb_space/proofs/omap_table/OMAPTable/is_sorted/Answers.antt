@@ -12,4 +12,8 @@ returns-then-source_address-highest c = (
 )
 
 pub returns : goal.returns
-returns c = (λ is. sorted-at_end c.loop-record.highest c.loop-record.record-iterator c.args.self.now c.loop-record.invariant c.in-None.ensures.steps.0, λ sorted. refl)
+returns c = (
+  λ is. sorted-at_end c.loop-record.highest c.loop-record.record-iterator c.args.self.now
+      c.loop-record.invariant c.in-None.ensures.steps.0,
+  λ sorted. refl,
+)

@@ -4,4 +4,11 @@ use Rattle.pdbdump_rows.proofs.words.pointer_attributes.pointer_flags.Goals as g
 
 pub returns : goal.returns
 unfolding pointer_words
-returns c = simp (c.is_flat_32.ensures, c.is_volatile.ensures, c.is_const.ensures, c.is_unaligned.ensures, c.is_restrict.ensures, c.is_mocom.ensures)
+returns c = simp (
+  c.is_flat_32.ensures,
+  c.is_volatile.ensures,
+  c.is_const.ensures,
+  c.is_unaligned.ensures,
+  c.is_restrict.ensures,
+  c.is_mocom.ensures,
+)
