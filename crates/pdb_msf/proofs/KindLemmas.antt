@@ -93,3 +93,7 @@ pub tells_entry : {X : Type 0} (state : State) (view : X → PagesOfStream) (e :
     → Answers view (Err e) (stream_entry_of g n limit d) → TellsKind state (refusal_of e)
 tells_entry state view e g n limit d answered =
     tells_answers state view e (stream_entry_of g n limit d) (plain_entry g n limit d) answered
+
+pub tells_place : (state : State) (e : Error) (page_size n : ℕ) (d : List ℕ)
+    → stream_place_in page_size n d ≡ Err (refusal_of e) → TellsKind state (refusal_of e)
+tells_place state e page_size n d is = (plain_place page_size n d).tells state (refusal_of e) is

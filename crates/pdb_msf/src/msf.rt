@@ -190,6 +190,7 @@ impl<S: Source> BigMSF<S> {
         ensures answer { AnswersUnless (HasFailed (S.state self.old.source) (S.state self.new.source)) (λ count. count)
             result (stream_count_of (S.state self.old.source).bytes self.old.head) }
         ensures source { IsKept (S.state self.old.source) (S.state self.new.source) }
+        ensures kind { KeepsKind (S.state self.new.source) result }
         ensures head { self.new.head ≡ self.old.head }
         ensures located { IfOk result (λ _. IsTrue self.new.located) }
         ensures asked { Asks self.old.asked self.new.asked (locating self.old.located self.old.head.geometry) result }
@@ -217,6 +218,7 @@ impl<S: Source> BigMSF<S> {
         ensures answer { AnswersUnless (HasFailed (S.state self.old.source) (S.state self.new.source)) (λ size. size)
             result (stream_size_of (S.state self.old.source).bytes self.old.head stream_number) }
         ensures source { IsKept (S.state self.old.source) (S.state self.new.source) }
+        ensures kind { KeepsKind (S.state self.new.source) result }
         ensures head { self.new.head ≡ self.old.head }
         ensures located { IfOk result (λ _. IsTrue self.new.located) }
         ensures asked { Asks self.old.asked self.new.asked (locating self.old.located self.old.head.geometry) result }

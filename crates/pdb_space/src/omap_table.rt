@@ -95,7 +95,7 @@ impl OMAPTable {
         ensures unsorted { IfSome result (MovesSomehow self.now address) }
         ensures counted { calls_of count.new ≡ after_calls (binary_digits (length self.now)) (calls_of count.old) }
     {
-        self.last_at_or_below(address, count)?.moved(address)
+        self.last_at_or_below(address, count)?.move_address(address)
     }
 
     /// Returns the last record whose source is at or below an address, or None if there is none. In
