@@ -247,7 +247,7 @@ impl<S: Source> PDB<S> {
         let sections = sections.unwrap_or(Vec::new(alloc));
         let original = roles.original_section_headers.msf_number();
         match self.numbered_sections(alloc, original)? {
-            Some(original) => self.rearranged(alloc, &roles, sections, original),
+            Some(original) => self.rearranged_map(alloc, &roles, sections, original),
             None => Ok(AddressMap::new(sections, None, None, None)),
         }
     }

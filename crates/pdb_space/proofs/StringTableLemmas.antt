@@ -62,7 +62,7 @@ header_cut stream short = elim (cases_lt (length stream) 4) [
 
 -- what is refused of a stream that holds a header
 abbrev unsigned : Refusal
-unsigned = unimplemented_feature (codes "invalid string table names_signature")
+unsigned = unimplemented_feature (codes "invalid string table signature")
 
 abbrev unknown : Refusal
 unknown = unimplemented_feature (codes "unknown string table hash version")

@@ -29,7 +29,7 @@ unfoldable pub names_of : List ℕ → Answer (List ℕ)
 names_of stream = do
   header ← header_at stream
   signed ← ok_if (header.0.signature == names_signature)
-      (unimplemented_feature (codes "invalid string table names_signature"))
+      (unimplemented_feature (codes "invalid string table signature"))
   names ← front_at header.0.names_size header.1
   known ← ok_if (is_known_version header.0.hash_version)
       (unimplemented_feature (codes "unknown string table hash version"))

@@ -25,7 +25,7 @@ pub record FindsNames (stream : List ℕ) : Type 0 where
 pub record RefusesByFirstFault (stream : List ℕ) : Type 0 where
   pub short : length stream < 12 → names_of stream ≡ Err unexpected_eof
   pub unsigned : 12 ≤ length stream → word_at 0 stream ≢ names_signature
-      → names_of stream ≡ Err (unimplemented_feature (codes "invalid string table names_signature"))
+      → names_of stream ≡ Err (unimplemented_feature (codes "invalid string table signature"))
   pub cut : 12 ≤ length stream → word_at 0 stream ≡ names_signature → length stream < 12 + word_at 8 stream
       → names_of stream ≡ Err unexpected_eof
   pub unknown : 12 + word_at 8 stream ≤ length stream → word_at 0 stream ≡ names_signature → word_at 4 stream ≢ 1

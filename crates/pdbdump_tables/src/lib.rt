@@ -28,7 +28,7 @@ mod summary;
 mod table_summary;
 mod type_listing;
 
-pub use conversions::{OfInternal, OfLoaded, made_of_internal, made_of_loaded};
+pub use conversions::{OfInternal, OfLoaded, conversions_of_internal, conversions_of_loaded};
 pub use extraction::{extract, stream_meant};
 pub use file_tables::{list_frames, list_frames_in, list_names, list_sections};
 pub use id_listing::{id_at, ids};

@@ -206,7 +206,7 @@ fn are_said(alloc: Global, replies: &[Reply], wanted: &[Says], kind: ErrorKind) 
 /// A source whose view of this number fails with this kind.
 fn failing(bytes: Vec<u8>, n: u64, kind: ErrorKind) -> Gone {
     Gone(match kind {
-        ErrorKind::PermissionDenied => Failing::denied(bytes, n),
+        ErrorKind::PermissionDenied => Failing::denying(bytes, n),
         _ => Failing::new(bytes, n),
     })
 }

@@ -2,7 +2,7 @@
 
 pub(crate) mod file;
 
-use file::built;
+use file::build_file;
 use pdb_container::{
     AddressMap, FrameData, FrameType, Msf, PdbInternalRva, PdbInternalSectionOffset, Result, Rva,
     Stream, StringRef, TypeData, TypeFinder, TypeIndex, TypeInformation, open_msf,
@@ -149,7 +149,7 @@ fn is_answered(alloc: Global, asked: &Use, file: Vec<u8>) -> bool {
 
 /// Whether a use answers so over the file that is built.
 fn is_used(alloc: Global, asked: &Use) -> Result<bool> {
-    Ok(is_answered(alloc, asked, built(alloc)?))
+    Ok(is_answered(alloc, asked, build_file(alloc)?))
 }
 
 #[test]

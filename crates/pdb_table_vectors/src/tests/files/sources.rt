@@ -220,7 +220,7 @@ fn failing(alloc: Global, n: u64, kind: ErrorKind) -> pdb_base::Result<Failing> 
     Ok(if kind == ErrorKind::Other {
         Failing::new(file, n)
     } else {
-        Failing::denied(file, n)
+        Failing::denying(file, n)
     })
 }
 

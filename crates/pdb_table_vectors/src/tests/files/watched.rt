@@ -29,7 +29,7 @@ pub(crate) struct Watched<'n> {
 impl<'n> Watched<'n> {
     /// The source of these bytes whose view of this number fails, or none if the number is 0.
     pub(crate) fn new(bytes: Vec<u8>, n: u64, notes: &'n mut Vec<Note>) -> Self {
-        let source = Failing::denied(bytes, n);
+        let source = Failing::denying(bytes, n);
         Watched { source, notes }
     }
 }
