@@ -122,8 +122,8 @@ abbrev pub is_at : ℕ → FrameData → Bool
 is_at address frame = covers (record { start = frame.code_start; size = frame.code_size }) address
 
 -- the frames of a file at an address
-abbrev pub file_frames : List ℕ → ℕ → Answer (List FrameData)
-file_frames file address = do
+abbrev pub frames_of_file : List ℕ → ℕ → Answer (List FrameData)
+frames_of_file file address = do
   head ← file_head file
   frames ← file_frame_table file head
   Ok (filter (is_at address) (by_heads frames.old frames.new))

@@ -4,7 +4,7 @@ ghost use Rattle.std.specs.Prelude.{◌≡◌, Ok};
 ghost use Rattle.std.specs.List.{filter};
 ghost use Rattle.pdb_container.specs.Answer.{Answers};
 ghost use Rattle.pdb_container.specs.Merge.{by_heads};
-ghost use Rattle.pdb_examples.specs.Uses.{file_frames, is_at};
+ghost use Rattle.pdb_examples.specs.Uses.{frames_of_file, is_at};
 
 use pdb_container::{FallibleIterator, FrameData, FrameTable, PDB, PdbInternalRva, Result};
 use std::alloc::Global;
@@ -37,7 +37,7 @@ fn those_at(alloc: Global, table: &FrameTable, address: PdbInternalRva) -> Resul
 /// # Errors
 /// Fails as `PDB::open` and `PDB::frame_table` do, and with `OutOfMemory` if an allocation fails.
 pub fn frames_at(alloc: Global, bytes: Vec<u8>, address: PdbInternalRva) -> Result<Vec<FrameData>>
-    ensures { Answers (λ found. found.items) result (file_frames bytes.items address) }
+    ensures { Answers (λ found. found.items) result (frames_of_file bytes.items address) }
 {
     let mut file = PDB::open(alloc, bytes)?;
     let table = file.frame_table(alloc)?;

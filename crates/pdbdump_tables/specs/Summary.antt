@@ -45,22 +45,22 @@ refusal_line form part (Ok said) = []
 refusal_line form part (Err refusal) = refused_line form part refusal
 
 -- no stream, and the roles if no stream has one
-abbrev pub no_stream : StreamIndex
-no_stream = record { 0 = no_stream }
+abbrev pub no_stream_index : StreamIndex
+no_stream_index = record { 0 = no_stream }
 
 abbrev pub no_roles : DBIExtraStreams
 no_roles = record {
-  fpo = no_stream;
-  exception = no_stream;
-  fixup = no_stream;
-  omap_to_src = no_stream;
-  omap_from_src = no_stream;
-  section_headers = no_stream;
-  token_rid_map = no_stream;
-  xdata = no_stream;
-  pdata = no_stream;
-  framedata = no_stream;
-  original_section_headers = no_stream;
+  fpo = no_stream_index;
+  exception = no_stream_index;
+  fixup = no_stream_index;
+  omap_to_src = no_stream_index;
+  omap_from_src = no_stream_index;
+  section_headers = no_stream_index;
+  token_rid_map = no_stream_index;
+  xdata = no_stream_index;
+  pdata = no_stream_index;
+  framedata = no_stream_index;
+  original_section_headers = no_stream_index;
 }
 
 -- the streams that have names
