@@ -223,7 +223,8 @@ first_in f zero e h = absurd cc
 first_in {A} f (suc count) e h = elim (answer_cases (values_of_all (map f (range_with_len 0 count)))) [
   | inr refused ↦
       let before = first_in f count refused.0 refused.1 in
-      let all = collected_stops f before.0 (suc count) before.2 refused.0 (omega (arith, before.1)) before.3 before.4 in (
+      let all = collected_stops f before.0 (suc count) before.2 refused.0 (omega (arith, before.1)) before.3 before.4
+      in (
         before.0,
         omega (arith, before.1),
         before.2,

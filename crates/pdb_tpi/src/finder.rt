@@ -86,7 +86,9 @@ impl<I: ItemIndex> ItemInformation<I> {
     }
 
     /// Returns the item at a place in the walk, and the position behind it, and counts the lengths
-    /// that are read. The walk to it begins at the last of these blocks that is not behind it.
+    /// that are read. The walk to it begins at the last of these blocks that is not behind it. It is
+    /// inlined, since a caller that needs no error then keeps none.
+    #[inline(always)]
     pub(crate) fn item_at(
         &self,
         positions: &[u32],
@@ -109,33 +111,6 @@ impl<I: ItemIndex> ItemInformation<I> {
         let mut items = ItemIter::at(self, first, positions[block] as usize);
         let item = items.nth(place - block as u32 * BLOCK_LEN, count)?;
         let (_, end) = items.place();
-        Ok((item, end))
-    }
-
-    /// Does what `item_at` does, in the caller: one that needs no error keeps none.
-    #[inline(always)]
-    pub(crate) fn walk_to(
-        &self,
-        positions: &[u32],
-        place: u32,
-        count: &mut Count,
-    ) -> Result<(Item<'_, I>, usize)>
-        requires some { 0 < length positions.now }
-        requires places { (block : ℕ) → block < length positions.now →
-            IsPlace self.now (first_of_block self.now block) (slice_index positions.now block) }
-        ensures item { Gives (λ found. item_bytes found.0) result (nth_item self.now place) }
-        ensures index { IfOk result (λ found.
-            I.number (index_of found.0) ≡ self.now.header.minimum_index + place) }
-        ensures end { IfOk result (λ found. IsPlace self.now (self.now.header.minimum_index + place + 1) found.1) }
-        ensures counted { let block = min (place / 8) (length positions.now - 1) in
-            calls_of count.new ≡ after_calls (reads_between self.now (8 * block) place) (calls_of count.old) }
-    {
-        let header = self.header();
-        let block = ((place / BLOCK_LEN) as usize).min(positions.len() - 1);
-        let begin = header.minimum_index as u64 + block as u64 * BLOCK_LEN as u64;
-        let mut walk = ItemIter::at(self, begin, positions[block] as usize);
-        let item = walk.nth(place - block as u32 * BLOCK_LEN, count)?;
-        let (_, end) = walk.place();
         Ok((item, end))
     }
 }

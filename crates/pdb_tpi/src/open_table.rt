@@ -149,7 +149,7 @@ impl<I: ItemIndex> OpenTable<I> {
         if number >= header.minimum_index && number < header.maximum_index {
             let place = number - header.minimum_index;
             let mut count = Count::new();
-            if let Ok((item, end)) = self.items.walk_to(&self.positions, place, &mut count) {
+            if let Ok((item, end)) = self.items.item_at(&self.positions, place, &mut count) {
                 return Ok(Some(record_before(end, item.len())));
             }
         }

@@ -39,6 +39,6 @@ returns c =
     let is : c.args.words.now ≡ c.in_ok-path.path.now ∷ c.in_ok-path.names.now = c.in_ok-path.ensures.cases.0 in
     let same : c.is_empty.result ≡ c.args.options.all =
     (booleans_Decides c.is_empty.result c.args.options.all).0 (not-false _ c.if-is_empty-options.false) in
-    rw (is, c.shown_with.ensures)
+    rw (is, c.show_options.ensures)
     (taken c.args.options c.in_ok-path.path.now.now c.in_ok-path.names.now
     (sym c.has_option.ensures ∙ c.if-has_option.false) (sym c.is_empty.ensures ∙ same))

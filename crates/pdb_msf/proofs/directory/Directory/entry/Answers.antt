@@ -31,7 +31,7 @@ returns-clause-entry c =
       size = size;
       pages = c.in_ok-pages.pages.items;
     } in entry))
-    (sym c.limited.ensures.size)
+    (sym c.limit_size.ensures.size)
 
 pub returns-clause-whole : goal.returns-clause-whole
 returns-clause-whole c =
@@ -41,7 +41,7 @@ returns-clause-whole c =
     omega (arith, counted, taken, c.in_ok-pages.pages.ok.0) in
     let there = c.in_ok-place.ensures.there in
     record {
-      reached = stream_held _ c.in_ok-place.place.size _ _ c.requires.sized whole c.limited.ensures.cut;
-      short = let cut = c.limited.ensures.cut in omega (arith, cut, there);
+      reached = stream_held _ c.in_ok-place.place.size _ _ c.requires.sized whole c.limit_size.ensures.cut;
+      short = let cut = c.limit_size.ensures.cut in omega (arith, cut, there);
       few = stream_few _ c.in_ok-place.place.size _ c.requires.sized whole there;
     }
