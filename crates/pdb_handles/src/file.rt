@@ -35,7 +35,7 @@ pub fn layout_in(alloc: Global, file: &[u8]) -> Result<Content>
 /// Reads the first stream with this name.
 ///
 /// # Errors
-/// Fails as `opened` and `named_stream` do.
+/// Fails as `open_file` and `named_stream` do.
 pub fn named_stream_in(alloc: Global, file: &[u8], name: &[u8]) -> Result<Stream>
     ensures { Answers (λ stream. stream) result (named_stream_said name.now file.now) }
 {
@@ -46,7 +46,7 @@ pub fn named_stream_in(alloc: Global, file: &[u8], name: &[u8]) -> Result<Stream
 /// Reads the address map of a file.
 ///
 /// # Errors
-/// Fails as `opened` and `address_map` do.
+/// Fails as `open_file` and `address_map` do.
 pub fn addresses_in(alloc: Global, file: &[u8]) -> Result<Content>
     ensures { Answers (λ content. content) result (addresses_said file.now) }
 {
@@ -57,7 +57,7 @@ pub fn addresses_in(alloc: Global, file: &[u8]) -> Result<Content>
 /// Reads the frame table of a file.
 ///
 /// # Errors
-/// Fails as `opened` and `frame_table` do.
+/// Fails as `open_file` and `frame_table` do.
 pub fn frames_in(alloc: Global, file: &[u8]) -> Result<Content>
     ensures { Answers (λ content. content) result (frames_said file.now) }
 {

@@ -41,7 +41,7 @@ pub struct NamedStream {
 /// Reads the numbers that identify a file.
 ///
 /// # Errors
-/// Fails as `opened` and `pdb_information` do.
+/// Fails as `open_file` and `pdb_information` do.
 pub fn information_in(alloc: Global, file: &[u8]) -> Result<Information>
     ensures { Answers (λ information. information) result (information_said file.now) }
 {
@@ -83,7 +83,7 @@ fn collect_names(alloc: Global, streams: &StreamNames<'_>) -> Result<Listing<Nam
 /// Reads the streams that a file names, for the caller.
 ///
 /// # Errors
-/// Fails as `opened`, `pdb_information` and `stream_names` do.
+/// Fails as `open_file`, `pdb_information` and `stream_names` do.
 pub fn stream_names_in(alloc: Global, file: &[u8]) -> Result<Option<Listing<NamedStream>>>
     ensures { Answers (option_map listing_view) result (names_said file.now) }
 {

@@ -38,7 +38,7 @@ pub struct Roles {
 /// Reads from a file the numbers of the streams in their roles.
 ///
 /// # Errors
-/// Fails as `opened` and `extra_streams` do.
+/// Fails as `open_file` and `extra_streams` do.
 pub fn roles_in(alloc: Global, file: &[u8]) -> Result<Roles>
     ensures { Answers (λ roles. roles) result (roles_said file.now) }
 {

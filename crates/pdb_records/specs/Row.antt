@@ -31,6 +31,6 @@ abbrev pub read_row : {A : Type 0} → Row A → List ℕ → Answer (A × List 
 read_row {A} (gives a) bytes = Ok (a, bytes)
 read_row {A} (field shape next) bytes = read_shape shape bytes >>= λ v. read_row (next v.0) v.1
 
--- the same as `read`, but unfolded only on demand
+-- the same as `read_row`, but unfolded only on demand
 unfoldable pub row : {A : Type 0} → Row A → List ℕ → Answer (A × List ℕ)
 row {A} r bytes = read_row r bytes

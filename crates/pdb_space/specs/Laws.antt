@@ -12,8 +12,8 @@ use Rattle.pdb_space.specs.Sum.{Fits, if_fits_32_bits, clip_to_32_bits, wrap_to_
 use Rattle.pdb_space.specs.Sum.{wrapped_distance_from}
 use Rattle.pdb_space.specs.SectionPlace.{SectionPlace}
 
--- A number of at most 32 bits stays as it is. For a larger number, `fitting` gives None and `clipped`
--- the largest number of 32 bits.
+-- A number of at most 32 bits stays as it is. For a larger number, `if_fits_32_bits` gives None and
+-- `clip_to_32_bits` the largest number of 32 bits.
 pub record IsCutToFit (number : ℕ) : Type 0 where
   pub fits : Fits number → (if_fits_32_bits number ≡ Some number) × (clip_to_32_bits number ≡ number)
       × (wrap_to_32_bits number ≡ number)
