@@ -39,7 +39,7 @@ unfoldable pub type_in : ℕ → Table → Answer ReplyValue
 type_in index table = do
   item ← item_of table index
   value ← type_of index item
-  Ok (item_record index (kind_of item) (types.name_of value))
+  Ok (item_record index (kind_of item) (types.name_of_type value))
 
 -- the id of an index in a table
 unfoldable pub id_in : ℕ → Table → Answer ReplyValue
@@ -52,7 +52,7 @@ id_in index table = do
 unfoldable pub fields_in : ℕ → Table → Answer ReplyValue
 fields_in index table = do
   all ← fields_of (item_of table) index
-  Ok (fields (map types.name_of all))
+  Ok (fields (map types.name_of_type all))
 
 -- the type of an index in the table that a stream holds
 unfoldable pub type_within : ℕ → List ℕ → Answer ReplyValue

@@ -46,7 +46,7 @@ sizes_by_number count file head = filter_map (λ number. size_if_there number (s
 
 -- whether a type has a name, and this one
 abbrev pub has_name : List ℕ → Answer TypeValue → Bool
-has_name name (Ok value) = option_map_or (λ text. bytes_eq text name) (types.name_of value) false
+has_name name (Ok value) = option_map_or (λ text. bytes_eq text name) (types.name_of_type value) false
 has_name name (Err refusal) = false
 
 -- the indexes of the items of a list that have this name, of which the first has that index

@@ -1,4 +1,4 @@
-//! Test cases of whole files, and of what holds between their parts.
+//! Test cases of whole files, of what holds between their parts, and of types.
 #![tactic(auto)]
 
 #[cfg(test)]

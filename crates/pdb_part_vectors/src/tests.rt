@@ -1,4 +1,5 @@
 //! Test cases, a file a crate.
 
 mod consistency;
+mod types;
 mod validation;

@@ -23,8 +23,6 @@ mod shortcut;
 mod size;
 mod size_source;
 mod span;
-#[cfg(test)]
-mod tests;
 mod text;
 mod type_at;
 mod type_name;

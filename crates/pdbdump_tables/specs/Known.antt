@@ -5,5 +5,5 @@ use Rattle.pdbdump_tables.specs.Streams as streams
 use Rattle.pdbdump_tables.specs.declared.streams.Known.{Known}
 
 -- the same as a value, in which each name is the list of its bytes
-abbrev pub known_view : Known → streams.Known
+abbrev pub known_view : Known → streams.KnownStreams
 known_view known = record { layout = known.layout.now; roles = known.roles; names = map named_view known.names.now }

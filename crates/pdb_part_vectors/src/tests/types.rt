@@ -1,9 +1,9 @@
 //! Types of a small table. The bytes and the answers are written by hand, from the records of
 //! Microsoft's cvinfo.h.
 
-use crate::{Definitions, Gap, GapKind, Span};
 use pdb_base::{Stream, TypeIndex};
 use pdb_tpi::{OpenTable, TypeInformation};
+use pdb_types::{Definitions, Gap, GapKind, Span};
 use std::alloc::Global;
 use std::test::Fail;
 
