@@ -7,8 +7,8 @@ import random
 from pdbtest import llvm
 from pdbtest.addresses import OMAP, moved_lines
 from pdbtest.calls import call, objects_of
-from pdbtest.msf import Msf
-from pdbtest.roles import ROLES
+from pdbtest.msf import TYPES, Msf
+from pdbtest.roles import HEADER_ROLES, ROLES
 from pdbtest.tables import Leaf
 
 ADDRESSES = 40  # that are mapped, of a file
@@ -104,10 +104,12 @@ def section_row(row):
 
 
 def listed_by_llvm(file):
-    """Roles, named streams, and every section header, name, type and id."""
+    """Roles, named streams, kinds of types, and every section header, name, type and id."""
     numbers, sizes = llvm.roles(file), Msf(file.read_bytes()).sizes
+    roles = ROLES | HEADER_ROLES
     return {
-        "roles": {numbers[label]: role for role, label in ROLES.items() if label in numbers},
+        "roles": {numbers[label]: role for role, label in roles.items() if label in numbers},
+        "kinds": llvm.kinds(file),
         # A name may be of a stream that is absent, which the program passes by.
         "named": {number: name for name, number in llvm.stream_names(file).items() if sizes[number] is not None},
         "sections": [[*header[:5], header[5] & ~ALIGNMENT] for header in llvm.sections(file)],
@@ -122,8 +124,11 @@ def listed_by(tally, dumper, file):
     commands = ("summary", "sections", "names", "types", "ids")
     rows = {command: objects_of(tally, dumper, [command, "--json", file]) for command in commands}
     streams = [row for row in rows["summary"] if "stream" in row]
+    kinds = [row for row in rows["summary"] if row.get("table") == TYPES and "kind" in row]
+    roles = ROLES | HEADER_ROLES
     return {
-        "roles": {row["stream"]: row["role"] for row in streams if row.get("role") in ROLES},
+        "roles": {row["stream"]: row["role"] for row in streams if row.get("role") in roles},
+        "kinds": {row["kind"]: (row["count"], row["bytes"]) for row in kinds},
         "named": {row["stream"]: row["name"] for row in streams if "name" in row},
         "sections": list(map(section_row, rows["sections"])),
         "names": [(row["offset"], row["name"]) for row in rows["names"] if row["name"]],

@@ -112,6 +112,12 @@ def roles(file):
     return {label: int(number) for number, label in found}
 
 
+def kinds(file):
+    """How many types of each kind there are, and how many bytes they take."""
+    found = re.findall(r"^ +(LF_\w+): +([\d,]+) entries \( *([\d,]+) bytes", dump(file, "type-stats"), re.MULTILINE)
+    return {kind: (int(count.replace(",", "")), int(size.replace(",", ""))) for kind, count, size in found}
+
+
 def sections(file):
     """What is told of each section header: a name, and five numbers."""
     text, _, _ = dump(file, "section-headers").partition("Original Section Headers")

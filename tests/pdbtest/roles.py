@@ -23,6 +23,15 @@ ROLES = {
     "original_section_headers": "Section Header Original Data",
 }
 
+# The roles that the header of stream 3 and those of the tables give, and how llvm-pdbutil tells of each.
+HEADER_ROLES = {
+    "globals": "Global Symbol Hash",
+    "publics": "Public Symbol Hash",
+    "symbol_records": "Symbol Records",
+    "type_hashes": "TPI Hash",
+    "id_hashes": "IPI Hash",
+}
+
 OLD_SECTIONS = b".old".ljust(8, b"\0") + words_of([0x123, 0x1000, 0x200, 0x400, 0, 0, 0, 0x60000020])
 
 

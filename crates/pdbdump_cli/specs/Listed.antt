@@ -3,10 +3,11 @@ use Rattle.std.specs.Prelude.{◌≡◌, ◌⊎◌, ℕ, List, Option, Some, Non
 use Rattle.pdb_base.specs.declared.error.Error.{Error}
 use Rattle.pdb_base.specs.declared.error.Error.TheVariants.{OutOfMemory}
 use Rattle.pdb_base.specs.Refusal.{refusal_of}
-use Rattle.pdbdump_tables.specs.Lines.{type_line, id_line, type_lines_at, id_lines_at}
+use Rattle.pdbdump_tables.specs.Lines.{id_line, id_lines_at, placed_line, type_line, type_lines_at}
 use Rattle.pdbdump_tables.specs.Listed as records
 use Rattle.pdbdump_tables.specs.Given.{map_in}
 use Rattle.pdbdump_tables.specs.Mapped.{IsMapped}
+use Rattle.pdb_file.specs.File.{id_stream, type_stream}
 use Rattle.pdb_msf.specs.File.{stream_of}
 use Rattle.pdb_msf.specs.Header.{Head, file_head}
 use Rattle.pdbdump_rows.specs.declared.form.Form.{Form}
@@ -17,31 +18,24 @@ use Rattle.pdbdump_tables.specs.Listing.{IsListed}
 use Rattle.pdbdump_cli.specs.declared.command.Command.{Command}
 use Rattle.pdbdump_cli.specs.declared.command.Command.TheVariants as commands
 
--- the numbers of the streams of types and of ids, which are used if none is given
-abbrev pub type_stream : ℕ
-type_stream = 2
-
-abbrev pub id_stream : ℕ
-id_stream = 4
-
 -- The table in a stream is listed, as the bytes of the stream determine; or the stream is refused, or memory
 -- for it, and nothing is written.
-pub data IsListedIn (listed : List ℕ → OutputState → OutputState → Result (Unit {0}) Error → Type 0) (file : List ℕ)
-    (head : Head) (n : ℕ) (out out' : OutputState) (result : Result (Unit {0}) Error) : Type 0 where
-  read : (stream : List ℕ) → stream_of file head n None ≡ Ok stream → listed stream out out' result
+pub data IsListedIn (listed : ℕ → List ℕ → OutputState → OutputState → Result (Unit {0}) Error → Type 0)
+    (file : List ℕ) (head : Head) (n : ℕ) (out out' : OutputState) (result : Result (Unit {0}) Error) : Type 0 where
+  read : (stream : List ℕ) → stream_of file head n None ≡ Ok stream → listed n stream out out' result
       → IsListedIn listed file head n out out' result
   unread : (fault : Error) → result ≡ Err fault → (stream_of file head n None ≡ Err (refusal_of fault))
       ⊎ (fault ≡ OutOfMemory) → out' ≡ out → IsListedIn listed file head n out out' result
 
 -- the types of a table, or the one of an index
-abbrev pub AreTypes : Form → Option ℕ → List ℕ → OutputState → OutputState → Result (Unit {0}) Error → Type 0
-AreTypes form None stream = records.IsTableListed (type_line form) stream
-AreTypes form (Some index) stream = records.IsShown (type_lines_at form index stream)
+abbrev pub AreTypes : Form → Option ℕ → ℕ → List ℕ → OutputState → OutputState → Result (Unit {0}) Error → Type 0
+AreTypes form None n stream = records.IsTableListed (placed_line (type_line form) n) stream
+AreTypes form (Some index) n stream = records.IsShown (type_lines_at form n index stream)
 
 -- the ids of a table, or the one of an index
-abbrev pub AreIds : Form → Option ℕ → List ℕ → OutputState → OutputState → Result (Unit {0}) Error → Type 0
-AreIds form None stream = records.IsTableListed (id_line form) stream
-AreIds form (Some index) stream = records.IsShown (id_lines_at form index stream)
+abbrev pub AreIds : Form → Option ℕ → ℕ → List ℕ → OutputState → OutputState → Result (Unit {0}) Error → Type 0
+AreIds form None n stream = records.IsTableListed (placed_line (id_line form) n) stream
+AreIds form (Some index) n stream = records.IsShown (id_lines_at form n index stream)
 
 -- what a command does with a file with this header
 abbrev pub DoesIn : Form → Command → List ℕ → Head → OutputState → OutputState → Result (Unit {0}) Error → Type 0

@@ -5,6 +5,7 @@ ghost use Rattle.pdbdump_cli.specs.Listed.{AreIds, AreTypes, Does, DoesIn, IsLis
 
 use crate::command::Command;
 use pdb_container::{PDB, Result};
+use pdb_file::{ID_STREAM, TYPE_STREAM};
 use pdb_output::Output;
 use pdbdump_rows::Form;
 use pdbdump_tables::{
@@ -13,12 +14,6 @@ use pdbdump_tables::{
 };
 use std::alloc::Global;
 use std::io::Write;
-
-/// The number of the stream of types, if none is given.
-const TYPE_STREAM: u32 = 2;
-
-/// The number of the stream of ids, if none is given.
-const ID_STREAM: u32 = 4;
 
 /// Lists the types of the table in a stream, or only the one of an index.
 fn list_types<W: Write>(
@@ -34,8 +29,8 @@ fn list_types<W: Write>(
 {
     match file.into_msf().into_stream(alloc, number, None) {
         Ok(stream) => match index {
-            Some(index) => type_at(alloc, stream, index, form, out),
-            None => types(alloc, stream, form, out),
+            Some(index) => type_at(alloc, stream, number, index, form, out),
+            None => types(alloc, stream, number, form, out),
         },
         Err(fault) => Err(fault),
     }
@@ -55,8 +50,8 @@ fn list_ids<W: Write>(
 {
     match file.into_msf().into_stream(alloc, number, None) {
         Ok(stream) => match index {
-            Some(index) => id_at(alloc, stream, index, form, out),
-            None => ids(alloc, stream, form, out),
+            Some(index) => id_at(alloc, stream, number, index, form, out),
+            None => ids(alloc, stream, number, form, out),
         },
         Err(fault) => Err(fault),
     }

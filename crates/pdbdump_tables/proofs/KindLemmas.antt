@@ -1,7 +1,7 @@
 -- Kinds that are sorted by how frequent they are.
 use Rattle.std.proofs.Common.{◌≡◌, inl, inr, ℕ, zero, suc, ◌+◌, ◌-◌, ◌<◌, ◌≤◌, ◌==◌, ◌&&◌, not, Bool, true, false, List}
 use Rattle.std.proofs.Common.{[], ◌∷◌, ◌++◌, length, get_or, refl, sym, ap, subst, ◌∙◌, arith, append_assoc, eq-eqb}
-use Rattle.std.specs.Prelude.{filter}
+use Rattle.std.specs.Prelude.{filter, map}
 use Rattle.std.specs.List.{All, range_with_len}
 use Rattle.std.specs.List.Sorted.{IsPermutation}
 use Rattle.std.specs.Ordering.{is_lt, nat_cmp}
@@ -9,17 +9,12 @@ use Rattle.std.proofs.lemmas.Bool.{cases_Bool, eqb-true, eqb-false, ne_eqb}
 use Rattle.std.proofs.lemmas.Bool.Decides.{nat_tests}
 use Rattle.std.proofs.lemmas.List.{append-nil}
 use Rattle.std.proofs.lemmas.List.Sorted.{All-permutation}
-use Rattle.pdbdump_tables.specs.Kinds.{count_of, equally, kinds_of, of_count, occurring_kinds, by_frequency}
+use Rattle.pdbdump_tables.specs.Kinds.{by_frequency, counted_kind, kinds_of, occurring_kinds}
 use Rattle.pdbdump_tables.specs.declared.kinds.KindCount.{KindCount}
 
 -- the kinds of which there are so many
 abbrev of : ℕ → List KindCount → List KindCount
 of n kinds = filter (λ kind. kind.count == n) kinds
-
--- those of each count, from one down to 1
-abbrev grouped : ℕ → List KindCount → List KindCount
-grouped zero kinds = []
-grouped (suc most) kinds = of (suc most) kinds ++ grouped most kinds
 
 -- each kind has some, and at most so many
 abbrev Within : ℕ → List KindCount → Type 0
@@ -40,7 +35,8 @@ of_none n most (kind ∷ kinds) within above =
 
 -- a kind that has more is not among those of so many
 grouped_above : (most : ℕ) (kind : KindCount) (kinds : List KindCount) → most < kind.count
-    → grouped most (kind ∷ kinds) ≡ grouped most kinds
+    → by_frequency most (kind ∷ kinds) ≡ by_frequency most kinds
+unfolding by_frequency
 grouped_above zero kind kinds above = refl
 grouped_above (suc most) kind kinds above =
     let other : (kind.count == suc most) ≡ false =
@@ -50,7 +46,8 @@ grouped_above (suc most) kind kinds above =
 
 -- a kind that has the most stands first
 grouped_first : (most : ℕ) (kind : KindCount) (kinds : List KindCount) → 0 < kind.count → kind.count ≤ most
-    → Within kind.count kinds → grouped most (kind ∷ kinds) ≡ kind ∷ grouped most kinds
+    → Within kind.count kinds → by_frequency most (kind ∷ kinds) ≡ kind ∷ by_frequency most kinds
+unfolding by_frequency
 grouped_first zero kind kinds some within below = absurd (omega (arith, some, within))
 grouped_first (suc most) kind kinds some within below = elim (cases_Bool (kind.count == suc most)) [
   | inl same ↦
@@ -61,17 +58,18 @@ grouped_first (suc most) kind kinds some within below = elim (cases_Bool (kind.c
       let isnt : kind.count ≡ suc most → ⊥ = eqb-false kind.count (suc most) other in
       let less : kind.count < suc most = omega (arith, within, isnt) in
       let none : of (suc most) kinds ≡ [] = of_none (suc most) kind.count kinds below less in
-      rw other (ap (λ (front : List KindCount). front ++ grouped most (kind ∷ kinds)) none
+      rw other (ap (λ (front : List KindCount). front ++ by_frequency most (kind ∷ kinds)) none
       ∙ grouped_first most kind kinds some (omega (arith, less)) below
-      ∙ ap (λ (front : List KindCount). kind ∷ (front ++ grouped most kinds)) (sym none))
+      ∙ ap (λ (front : List KindCount). kind ∷ (front ++ by_frequency most kinds)) (sym none))
 ]
 
-grouped_none : (most : ℕ) → grouped most [] ≡ []
+grouped_none : (most : ℕ) → by_frequency most [] ≡ []
+unfolding by_frequency
 grouped_none zero = refl
 grouped_none (suc most) = grouped_none most
 
 -- kinds that fall are grouped
-grouped_all : (most : ℕ) (kinds : List KindCount) → Within most kinds → Falls kinds → grouped most kinds ≡ kinds
+grouped_all : (most : ℕ) (kinds : List KindCount) → Within most kinds → Falls kinds → by_frequency most kinds ≡ kinds
 grouped_all most [] within falls = grouped_none most
 grouped_all most (kind ∷ kinds) within falls =
     grouped_first most kind kinds within.0 within.1 falls.0
@@ -79,39 +77,12 @@ grouped_all most (kind ∷ kinds) within falls =
 
 -- lists that have the same kinds of each count are grouped alike
 grouped_same : (most : ℕ) (kinds others : List KindCount) → ((n : ℕ) → of n kinds ≡ of n others)
-    → grouped most kinds ≡ grouped most others
+    → by_frequency most kinds ≡ by_frequency most others
+unfolding by_frequency
 grouped_same zero kinds others same = refl
 grouped_same (suc most) kinds others same =
-    ap (λ (front : List KindCount). front ++ grouped most kinds) (same (suc most))
+    ap (λ (front : List KindCount). front ++ by_frequency most kinds) (same (suc most))
     ∙ ap (λ (rest : List KindCount). of (suc most) others ++ rest) (grouped_same most kinds others same)
-
-of_present : (count : ℕ → ℕ) (n : ℕ) (leaves : List ℕ)
-    → of (suc n) (occurring_kinds count leaves) ≡ equally count (suc n) leaves
-of_present count n [] = refl
-of_present count n (leaf ∷ leaves) = elim (cases_Bool (count leaf == 0)) [
-  | inl none ↦
-      let is : count leaf ≡ 0 = eqb-true (count leaf) 0 none in
-      let other : (count leaf == suc n) ≡ false =
-      ne_eqb (count leaf) (suc n) (λ same. absurd (omega (arith, is, same))) in
-      rw (none, other) (of_present count n leaves)
-  | inr some ↦ elim (cases_Bool (count leaf == suc n)) [
-    | inl same ↦
-        let is : count leaf ≡ suc n = eqb-true (count leaf) (suc n) same in
-        rw (some, same) (ap (λ (m : ℕ). of_count m leaf ∷ of (suc n) (occurring_kinds count leaves)) is
-        ∙ ap (λ (rest : List KindCount). of_count (suc n) leaf ∷ rest) (of_present count n leaves))
-    | inr other ↦ rw (some, other) (of_present count n leaves)
-  ]
-]
-
-grouped_present : (count : ℕ → ℕ) (most : ℕ)
-    → grouped most (occurring_kinds count (range_with_len 0 0x10000)) ≡ by_frequency count most
-unfolding by_frequency
-grouped_present count zero = refl
-grouped_present count (suc most) =
-    ap (λ (front : List KindCount). front ++ grouped most (occurring_kinds count (range_with_len 0 0x10000)))
-    (of_present count most (range_with_len 0 0x10000))
-    ∙ ap (λ (rest : List KindCount). equally count (suc most) (range_with_len 0 0x10000) ++ rest)
-    (grouped_present count most)
 
 -- ---- what a sort says
 
@@ -162,17 +133,18 @@ ties a b = not (is_above a b) && not (is_above b a)
 of_tied : (kinds others : List KindCount) → ((kind : KindCount) → filter (ties kind) kinds ≡ filter (ties kind) others)
     → (n : ℕ) → of n kinds ≡ of n others
 of_tied kinds others stable n =
-    let tied = filter_same (ties (of_count n 0)) (λ kind. kind.count == n) (λ kind. ties_same n kind.count) in
-    sym (tied kinds) ∙ stable (of_count n 0) ∙ tied others
+    let one : KindCount = record { leaf = 0; count = n; bytes = 0 } in
+    let tied = filter_same (ties one) (λ kind. kind.count == n) (λ kind. ties_same n kind.count) in
+    sym (tied kinds) ∙ stable one ∙ tied others
 
-present_within : (count : ℕ → ℕ) (most : ℕ) (leaves : List ℕ) → ((leaf : ℕ) → count leaf ≤ most)
-    → Within most (occurring_kinds count leaves)
-present_within count most [] few = tt
-present_within count most (leaf ∷ leaves) few = elim (cases_Bool (count leaf == 0)) [
-  | inl none ↦ rw none (present_within count most leaves few)
+present_within : (counted : ℕ → KindCount) (most : ℕ) (leaves : List ℕ) → ((leaf : ℕ) → (counted leaf).count ≤ most)
+    → Within most (occurring_kinds counted leaves)
+present_within counted most [] few = tt
+present_within counted most (leaf ∷ leaves) few = elim (cases_Bool ((counted leaf).count == 0)) [
+  | inl none ↦ rw none (present_within counted most leaves few)
   | inr some ↦
-      let isnt : count leaf ≡ 0 → ⊥ = eqb-false (count leaf) 0 some in
-      rw some (omega (arith, isnt), few leaf, present_within count most leaves few)
+      let isnt : (counted leaf).count ≡ 0 → ⊥ = eqb-false (counted leaf).count 0 some in
+      rw some (omega (arith, isnt), few leaf, present_within counted most leaves few)
 ]
 
 all_within : (most : ℕ) (kinds : List KindCount) → Within most kinds
@@ -182,99 +154,89 @@ all_within most (kind ∷ kinds) within zero d below = (within.0, within.1)
 all_within most (kind ∷ kinds) within (suc k) d below = all_within most kinds within.2 k d (omega (arith, below))
 
 -- the kinds that there are, sorted by how frequent they are, and where they are equally frequent as before
-pub ranked_sorted : (count : ℕ → ℕ) (most : ℕ) (all kinds : List KindCount) → ((leaf : ℕ) → count leaf ≤ most)
-    → all ≡ occurring_kinds count (range_with_len 0 0x10000) → IsPermutation all kinds
+pub ranked_sorted : (counted : ℕ → KindCount) (most : ℕ) (all kinds : List KindCount)
+    → ((leaf : ℕ) → (counted leaf).count ≤ most)
+    → all ≡ occurring_kinds counted (range_with_len 0 0x10000) → IsPermutation all kinds
     → ((k : ℕ) (d : KindCount) → 0 ≤ k → k + 1 < length kinds
     → is_above (get_or kinds (k + 1) d) (get_or kinds k d) ≡ false)
-    → ((kind : KindCount) → filter (ties kind) kinds ≡ filter (ties kind) all) → kinds ≡ by_frequency count most
-ranked_sorted count most all kinds few is moved up stable =
+    → ((kind : KindCount) → filter (ties kind) kinds ≡ filter (ties kind) all)
+    → kinds ≡ by_frequency most (occurring_kinds counted (range_with_len 0 0x10000))
+ranked_sorted counted most all kinds few is moved up stable =
     let leaves : List ℕ = range_with_len 0 0x10000 in
     let within : Within most kinds =
     within_all most kinds (All-permutation (λ (kind : KindCount). (0 < kind.count)
     × (kind.count ≤ most)) all kinds moved (all_within most all
-    (subst (Within most) (sym is) (present_within count most leaves few)))) in
+    (subst (Within most) (sym is) (present_within counted most leaves few)))) in
     let falls : Falls kinds = falls_from most kinds within
     (λ k d below. not_above (get_or kinds k d).count (get_or kinds (k + 1) d).count (up k d (omega arith) below)) in
     sym (grouped_all most kinds within falls) ∙ grouped_same most kinds all (of_tied kinds all stable)
-    ∙ ap (grouped most) is ∙ grouped_present count most
+    ∙ ap (by_frequency most) is
 
 -- ---- the kinds that there are, leaf by leaf
 
-abbrev behind : (ℕ → ℕ) → ℕ → ℕ → List KindCount
-behind count all at = occurring_kinds count (range_with_len at (all - at))
+abbrev behind : (ℕ → KindCount) → ℕ → ℕ → List KindCount
+behind counted all at = occurring_kinds counted (range_with_len at (all - at))
 
-present_next : (count : ℕ → ℕ) (all at : ℕ) → at < all
-    → behind count all at ≡ occurring_kinds count (at ∷ range_with_len (at + 1) (all - (at + 1)))
-present_next count all at within =
+present_next : (counted : ℕ → KindCount) (all at : ℕ) → at < all
+    → behind counted all at ≡ occurring_kinds counted (at ∷ range_with_len (at + 1) (all - (at + 1)))
+present_next counted all at within =
     let left : all - at ≡ suc (all - (at + 1)) = omega (arith, within) in
     rw left refl
 
 -- before the first leaf
-pub present_first : (count : ℕ → ℕ) (all : ℕ) (kinds : List KindCount) → kinds ≡ [] → kinds
-    ++ occurring_kinds count (range_with_len 0 (all - 0)) ≡ occurring_kinds count (range_with_len 0 all)
-present_first count all kinds none =
+pub present_first : (counted : ℕ → KindCount) (all : ℕ) (kinds : List KindCount) → kinds ≡ [] → kinds
+    ++ occurring_kinds counted (range_with_len 0 (all - 0)) ≡ occurring_kinds counted (range_with_len 0 all)
+present_first counted all kinds none =
     let same : all - 0 ≡ all = omega arith in
-    ap (λ (front : List KindCount). front ++ occurring_kinds count (range_with_len 0 (all - 0))) none
-    ∙ ap (λ (n : ℕ). occurring_kinds count (range_with_len 0 n)) same
+    ap (λ (front : List KindCount). front ++ occurring_kinds counted (range_with_len 0 (all - 0))) none
+    ∙ ap (λ (n : ℕ). occurring_kinds counted (range_with_len 0 n)) same
 
 -- one kind more
-pub present_more : (count : ℕ → ℕ) (all at : ℕ) (kinds more whole : List KindCount) → at < all → (count at ≡ 0 → ⊥)
-    → more ≡ kinds ++ of_count (count at) at ∷ []
-    → kinds ++ occurring_kinds count (range_with_len at (all - at)) ≡ whole → more
-    ++ occurring_kinds count (range_with_len (at + 1) (all - (at + 1))) ≡ whole
-present_more count all at kinds more whole within some is before =
-    let test : (count at == 0) ≡ false = ne_eqb (count at) 0 some in
-    let here : occurring_kinds count (at ∷ range_with_len (at + 1) (all - (at + 1))) ≡ of_count (count at) at
-    ∷ behind count all (at + 1) = rw test refl in
-    ap (λ (front : List KindCount). front ++ behind count all (at + 1)) is
-    ∙ append_assoc kinds (of_count (count at) at ∷ []) (behind count all (at + 1))
-    ∙ ap (λ (rest : List KindCount). kinds ++ rest) (sym here ∙ sym (present_next count all at within)) ∙ before
+pub present_more : (counted : ℕ → KindCount) (all at : ℕ) (kinds more whole : List KindCount) → at < all
+    → ((counted at).count ≡ 0 → ⊥) → more ≡ kinds ++ counted at ∷ []
+    → kinds ++ occurring_kinds counted (range_with_len at (all - at)) ≡ whole → more
+    ++ occurring_kinds counted (range_with_len (at + 1) (all - (at + 1))) ≡ whole
+present_more counted all at kinds more whole within some is before =
+    let test : ((counted at).count == 0) ≡ false = ne_eqb (counted at).count 0 some in
+    let here : occurring_kinds counted (at ∷ range_with_len (at + 1) (all - (at + 1))) ≡ counted at
+    ∷ behind counted all (at + 1) = rw test refl in
+    ap (λ (front : List KindCount). front ++ behind counted all (at + 1)) is
+    ∙ append_assoc kinds (counted at ∷ []) (behind counted all (at + 1))
+    ∙ ap (λ (rest : List KindCount). kinds ++ rest) (sym here ∙ sym (present_next counted all at within)) ∙ before
 
 -- a leaf that is no kind
-pub present_none : (count : ℕ → ℕ) (all at : ℕ) (kinds more whole : List KindCount) → at < all → count at ≡ 0
-    → more ≡ kinds → kinds ++ occurring_kinds count (range_with_len at (all - at)) ≡ whole
-    → more ++ occurring_kinds count (range_with_len (at + 1) (all - (at + 1))) ≡ whole
-present_none count all at kinds more whole within none is before =
-    let test : (count at == 0) ≡ true = eq-eqb (count at) 0 none in
-    let here : occurring_kinds count (at ∷ range_with_len (at + 1) (all - (at + 1))) ≡ behind count all (at + 1) =
+pub present_none : (counted : ℕ → KindCount) (all at : ℕ) (kinds more whole : List KindCount) → at < all
+    → (counted at).count ≡ 0 → more ≡ kinds → kinds ++ occurring_kinds counted (range_with_len at (all - at)) ≡ whole
+    → more ++ occurring_kinds counted (range_with_len (at + 1) (all - (at + 1))) ≡ whole
+present_none counted all at kinds more whole within none is before =
+    let test : ((counted at).count == 0) ≡ true = eq-eqb (counted at).count 0 none in
+    let here : occurring_kinds counted (at ∷ range_with_len (at + 1) (all - (at + 1))) ≡ behind counted all (at + 1) =
     rw test refl in
-    ap (λ (front : List KindCount). front ++ behind count all (at + 1)) is
-    ∙ ap (λ (rest : List KindCount). kinds ++ rest) (sym here ∙ sym (present_next count all at within)) ∙ before
+    ap (λ (front : List KindCount). front ++ behind counted all (at + 1)) is
+    ∙ ap (λ (rest : List KindCount). kinds ++ rest) (sym here ∙ sym (present_next counted all at within)) ∙ before
 
 -- no leaf is left
-pub present_end : (count : ℕ → ℕ) (all at : ℕ) (kinds whole : List KindCount) → all ≤ at → kinds
-    ++ occurring_kinds count (range_with_len at (all - at)) ≡ whole → kinds ≡ whole
-present_end count all at kinds whole over before =
+pub present_end : (counted : ℕ → KindCount) (all at : ℕ) (kinds whole : List KindCount) → all ≤ at → kinds
+    ++ occurring_kinds counted (range_with_len at (all - at)) ≡ whole → kinds ≡ whole
+present_end counted all at kinds whole over before =
     let none : all - at ≡ 0 = omega (arith, over) in
-    sym (append-nil kinds) ∙ ap (λ (n : ℕ). kinds ++ occurring_kinds count (range_with_len at n)) (sym none) ∙ before
+    sym (append-nil kinds) ∙ ap (λ (n : ℕ). kinds ++ occurring_kinds counted (range_with_len at n)) (sym none) ∙ before
 
 -- ---- kinds of records
 
-equally_same : (count other : ℕ → ℕ) (n end leaf most : ℕ) → leaf + most ≤ end → ((l : ℕ) → l < end → count l ≡ other l)
-    → equally count n (range_with_len leaf most) ≡ equally other n (range_with_len leaf most)
-equally_same count other n end leaf zero within same = refl
-equally_same count other n end leaf (suc most) within same =
-    let here : (count leaf == n) ≡ (other leaf == n) = ap (λ (m : ℕ). m == n) (same leaf (omega (arith, within))) in
-    let rest = equally_same count other n end (leaf + 1) most (omega (arith, within)) same in
-    elim (cases_Bool (other leaf == n)) [
-      | inl is ↦ let first : (count leaf == n) ≡ true = here ∙ is in
-          rw (first, is) (ap (λ (kinds : List KindCount). of_count n leaf ∷ kinds) rest)
-      | inr isnt ↦ let first : (count leaf == n) ≡ false = here ∙ isnt in rw (first, isnt) rest
-    ]
-
--- counts that agree rank the same
-pub ranked_same : (count other : ℕ → ℕ) (most : ℕ) → ((l : ℕ) → l < 0x10000 → count l ≡ other l)
-    → by_frequency count most ≡ by_frequency other most
-unfolding by_frequency
-ranked_same count other zero same = refl
-ranked_same count other (suc most) same =
-    ap (λ (front : List KindCount). front ++ by_frequency count most)
-    (equally_same count other (suc most) 0x10000 0 0x10000 (omega arith) same)
-    ∙ ap (λ (rest : List KindCount). equally other (suc most) (range_with_len 0 0x10000) ++ rest)
-    (ranked_same count other most same)
+counted_same : (counted other : ℕ → KindCount) (leaf most : ℕ) → ((l : ℕ) → l < leaf + most → counted l ≡ other l)
+    → map counted (range_with_len leaf most) ≡ map other (range_with_len leaf most)
+counted_same counted other leaf zero same = refl
+counted_same counted other leaf (suc most) same =
+    ap (λ (kind : KindCount). kind ∷ map counted (range_with_len (leaf + 1) most)) (same leaf (omega arith))
+    ∙ ap (λ (kinds : List KindCount). other leaf ∷ kinds)
+    (counted_same counted other (leaf + 1) most (λ l within. same l (omega (arith, within))))
 
 -- the kinds of items are ranked by their counts
-pub kinds_by : (count : ℕ → ℕ) (items : List (List ℕ)) → ((l : ℕ) → l < 0x10000 → count l ≡ count_of items l)
-    → by_frequency count (length items) ≡ kinds_of items
+pub kinds_by : (counted : ℕ → KindCount) (items : List (List ℕ))
+    → ((l : ℕ) → l < 0x10000 → counted l ≡ counted_kind items l)
+    → by_frequency (length items) (occurring_kinds counted (range_with_len 0 0x10000)) ≡ kinds_of items
 unfolding kinds_of
-kinds_by count items same = ranked_same count (count_of items) (length items) same
+kinds_by counted items same =
+    ap (λ (kinds : List KindCount). by_frequency (length items) (filter (λ kind. not (kind.count == 0)) kinds))
+    (counted_same counted (counted_kind items) 0 0x10000 (λ l within. same l (omega (arith, within))))

@@ -5,13 +5,17 @@ use Rattle.std.proofs.Common.{take-append-drop}
 use Rattle.std.proofs.KnownBytes.{Appends-nil}
 use Rattle.std.proofs.lemmas.List.{append-nil, take_all, take_more, length-take}
 use Rattle.std.proofs.lemmas.Option.{get_or_from_slice_get}
-use Rattle.pdbdump_tables.specs.Lines.{lines_from}
+use Rattle.pdbdump_tables.specs.Lines.{lines_from, placed_line}
+use Rattle.pdbdump_tables.specs.declared.refused_record.ItemPlace.{ItemPlace}
 use Rattle.pdb_base.specs.declared.error.Error.{Error}
 use Rattle.pdb_base.specs.declared.error.Error.TheVariants.{OutOfMemory}
 use Rattle.pdbdump_tables.specs.Listed.{IsWalked, all_lines, cut, lacking, item_lines, stopped, whole}
 use Rattle.pdb_output.specs.Output.{OutputState, Gets, IsCutShort, IsFailed, Writes}
 use Rattle.pdb_output.proofs.lemmas.Written.{cut_more, second_writes}
+use Rattle.pdb_tpi.proofs.PositionLemmas.{stands_at}
 use Rattle.pdb_tpi.proofs.StepLemmas.{step_err, step_none, step_some}
+use Rattle.pdb_tpi.specs.OpenTable.{item_position}
+use Rattle.pdb_tpi.specs.Place.{IsPlace}
 use Rattle.pdb_tpi.specs.Steps.{WalkPosition, walk, walk_rest, steps_taken, IsStep}
 use Rattle.pdb_tpi.specs.Walk.{fault_of}
 use Rattle.pdb_tpi.specs.Table.{Table}
@@ -183,3 +187,19 @@ pub line_written : (mid out' : OutputState) (made written text : List ℕ) (resu
     → made ≡ text → written ≡ made → Writes written mid out' result → Writes text mid out' result
 line_written mid out' made written text result is write writes =
     subst (λ (bytes : List ℕ). Writes bytes mid out' result) (write ∙ is) writes
+
+-- ---- where a record is
+
+-- an iterator is at the byte at which the next item begins
+pub placed_next : {X : Type 0} (seen : X → ℕ × List ℕ) (line : ItemPlace → Line) (n : ℕ) (table : Table)
+    (old new : WalkPosition) (x : X) (byte : ℕ) → old.table ≡ table → IsPlace old.table old.index byte
+    → IsStep seen old (Ok (Some x)) new
+    → line (record { stream = n; byte = byte }) (seen x).0 (seen x).1
+    ≡ placed_line line n table (seen x).0 (seen x).1
+placed_next seen line n table old new x byte same place step =
+    let index : old.index ≡ (seen x).0 = (step_some seen old x new step).index in
+    let here : byte ≡ item_position table ((seen x).0 - table.header.minimum_index) =
+    stands_at old.table old.index byte place
+    ∙ ap (λ (i : ℕ). item_position old.table (i - old.table.header.minimum_index)) index
+    ∙ ap (λ (t : Table). item_position t ((seen x).0 - t.header.minimum_index)) same in
+    ap (λ (b : ℕ). line (record { stream = n; byte = b }) (seen x).0 (seen x).1) here

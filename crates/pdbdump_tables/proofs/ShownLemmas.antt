@@ -1,22 +1,20 @@
 -- What stands on a writer at each exit of showing one record.
-use Rattle.std.proofs.Common.{◌≡◌, ◌⊎◌, inl, inr, ℕ, List, [], ◌++◌, Option, Result, Ok, Err, refl, sym, ap, subst, ◌∙◌}
+use Rattle.std.proofs.Common.{◌≡◌, ◌⊎◌, inl, inr, ℕ, List, [], ◌++◌, Option, Some, None, Result, Ok}
+use Rattle.std.proofs.Common.{Err, refl, sym, ap, subst, ◌∙◌}
 use Rattle.std.proofs.lemmas.List.{append-nil}
 use Rattle.pdb_base.proofs.lemmas.Collected.{ok}
 use Rattle.pdb_base.specs.Answer.{Answer, ◌>>=◌}
-use Rattle.pdb_base.specs.Refusal.{refusal_of}
+use Rattle.pdb_base.specs.Refusal.{Refusal, refusal_of}
 use Rattle.pdb_base.specs.declared.error.Error.{Error}
 use Rattle.pdb_base.specs.declared.error.Error.TheVariants.{OutOfMemory}
-use Rattle.pdbdump_tables.specs.Lines.{id_shown, member_lines, type_shown}
+use Rattle.pdbdump_tables.specs.Lines.{id_in_full, id_shown, item_byte, refused_in_full, refused_row, type_in_full}
+use Rattle.pdbdump_tables.specs.Lines.{type_shown}
 use Rattle.pdbdump_tables.specs.Listed.{IsShown, cut_shown, lacking_shown, members_text, refused_shown, stopped_shown}
 use Rattle.pdbdump_tables.specs.Listed.{unread_shown, whole_shown}
 use Rattle.pdbdump_rows.specs.declared.form.Form.{Form}
-use Rattle.pdbdump_tables.proofs.ListingLemmas.{line_written}
 use Rattle.pdb_output.specs.Output.{OutputState, Gets, IsCutShort, IsFailed, Writes}
 use Rattle.pdb_output.proofs.lemmas.Written.{first_cut, second_writes}
-use Rattle.pdbdump_rows.specs.IdRows.{id_row}
 use Rattle.pdbdump_rows.specs.Lines.{full_text}
-use Rattle.pdbdump_rows.specs.Row.{ShownRow}
-use Rattle.pdbdump_rows.specs.TypeRows.{type_row}
 use Rattle.pdb_tpi.specs.Finder.{item_of}
 use Rattle.pdb_tpi.specs.Record.{kind_of, type_of, id_of}
 use Rattle.pdb_tpi.specs.Table.{Table}
@@ -56,14 +54,6 @@ pub then_refuses : {A B : Type 0} (answer : Answer A) (more : A → Answer B) (f
     ⊎ (fault ≡ OutOfMemory)
 then_refuses answer more fault (inl is) = inl (ap (λ a. a >>= more) is)
 then_refuses answer more fault (inr want) = inr want
-
--- what is written of the record in full, made of the kind that was read
-pub full_written : (form : Form) (row : ℕ → ShownRow) (leaf told : ℕ) (out mid : OutputState)
-    (made written : List ℕ) (result : Result (Unit {0}) Error) → told ≡ leaf → made ≡ full_text form (row told)
-    → written ≡ made → Writes written out mid result → Writes (full_text form (row leaf)) out mid result
-full_written form row leaf told out mid made written result same is write writes =
-    line_written out mid made written (full_text form (row leaf)) result
-    (is ∙ ap (λ (kind : ℕ). full_text form (row kind)) same) write writes
 
 -- lines that were appended to none
 pub behind_none : (old new lines : List ℕ) → old ≡ [] → new ≡ old ++ lines → new ≡ lines
@@ -110,50 +100,65 @@ pub shows_table : (answer : Answer Table) (more : Table → Meant) (table : Tabl
 shows_table answer more table out out' result is shown =
     subst (λ (given : Answer Table). IsShown (given >>= more) out out' result) (sym is) shown
 
+-- what is meant, said in other words
+pub shown_as : (meant other : Meant) (out out' : OutputState) (result : Result (Unit {0}) Error) → meant ≡ other
+    → IsShown other out out' result → IsShown meant out out' result
+shown_as meant other out out' result same shown =
+    subst (λ (m : Meant). IsShown m out out' result) (sym same) shown
+
 -- ---- types
 
-pub type_unfound : (form : Form) (index : ℕ) (table : Table) (fault : Error)
+pub type_unfound : (form : Form) (n index : ℕ) (table : Table) (fault : Error)
     → (item_of table index ≡ Err (refusal_of fault)) ⊎ (fault ≡ OutOfMemory)
-    → (type_shown form index table ≡ Err (refusal_of fault)) ⊎ (fault ≡ OutOfMemory)
+    → (type_shown form n index table ≡ Err (refusal_of fault)) ⊎ (fault ≡ OutOfMemory)
 unfolding type_shown
-type_unfound form index table fault refused = then_refuses (item_of table index) _ fault refused
+type_unfound form n index table fault refused = then_refuses (item_of table index) _ fault refused
 
-pub type_unparsed : (form : Form) (index i : ℕ) (table : Table) (item : List ℕ) (fault : Error)
-    → item_of table index ≡ Ok item → i ≡ index → (type_of i item ≡ Err (refusal_of fault)) ⊎ (fault ≡ OutOfMemory)
-    → (type_shown form index table ≡ Err (refusal_of fault)) ⊎ (fault ≡ OutOfMemory)
+pub type_found : (form : Form) (n index i : ℕ) (table : Table) (item : List ℕ) (answer : Answer TypeValue)
+    → item_of table index ≡ Ok item → i ≡ index → type_of i item ≡ answer
+    → type_shown form n index table ≡ type_in_full form n table index (kind_of item) answer
 unfolding type_shown
-type_unparsed form index i table item fault found same (inl is) =
-    let here : type_of index item ≡ Err (refusal_of fault) = ap (λ (n : ℕ). type_of n item) (sym same) ∙ is in
-    inl (rw (found, here) refl)
-type_unparsed form index i table item fault found same (inr want) = inr want
+type_found form n index i table item answer found same is =
+    rw found (ap (type_in_full form n table index (kind_of item)) (ap (λ (k : ℕ). type_of k item) (sym same) ∙ is))
 
-pub type_meant : (form : Form) (index i : ℕ) (table : Table) (item : List ℕ) (value : TypeValue)
-    → item_of table index ≡ Ok item → i ≡ index → type_of i item ≡ Ok value
-    → type_shown form index table ≡ Ok (
-      full_text form (type_row index (kind_of item) value),
-      member_lines form table index value,
-    )
-unfolding type_shown
-type_meant form index i table item value found same is = let here : type_of index item ≡ Ok value =
-    ap (λ (n : ℕ). type_of n item) (sym same) ∙ is in rw (found, here) refl
+pub type_refused : (form : Form) (n index i : ℕ) (table : Table) (item : List ℕ) (fault : Refusal)
+    (out out' : OutputState) (result : Result (Unit {0}) Error) → item_of table index ≡ Ok item → i ≡ index
+    → type_of i item ≡ Err fault → IsShown (refused_in_full form n table index (kind_of item) fault) out out' result
+    → IsShown (type_shown form n index table) out out' result
+type_refused form n index i table item fault out out' result found same is shown =
+    shown_as (type_shown form n index table) _ out out' result (type_found form n index i table item (Err fault) found
+    same is) shown
 
 -- ---- ids
 
-pub id_unfound : (form : Form) (index : ℕ) (table : Table) (fault : Error)
+pub id_unfound : (form : Form) (n index : ℕ) (table : Table) (fault : Error)
     → (item_of table index ≡ Err (refusal_of fault)) ⊎ (fault ≡ OutOfMemory)
-    → (id_shown form index table ≡ Err (refusal_of fault)) ⊎ (fault ≡ OutOfMemory)
+    → (id_shown form n index table ≡ Err (refusal_of fault)) ⊎ (fault ≡ OutOfMemory)
 unfolding id_shown
-id_unfound form index table fault refused = then_refuses (item_of table index) _ fault refused
+id_unfound form n index table fault refused = then_refuses (item_of table index) _ fault refused
 
-pub id_unparsed : (form : Form) (index : ℕ) (table : Table) (item : List ℕ) (fault : Error)
-    → item_of table index ≡ Ok item → (id_of item ≡ Err (refusal_of fault)) ⊎ (fault ≡ OutOfMemory)
-    → (id_shown form index table ≡ Err (refusal_of fault)) ⊎ (fault ≡ OutOfMemory)
+pub id_found : (form : Form) (n index : ℕ) (table : Table) (item : List ℕ) (answer : Answer IdValue)
+    → item_of table index ≡ Ok item → id_of item ≡ answer
+    → id_shown form n index table ≡ id_in_full form n table index (kind_of item) answer
 unfolding id_shown
-id_unparsed form index table item fault found (inl is) = inl (rw (found, is) refl)
-id_unparsed form index table item fault found (inr want) = inr want
+id_found form n index table item answer found is =
+    rw found (ap (id_in_full form n table index (kind_of item)) is)
 
-pub id_meant : (form : Form) (index : ℕ) (table : Table) (item : List ℕ) (value : IdValue)
-    → item_of table index ≡ Ok item → id_of item ≡ Ok value
-    → id_shown form index table ≡ Ok (full_text form (id_row index (kind_of item) value), Ok [])
-unfolding id_shown
-id_meant form index table item value found is = rw (found, is) refl
+pub id_refused : (form : Form) (n index : ℕ) (table : Table) (item : List ℕ) (fault : Refusal)
+    (out out' : OutputState) (result : Result (Unit {0}) Error) → item_of table index ≡ Ok item
+    → id_of item ≡ Err fault → IsShown (refused_in_full form n table index (kind_of item) fault) out out' result
+    → IsShown (id_shown form n index table) out out' result
+id_refused form n index table item fault out out' result found is shown =
+    shown_as (id_shown form n index table) _ out out' result (id_found form n index table item (Err fault) found is)
+    shown
+
+-- ---- records that are refused
+
+pub refused_at : (form : Form) (n index leaf byte : ℕ) (table : Table) (fault : Refusal)
+    → Some byte ≡ item_byte table index → refused_in_full form n table index leaf fault
+    ≡ Ok (full_text form (refused_row (record { stream = n; byte = byte }) index leaf fault), Err fault)
+refused_at form n index leaf byte table fault at = rw (sym at) refl
+
+pub refused_nowhere : (form : Form) (n index leaf : ℕ) (table : Table) (fault : Refusal)
+    → None ≡ item_byte table index → refused_in_full form n table index leaf fault ≡ Err fault
+refused_nowhere form n index leaf table fault at = rw (sym at) refl

@@ -1,7 +1,7 @@
--- What a summary shows of a table: how many records of each kind it has.
+-- What a summary shows of a table: how many records of each kind it has, and how many bytes these take.
 use Rattle.std.specs.Prelude.{ℕ, zero, suc, ◌+◌, ◌==◌, ◌&&◌, not, Bool, true, false, if◌then◌else◌, List, [], ◌∷◌, ◌++◌}
-use Rattle.std.specs.Prelude.{length, map, filter, codes, count_by, Option, None, Some, Ok, Err}
-use Rattle.std.specs.List.{flat_map, range_with_len}
+use Rattle.std.specs.Prelude.{length, map, filter, codes, Option, None, Some, Ok, Err}
+use Rattle.std.specs.List.{flat_map, range_with_len, sum_by}
 use Rattle.pdb_base.specs.Answer.{Answer, ◌>>=◌}
 use Rattle.pdb_base.specs.Refusal.{Refusal}
 use Rattle.pdb_msf.specs.File.{stream_of}
@@ -14,38 +14,40 @@ use Rattle.pdbdump_rows.specs.Row as rows
 use Rattle.pdbdump_tables.specs.Refused.{refused_line}
 use Rattle.pdbdump_tables.specs.declared.kinds.KindCount.{KindCount}
 use Rattle.pdbdump_tables.specs.declared.parts.Part.TheVariants as parts
+use Rattle.pdb_tpi.specs.OpenTable.{item_size}
 use Rattle.pdb_tpi.specs.Record.{kind_of, type_of}
 use Rattle.pdb_tpi.specs.Steps.{walk, walk_rest}
 use Rattle.pdb_tpi.specs.Table.{Table, table_of}
 use Rattle.pdb_tpi.specs.Walk.{fault_of}
+use Rattle.pdb_tpi.specs.declared.header.Header.{Header}
 use Rattle.pdb_values.specs.TypeValue.{TypeValue}
 use Rattle.pdb_values.specs.TypeValue as values
 
--- the number of items of a kind
-abbrev pub count_of : List (List ℕ) → ℕ → ℕ
-count_of items leaf = count_by (λ item. kind_of item == leaf) items
+-- the items of a kind
+abbrev pub items_of_kind : ℕ → List (List ℕ) → List (List ℕ)
+items_of_kind leaf items = filter (λ item. kind_of item == leaf) items
 
--- a kind, and how often it occurs
-abbrev pub of_count : ℕ → ℕ → KindCount
-of_count n leaf = record { leaf = leaf; count = n }
+-- a kind, with the number of its items and the number of bytes that these take, their lengths included
+abbrev pub counted_kind : List (List ℕ) → ℕ → KindCount
+counted_kind items leaf = record {
+  leaf = leaf;
+  count = length (items_of_kind leaf items);
+  bytes = sum_by item_size (items_of_kind leaf items);
+}
 
 -- the kinds that occur, in the order of their leaves
-abbrev pub occurring_kinds : (ℕ → ℕ) → List ℕ → List KindCount
-occurring_kinds count leaves = map (λ leaf. of_count (count leaf) leaf) (filter (λ leaf. not (count leaf == 0)) leaves)
+abbrev pub occurring_kinds : (ℕ → KindCount) → List ℕ → List KindCount
+occurring_kinds counted leaves = filter (λ kind. not (kind.count == 0)) (map counted leaves)
 
--- the kinds that occur `n` times, in the order of their leaves
-abbrev pub equally : (ℕ → ℕ) → ℕ → List ℕ → List KindCount
-equally count n leaves = map (of_count n) (filter (λ leaf. count leaf == n) leaves)
+-- The kinds that occur, but no more often than the first argument says: the most frequent first, and equally
+-- frequent ones in the order in which they are given.
+unfoldable pub by_frequency : ℕ → List KindCount → List KindCount
+by_frequency zero kinds = []
+by_frequency (suc most) kinds = filter (λ kind. kind.count == suc most) kinds ++ by_frequency most kinds
 
--- The kinds that occur, but no more often than the second argument says: the most frequent first, and of
--- equally frequent kinds the one with the lower leaf first. Each leaf is a number of 16 bits.
-unfoldable pub by_frequency : (ℕ → ℕ) → ℕ → List KindCount
-by_frequency count zero = []
-by_frequency count (suc most) = equally count (suc most) (range_with_len 0 0x10000) ++ by_frequency count most
-
--- the kinds of some items
+-- the kinds of some items; each leaf is a number of 16 bits
 unfoldable pub kinds_of : List (List ℕ) → List KindCount
-kinds_of items = by_frequency (count_of items) (length items)
+kinds_of items = by_frequency (length items) (occurring_kinds (counted_kind items) (range_with_len 0 0x10000))
 
 -- whether a record holds a field list that another list continues
 abbrev pub is_continued : Answer TypeValue → Bool
@@ -67,18 +69,22 @@ continued_of table = continued_from table.header.minimum_index (walk table)
 
 -- The row of a table: the number of its stream, how many records it has, the indexes that its header
 -- counts, from the minimum to below the maximum, and how many field lists are continued by others.
-abbrev pub table_shown : ℕ → ℕ → ℕ → ℕ → ℕ → ShownRow
-table_shown n records continued least end =
+abbrev pub table_shown : ℕ → ℕ → ℕ → Header → ShownRow
+table_shown n records continued header =
     (codes "table", number n)
     ∷ (codes "records", number records)
-    ∷ (codes "minimum_index", hexadecimal least)
-    ∷ (codes "maximum_index", hexadecimal end)
+    ∷ (codes "minimum_index", hexadecimal header.minimum_index)
+    ∷ (codes "maximum_index", hexadecimal header.maximum_index)
     ∷ (codes "continued_field_lists", number continued)
     ∷ []
 
--- the row of a kind of record in a table, with how many there are
+-- the row of a kind of record in a table, with how many there are and how many bytes these take
 abbrev pub kind_shown : ℕ → KindCount → ShownRow
-kind_shown n kind = (codes "table", number n) ∷ (codes "kind", rows.kind kind.leaf) ∷ (codes "count", number kind.count)
+kind_shown n kind =
+    (codes "table", number n)
+    ∷ (codes "kind", rows.kind kind.leaf)
+    ∷ (codes "count", number kind.count)
+    ∷ (codes "bytes", number kind.bytes)
     ∷ []
 
 -- the lines of kinds
@@ -98,8 +104,7 @@ stop_line form n (Some fault) = refused_line form (parts.Table n) fault
 -- the lines of a table, of its kinds, and of the fault at which its walk stops
 unfoldable pub table_lines : Form → ℕ → Table → List ℕ
 table_lines form n table =
-    row_text form (table_shown n (length (walk table))
-    (continued_of table) table.header.minimum_index table.header.maximum_index)
+    row_text form (table_shown n (length (walk table)) (continued_of table) table.header)
     ++ (kind_lines form n (kinds_of (walk table)) ++ stop_line form n (walk_stop (walk_rest table)))
 
 -- the lines of the table in a stream, or the line of its refusal

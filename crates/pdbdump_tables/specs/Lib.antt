@@ -14,3 +14,4 @@ pub mod Extracted
 pub mod Listing
 pub mod Tables
 pub mod Files
+pub mod Headers

@@ -39,10 +39,11 @@ pub data IsWalked (line : ℕ → List ℕ → List ℕ) (table : Table) (out ou
   cut : (fault : Error) → IsFailed out' fault → IsPrefix (all_lines line table) out.contents out'.contents
       → IsWalked line table out out' (Err fault)
 
--- The table that a stream holds was listed; or the stream is refused as a table, and nothing was written.
-pub data IsTableListed (line : ℕ → List ℕ → List ℕ) (stream : List ℕ) (out out' : OutputState)
+-- The table that a stream holds was listed, with a line for each item; or the stream is refused as a table, and nothing
+-- was written.
+pub data IsTableListed (line : Table → ℕ → List ℕ → List ℕ) (stream : List ℕ) (out out' : OutputState)
     (result : Result (Unit {0}) Error) : Type 0 where
-  walked : (table : Table) → table_of stream ≡ Ok table → IsWalked line table out out' result
+  walked : (table : Table) → table_of stream ≡ Ok table → IsWalked (line table) table out out' result
       → IsTableListed line stream out out' result
   refused : (fault : Error) → result ≡ Err fault → table_of stream ≡ Err (refusal_of fault) → out' ≡ out
       → IsTableListed line stream out out' result

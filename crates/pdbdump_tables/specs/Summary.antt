@@ -13,9 +13,11 @@ use Rattle.pdb_file.specs.declared.debug_header.DBIExtraStreams.{DBIExtraStreams
 use Rattle.pdbdump_rows.specs.declared.form.Form.{Form}
 use Rattle.pdbdump_rows.specs.Lines.{row_text}
 use Rattle.pdbdump_rows.specs.Row.{ShownRow, number}
+use Rattle.pdbdump_tables.specs.Headers.{headers_found}
 use Rattle.pdbdump_tables.specs.Refused.{refused_line}
 use Rattle.pdbdump_tables.specs.Kinds.{table_part}
-use Rattle.pdbdump_tables.specs.Streams.{stream_lines}
+use Rattle.pdbdump_tables.specs.Streams.{KnownStreams, stream_lines}
+use Rattle.pdbdump_tables.specs.declared.headers.Headers.{Headers}
 use Rattle.pdbdump_tables.specs.declared.parts.Part.{Part}
 use Rattle.pdbdump_tables.specs.declared.parts.Part.TheVariants as parts
 use Rattle.pdbdump_tables.specs.Listing.{Listing, whole}
@@ -67,17 +69,21 @@ no_roles = record {
 unfoldable pub streams_with_names : List ℕ → Head → Answer (List Named)
 streams_with_names file head = file_information file head >>= stream_names_of
 
+-- what is known of the streams of a file without their names
+abbrev pub unnamed_streams : LayoutValue → DBIExtraStreams → Headers → KnownStreams
+unnamed_streams layout roles headers = record { layout = layout; roles = roles; headers = headers; names = [] }
+
 -- the lines of the streams of a file, behind the line of the refusal of their names, if these are refused
-abbrev pub named_part : Form → LayoutValue → DBIExtraStreams → Answer (List Named) → List ℕ
-named_part form layout roles names =
-    refusal_line form parts.Names names
-    ++ stream_lines form (record { layout = layout; roles = roles; names = said_or [] names })
+abbrev pub named_part : Form → KnownStreams → Answer (List Named) → List ℕ
+named_part form known names =
+    refusal_line form parts.Names names ++ stream_lines form (record known { names = said_or [] names })
 
 -- the lines of the streams of a file, behind the lines of the refusals of their roles and names
 unfoldable pub streams_part : Form → LayoutValue → List ℕ → Head → List ℕ
 streams_part form layout file head =
     refusal_line form parts.Roles (file_roles file head)
-    ++ named_part form layout (said_or no_roles (file_roles file head)) (streams_with_names file head)
+    ++ named_part form (unnamed_streams layout (said_or no_roles (file_roles file head)) (headers_found file head))
+    (streams_with_names file head)
 
 -- the lines of the tables of types and of ids
 unfoldable pub tables_part : Form → List ℕ → Head → List ℕ

@@ -1,14 +1,16 @@
 //! Tables of ids.
 
+ghost use Rattle.std.specs.Prelude.{[], Ok};
 ghost use Rattle.pdb_values.specs.IdValue.{id_value};
 ghost use Rattle.pdbdump_rows.specs.IdRows.{id_row};
 ghost use Rattle.pdbdump_rows.specs.Line.{EndsLine};
 ghost use Rattle.pdbdump_rows.specs.Lines.{full_text};
-ghost use Rattle.pdbdump_tables.specs.Lines.{id_lines_at, id_line, id_shown};
+ghost use Rattle.pdbdump_tables.specs.Lines.{placed_line, id_lines_at, id_line, id_shown};
 ghost use Rattle.pdbdump_tables.specs.Listed.{IsTableListed, IsShown, IsWalked};
 
 use crate::item_line::make_id;
-use pdb_base::{FallibleIterator, IdIndex, Result, Stream};
+use crate::refused_record::{ItemPlace, write_unread};
+use pdb_base::{Error, FallibleIterator, IdIndex, Result, Stream};
 use pdb_output::Output;
 use pdb_tpi::{IdInformation, OpenTable};
 use pdb_values::IdData;
@@ -20,34 +22,48 @@ use std::io::Write;
 fn list_ids<W: Write>(
     alloc: Global,
     table: &IdInformation,
+    stream: u32,
     form: Form,
     out: &mut Output<W>,
 ) -> Result<()>
-    ensures { IsWalked (id_line form) table.now out.old out.new result }
+    ensures { IsWalked (placed_line (id_line form) stream table.now) table.now out.old out.new result }
 {
     let mut items = table.iter();
     let mut line = Line::new(alloc);
-    while let Some(item) = items.next()? {
-        make_id(alloc, form, &item, &mut line)?;
+    loop {
+        let (_, byte) = items.place();
+        let place = ItemPlace {
+            stream,
+            byte: byte as u32,
+        };
+        let Some(item) = items.next()? else {
+            return Ok(());
+        };
+        make_id(alloc, form, &item, place, &mut line)?;
         out.write(line.as_bytes())?;
     }
-    Ok(())
 }
 
 /// Writes a line for each id of the table in a stream, in the order of the table. A record that
-/// can't be parsed has a line with the error. At most one parsed record and its line are held in
-/// memory.
+/// can't be parsed has a line with the error, the number of the stream and the byte at which the
+/// record begins. At most one parsed record and its line are held in memory.
 ///
 /// # Errors
 /// Fails as `IdInformation::parse` does, before anything is written; with the error at which the
 /// table stops, after the lines of the ids before it; with `IoError` if the writer fails, after a
 /// prefix of what is meant to be written; and with `OutOfMemory` if an allocation fails, after the
 /// lines so far.
-pub fn ids<W: Write>(alloc: Global, stream: Stream, form: Form, out: &mut Output<W>) -> Result<()>
-    ensures { IsTableListed (id_line form) stream out.old out.new result }
+pub fn ids<W: Write>(
+    alloc: Global,
+    stream: Stream,
+    number: u32,
+    form: Form,
+    out: &mut Output<W>,
+) -> Result<()>
+    ensures { IsTableListed (placed_line (id_line form) number) stream out.old out.new result }
 {
     let table = IdInformation::parse(stream)?;
-    list_ids(alloc, &table, form, out)
+    list_ids(alloc, &table, number, form, out)
 }
 
 /// Makes the text of an id in full.
@@ -67,40 +83,61 @@ fn make_full(
     line.finish(added)
 }
 
-/// Looks up the id of an index in a table and writes it in full.
+/// Writes an id in full.
+fn write_value<W: Write>(
+    alloc: Global,
+    index: u32,
+    leaf: u16,
+    value: &IdData<'_>,
+    form: Form,
+    out: &mut Output<W>,
+) -> Result<()>
+    ensures { IsShown (Ok (full_text form (id_row index leaf (id_value value.now)), Ok [])) out.old out.new result }
+{
+    let mut line = Line::new(alloc);
+    make_full(alloc, form, index, leaf, value, &mut line)?;
+    out.write(line.as_bytes())?;
+    Ok(())
+}
+
+/// Looks up the id of an index in the table of a stream and writes it in full.
+#[tactic(auto, using(crate::proofs::ShownLemmas::id_refused))]
 fn write_id<W: Write>(
     alloc: Global,
     ids: &OpenTable<IdIndex>,
+    stream: u32,
     index: u32,
     form: Form,
     out: &mut Output<W>,
 ) -> Result<()>
-    ensures { IsShown (id_shown form index ids.now.table) out.old out.new result }
+    ensures { IsShown (id_shown form stream index ids.now.table) out.old out.new result }
 {
     let item = ids.item(IdIndex(index))?;
-    let value = item.parse(alloc)?;
-    let mut line = Line::new(alloc);
-    make_full(alloc, form, index, item.raw_kind(), &value, &mut line)?;
-    out.write(line.as_bytes())?;
-    Ok(())
+    match item.parse(alloc) {
+        Ok(value) => write_value(alloc, index, item.raw_kind(), &value, form, out),
+        Err(Error::OutOfMemory) => Err(Error::OutOfMemory),
+        Err(fault) => write_unread(alloc, ids, stream, &item, fault, form, out),
+    }
 }
 
 /// Looks up the id of an index in the table in a stream and writes it in full.
 ///
 /// # Errors
-/// Fails with the error of the table, the look-up or the record, before anything is written; with
-/// `OutOfMemory` if an allocation fails; and with `IoError` if the writer fails, after a prefix of
-/// what is meant to be written.
+/// Fails with the error of the table or the look-up, before anything is written; with the error of
+/// the record, after a text that says so and where the record is; with `OutOfMemory` if an
+/// allocation fails; and with `IoError` if the writer fails, after a prefix of what is meant to be
+/// written.
 pub fn id_at<W: Write>(
     alloc: Global,
     stream: Stream,
+    number: u32,
     index: u32,
     form: Form,
     out: &mut Output<W>,
 ) -> Result<()>
-    ensures { IsShown (id_lines_at form index stream) out.old out.new result }
+    ensures { IsShown (id_lines_at form number index stream) out.old out.new result }
 {
     let table = IdInformation::parse(stream)?;
     let ids = OpenTable::new(alloc, table)?;
-    write_id(alloc, &ids, index, form, out)
+    write_id(alloc, &ids, number, index, form, out)
 }

@@ -5,15 +5,20 @@ ghost use Rattle.pdbdump_tables.specs.Lines.{id_answer_row, id_line, type_answer
 ghost use Rattle.pdb_tpi.specs.Item.{item_bytes, index_of};
 ghost use Rattle.pdb_tpi.specs.Record.{id_of, kind_of, type_of};
 
-use crate::refused_record::show_refused;
+use crate::refused_record::{ItemPlace, show_refused};
 use pdb_base::{Error, IdIndex, Result, TypeIndex};
 use pdb_tpi::Item;
 use pdbdump_rows::{Form, Line, show_id, show_type};
 use std::alloc::Global;
 
 /// Adds the fields of the type of an item, or of why it can't be parsed.
-fn show_type_item(alloc: Global, item: &Item<'_, TypeIndex>, line: &mut Line) -> Result<()>
-    ensures { ShowsFields (type_answer_row (index_of item.now).0 (kind_of (item_bytes item.now))
+fn show_type_item(
+    alloc: Global,
+    item: &Item<'_, TypeIndex>,
+    place: ItemPlace,
+    line: &mut Line,
+) -> Result<()>
+    ensures { ShowsFields (type_answer_row place (index_of item.now).0 (kind_of (item_bytes item.now))
         (type_of (index_of item.now).0 (item_bytes item.now))) line.old line.new result }
 {
     let index = item.index().0;
@@ -21,7 +26,7 @@ fn show_type_item(alloc: Global, item: &Item<'_, TypeIndex>, line: &mut Line) ->
     match item.parse(alloc) {
         Ok(value) => show_type(alloc, line, index, leaf, &value),
         Err(Error::OutOfMemory) => Err(Error::OutOfMemory),
-        Err(fault) => show_refused(alloc, line, index, leaf, &fault),
+        Err(fault) => show_refused(alloc, line, index, leaf, place, &fault),
     }
 }
 
@@ -34,18 +39,24 @@ pub(crate) fn make_type(
     alloc: Global,
     form: Form,
     item: &Item<'_, TypeIndex>,
+    place: ItemPlace,
     line: &mut Line,
 ) -> Result<()>
-    ensures { EndsLine (type_line form (index_of item.now).0 (item_bytes item.now)) line.new result }
+    ensures { EndsLine (type_line form place (index_of item.now).0 (item_bytes item.now)) line.new result }
 {
     line.begin(form);
-    let added = show_type_item(alloc, item, line);
+    let added = show_type_item(alloc, item, place, line);
     line.finish(added)
 }
 
 /// Adds the fields of the id of an item, or of why it can't be parsed.
-fn show_id_item(alloc: Global, item: &Item<'_, IdIndex>, line: &mut Line) -> Result<()>
-    ensures { ShowsFields (id_answer_row (index_of item.now).0 (kind_of (item_bytes item.now))
+fn show_id_item(
+    alloc: Global,
+    item: &Item<'_, IdIndex>,
+    place: ItemPlace,
+    line: &mut Line,
+) -> Result<()>
+    ensures { ShowsFields (id_answer_row place (index_of item.now).0 (kind_of (item_bytes item.now))
         (id_of (item_bytes item.now))) line.old line.new result }
 {
     let index = item.index().0;
@@ -53,7 +64,7 @@ fn show_id_item(alloc: Global, item: &Item<'_, IdIndex>, line: &mut Line) -> Res
     match item.parse(alloc) {
         Ok(value) => show_id(alloc, line, index, leaf, &value),
         Err(Error::OutOfMemory) => Err(Error::OutOfMemory),
-        Err(fault) => show_refused(alloc, line, index, leaf, &fault),
+        Err(fault) => show_refused(alloc, line, index, leaf, place, &fault),
     }
 }
 
@@ -66,11 +77,12 @@ pub(crate) fn make_id(
     alloc: Global,
     form: Form,
     item: &Item<'_, IdIndex>,
+    place: ItemPlace,
     line: &mut Line,
 ) -> Result<()>
-    ensures { EndsLine (id_line form (index_of item.now).0 (item_bytes item.now)) line.new result }
+    ensures { EndsLine (id_line form place (index_of item.now).0 (item_bytes item.now)) line.new result }
 {
     line.begin(form);
-    let added = show_id_item(alloc, item, line);
+    let added = show_id_item(alloc, item, place, line);
     line.finish(added)
 }

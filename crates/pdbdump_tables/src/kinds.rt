@@ -5,11 +5,12 @@ ghost use Rattle.std.specs.Prelude.{if◌then◌else◌};
 ghost use Rattle.std.specs.List.{range_with_len};
 ghost use Rattle.pdb_base.specs.Memory.{FailsOnlyForMemory};
 ghost use Rattle.pdbdump_tables.specs.Kinds.{goes_on, occurring_kinds, by_frequency};
-ghost use Rattle.pdbdump_tables.specs.Tally.{IsTally, IsWalked};
+ghost use Rattle.pdbdump_tables.specs.Tally.{IsTally, IsWalked, noted_kind};
 ghost use Rattle.pdb_tpi.specs.Item.{item_bytes, index_of};
+ghost use Rattle.pdb_tpi.specs.Table.{IsTable};
 
 use pdb_base::{Error, FallibleIterator, Result, TypeIndex};
-use pdb_tpi::{Item, TypeInformation};
+use pdb_tpi::{Header, Item, TypeInformation};
 use pdb_values::TypeData;
 use pdb_values::constants::LF_FIELDLIST;
 use std::alloc::Global;
@@ -18,20 +19,26 @@ use std::cmp::Reverse;
 /// How many numbers a kind can be.
 const KINDS: usize = 0x10000;
 
-/// A kind of records, and how many there are.
+/// How many bytes the length before a record takes.
+const LENGTH_SIZE: u64 = 2;
+
+/// A kind of records, how many there are, and how many bytes they take.
 #[derive(Clone, Copy, Debug, PartialEq, Eq)]
 pub struct KindCount {
     /// The number of the record kind.
     pub leaf: u16,
     /// How many records of the kind there are.
     pub count: u64,
+    /// How many bytes they take, the lengths before them included.
+    pub bytes: u64,
 }
 
 /// Returns the kinds that have records, the lowest number first.
-fn kinds_present(alloc: Global, counts: &[u64]) -> Result<Vec<KindCount>>
-    requires { length counts.now ≡ 0x10000 }
+fn kinds_present(alloc: Global, counts: &[u64], sizes: &[u64]) -> Result<Vec<KindCount>>
+    requires counts { length counts.now ≡ 0x10000 }
+    requires sizes { length sizes.now ≡ 0x10000 }
     ensures present { IfOk result (λ kinds. kinds.items ≡
-        occurring_kinds (λ leaf. slice_index_or counts.now leaf 0) (range_with_len 0 0x10000)) }
+        occurring_kinds (noted_kind counts.now sizes.now) (range_with_len 0 0x10000)) }
     ensures memory { FailsOnlyForMemory result }
 {
     let mut kinds = Vec::new(alloc);
@@ -41,6 +48,7 @@ fn kinds_present(alloc: Global, counts: &[u64]) -> Result<Vec<KindCount>>
             kinds.push(KindCount {
                 leaf: leaf as u16,
                 count,
+                bytes: sizes[leaf],
             })?;
         }
     }
@@ -48,13 +56,15 @@ fn kinds_present(alloc: Global, counts: &[u64]) -> Result<Vec<KindCount>>
 }
 
 /// Returns the kinds that have records, the most frequent first.
-fn rank(alloc: Global, counts: &[u64]) -> Result<Vec<KindCount>>
-    requires { length counts.now ≡ 0x10000 }
-    ensures ranked { (most : ℕ) → ((leaf : ℕ) → slice_index_or counts.now leaf 0 ≤ most)
-        → IfOk result (λ kinds. kinds.items ≡ by_frequency (λ leaf. slice_index_or counts.now leaf 0) most) }
+fn rank(alloc: Global, counts: &[u64], sizes: &[u64]) -> Result<Vec<KindCount>>
+    requires counts { length counts.now ≡ 0x10000 }
+    requires sizes { length sizes.now ≡ 0x10000 }
+    ensures ranked { (most : ℕ) → ((leaf : ℕ) → slice_index_or counts.now leaf 0 ≤ most) →
+        IfOk result (λ kinds. kinds.items ≡
+        by_frequency most (occurring_kinds (noted_kind counts.now sizes.now) (range_with_len 0 0x10000))) }
     ensures memory { FailsOnlyForMemory result }
 {
-    let mut kinds = kinds_present(alloc, counts)?;
+    let mut kinds = kinds_present(alloc, counts, sizes)?;
     kinds.sort_by_key(|kind| Reverse(kind.count))?;
     Ok(kinds)
 }
@@ -64,6 +74,8 @@ fn rank(alloc: Global, counts: &[u64]) -> Result<Vec<KindCount>>
 struct Tally {
     /// How many records of each kind there are, by the number of the kind.
     counts: Vec<u64>,
+    /// How many bytes these take.
+    sizes: Vec<u64>,
     /// How many records there are.
     records: u64,
     /// How many of them are lists of fields that another list continues.
@@ -72,14 +84,15 @@ struct Tally {
     fault: Option<Error>,
 }
 
-/// Counts one more record of a kind.
-fn note(counts: &mut Vec<u64>, kind: u16)
+/// Adds an amount to what was counted of a kind.
+fn note(counts: &mut Vec<u64>, kind: u16, amount: u64)
     requires kinds { vec_len counts.old ≡ 0x10000 }
-    requires room { slice_index_or counts.old.items kind 0 + 1 < 2 ^ 64 }
-    ensures noted { counts.new.items ≡ slice_set counts.old.items kind (slice_index_or counts.old.items kind 0 + 1) }
+    requires room { slice_index_or counts.old.items kind 0 + amount < 2 ^ 64 }
+    ensures noted { counts.new.items ≡
+        slice_set counts.old.items kind (slice_index_or counts.old.items kind 0 + amount) }
     ensures kinds { vec_len counts.new ≡ 0x10000 }
 {
-    counts[kind as usize] += 1;
+    counts[kind as usize] += amount;
 }
 
 /// Returns `count` counts of 0.
@@ -117,10 +130,12 @@ fn as_count(is: bool) -> u64
 
 /// Walks over a table, and counts its records.
 fn count_records(alloc: Global, table: &TypeInformation) -> Result<Tally>
+    requires { IsTable table.now }
     ensures tally { IfOk result (IsTally table.now) }
     ensures memory { FailsOnlyForMemory result }
 {
     let mut counts = zeros(alloc, KINDS)?;
+    let mut sizes = zeros(alloc, KINDS)?;
     let mut records = 0;
     let mut continued = 0;
     let mut items = table.iter();
@@ -128,13 +143,16 @@ fn count_records(alloc: Global, table: &TypeInformation) -> Result<Tally>
         match items.next() {
             Ok(Some(item)) => {
                 let is_continued = goes_on(alloc, &item)?;
-                note(&mut counts, item.raw_kind());
+                let kind = item.raw_kind();
+                note(&mut counts, kind, 1);
+                note(&mut sizes, kind, LENGTH_SIZE + item.len() as u64);
                 records += 1;
                 continued += as_count(is_continued);
             }
             Ok(None) => {
                 return Ok(Tally {
                     counts,
+                    sizes,
                     records,
                     continued,
                     fault: None,
@@ -143,6 +161,7 @@ fn count_records(alloc: Global, table: &TypeInformation) -> Result<Tally>
             Err(fault) => {
                 return Ok(Tally {
                     counts,
+                    sizes,
                     records,
                     continued,
                     fault: Some(fault),
@@ -155,6 +174,8 @@ fn count_records(alloc: Global, table: &TypeInformation) -> Result<Tally>
 /// What a walk over a table says of its records.
 #[derive(Drop)]
 pub struct Walked {
+    /// The header of the table.
+    pub header: Header,
     /// Their kinds, the most frequent first.
     pub kinds: Vec<KindCount>,
     /// How many there are.
@@ -165,20 +186,23 @@ pub struct Walked {
     pub fault: Option<Error>,
 }
 
-/// Walks over a table, and returns which kinds its records have, how many records there are, and
-/// the fault at which the walk stops, if it does.
+/// Walks over a table, and returns its header, which kinds its records have, how many records there
+/// are, and the fault at which the walk stops, if it does.
 pub fn walk_over(alloc: Global, table: &TypeInformation) -> Result<Walked>
     ensures walked { IfOk result (IsWalked table.now) }
     ensures memory { FailsOnlyForMemory result }
 {
+    let header = table.header();
     let Tally {
         counts,
+        sizes,
         records,
         continued,
         fault,
     } = count_records(alloc, table)?;
-    let kinds = rank(alloc, &counts)?;
+    let kinds = rank(alloc, &counts, &sizes)?;
     Ok(Walked {
+        header,
         kinds,
         records,
         continued,

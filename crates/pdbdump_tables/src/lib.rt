@@ -7,6 +7,7 @@ mod conversions;
 mod extraction;
 mod file_tables;
 mod frames;
+mod headers;
 mod id_listing;
 mod identity;
 mod item_line;

@@ -1,14 +1,35 @@
 //! A record that can't be parsed.
 
+ghost use Rattle.std.specs.Prelude.{◌≡◌, Ok};
 ghost use Rattle.pdb_base.specs.Refusal.{refusal_of};
-ghost use Rattle.pdbdump_rows.specs.Line.{ShowsFields};
-ghost use Rattle.pdbdump_tables.specs.Lines.{refused_row};
+ghost use Rattle.pdb_tpi.specs.Finder.{item_of};
+ghost use Rattle.pdb_tpi.specs.Item.{item_bytes, index_of};
+ghost use Rattle.pdb_tpi.specs.Record.{kind_of};
+ghost use Rattle.pdbdump_rows.specs.Line.{EndsLine, ShowsFields};
+ghost use Rattle.pdbdump_rows.specs.Lines.{full_text};
+ghost use Rattle.pdbdump_tables.specs.Lines.{item_byte, refused_in_full, refused_row};
+ghost use Rattle.pdbdump_tables.specs.Listed.{IsShown};
 
-use pdb_base::{Error, Result};
-use pdbdump_rows::{Line, Value, show_error};
+use pdb_base::{Error, ItemIndex, Result};
+use pdb_output::Output;
+use pdb_tpi::{Item, OpenTable};
+use pdbdump_rows::{Form, Line, Value, show_error};
 use std::alloc::Global;
+use std::io::Write;
 
-/// Adds the fields of a record that can't be parsed: its index, its kind, and the error.
+/// How many bytes the length before a record takes.
+const LENGTH_SIZE: u32 = 2;
+
+/// Where a record is: the number of its stream, and the byte of the stream at which it begins, with
+/// its length.
+#[derive(Clone, Copy)]
+pub(crate) struct ItemPlace {
+    pub(crate) stream: u32,
+    pub(crate) byte: u32,
+}
+
+/// Adds the fields of a record that can't be parsed: its index, its kind, the error, and where the
+/// record is.
 ///
 /// # Errors
 /// Fails with `OutOfMemory` if an allocation fails.
@@ -18,11 +39,83 @@ pub(crate) fn show_refused(
     line: &mut Line,
     index: u32,
     leaf: u16,
+    place: ItemPlace,
     fault: &Error,
 ) -> Result<()>
-    ensures { ShowsFields (refused_row index leaf (refusal_of fault.now)) line.old line.new result }
+    ensures { ShowsFields (refused_row place index leaf (refusal_of fault.now)) line.old line.new result }
 {
     line.field("index", Value::Hexadecimal(index))?;
     line.field("kind", Value::Kind(leaf))?;
-    show_error(alloc, line, fault)
+    show_error(alloc, line, fault)?;
+    line.field("stream", Value::Number(place.stream as u64))?;
+    line.field("byte", Value::Hexadecimal(place.byte))?;
+    Ok(())
+}
+
+/// Makes the text in full of a record that can't be parsed.
+#[tactic(auto, using(pdbdump_rows::proofs::lemmas::Line::showing))]
+fn make_refused(
+    alloc: Global,
+    form: Form,
+    index: u32,
+    leaf: u16,
+    place: ItemPlace,
+    fault: &Error,
+    line: &mut Line,
+) -> Result<()>
+    ensures { EndsLine (full_text form (refused_row place index leaf (refusal_of fault.now))) line.new result }
+{
+    line.begin_full(form);
+    let added = show_refused(alloc, line, index, leaf, place, fault);
+    line.finish(added)
+}
+
+/// Returns the byte of its stream at which the record of an item begins, or None for an item of a
+/// primitive type, which has no record.
+fn item_byte<I: ItemIndex>(table: &OpenTable<I>, item: &Item<'_, I>) -> Option<u32>
+    requires { item_of table.now.table (I.number (index_of item.now)) ≡ Ok (item_bytes item.now) }
+    ensures { result ≡ item_byte table.now.table (I.number (index_of item.now)) }
+{
+    match table.find(item.index()) {
+        Ok(Some(place)) => Some(place.offset - LENGTH_SIZE),
+        _ => None,
+    }
+}
+
+/// Writes in full that the record of an item can't be parsed, and where it is, and fails with the
+/// error. Writes nothing for an item of a primitive type.
+///
+/// # Errors
+/// Fails with the error, with `OutOfMemory` if an allocation fails, and with `IoError` if the writer
+/// fails.
+pub(crate) fn write_unread<I: ItemIndex, W: Write>(
+    alloc: Global,
+    table: &OpenTable<I>,
+    stream: u32,
+    item: &Item<'_, I>,
+    fault: Error,
+    form: Form,
+    out: &mut Output<W>,
+) -> Result<()>
+    requires { item_of table.now.table (I.number (index_of item.now)) ≡ Ok (item_bytes item.now) }
+    ensures { IsShown (refused_in_full form stream table.now.table (I.number (index_of item.now))
+        (kind_of (item_bytes item.now)) (refusal_of fault)) out.old out.new result }
+{
+    let Some(byte) = item_byte(table, item) else {
+        return Err(fault);
+    };
+    let index: u32 = item.index().into();
+    let mut line = Line::new(alloc);
+    let place = ItemPlace { stream, byte };
+    make_refused(
+        alloc,
+        form,
+        index,
+        item.raw_kind(),
+        place,
+        &fault,
+        &mut line,
+    )?;
+    out.write(line.as_bytes())?;
+    Err(fault)
 }

@@ -3,10 +3,13 @@
 ghost use Rattle.std.specs.Prelude.{◌≡◌, map};
 ghost use Rattle.std.specs.Option.{option_map};
 ghost use Rattle.pdb_file.specs.StreamNames.{named_view};
-ghost use Rattle.pdbdump_tables.specs.Streams.{is_of, listed_role, name_of_stream, role_of};
+ghost use Rattle.pdbdump_tables.specs.Streams.{has_hashes, hash_role, header_role, is_of, listed_role};
+ghost use Rattle.pdbdump_tables.specs.Streams.{name_of_stream, role_of, symbol_role};
 
+use crate::headers::Headers;
 use pdb_base::{RawString, StreamIndex};
-use pdb_file::{DBIExtraStreams, StreamName};
+use pdb_file::{DBIExtraStreams, DBIHeader, StreamName};
+use pdb_tpi::Header;
 
 /// Returns whether an index names the stream with this number.
 fn is_of(index: StreamIndex, number: u32) -> bool
@@ -50,17 +53,76 @@ fn listed_role(roles: &DBIExtraStreams, number: u32) -> Option<&'static str>
     }
 }
 
-/// Returns the role of a stream, if it has one. The roles of streams 1 to 4 are fixed.
+/// Returns the role that the header of the stream of debug information gives a stream.
+#[tactic(auto, unfolding(crate::specs::Streams::symbol_role))]
+fn symbol_role(header: &DBIHeader, number: u32) -> Option<&'static str>
+    ensures { option_map (λ role. role.now) result ≡ symbol_role header.now number }
+{
+    if is_of(header.gs_symbols_stream, number) {
+        Some("globals")
+    } else if is_of(header.ps_symbols_stream, number) {
+        Some("publics")
+    } else if is_of(header.symbol_records_stream, number) {
+        Some("symbol_records")
+    } else {
+        None
+    }
+}
+
+/// Returns whether the header of a table names a stream as one of hashes.
+fn has_hashes(header: Option<Header>, number: u32) -> bool
+    ensures { result ≡ has_hashes header number }
+{
+    match header {
+        Some(header) => {
+            is_of(StreamIndex(header.tpi_hash_stream), number)
+                || is_of(StreamIndex(header.tpi_hash_pad_stream), number)
+        }
+        None => false,
+    }
+}
+
+/// Returns the role that the header of a table gives a stream.
+#[tactic(auto, unfolding(crate::specs::Streams::hash_role))]
+fn hash_role(headers: &Headers, number: u32) -> Option<&'static str>
+    ensures { option_map (λ role. role.now) result ≡ hash_role headers.now number }
+{
+    if has_hashes(headers.types, number) {
+        Some("type_hashes")
+    } else if has_hashes(headers.ids, number) {
+        Some("id_hashes")
+    } else {
+        None
+    }
+}
+
+/// Returns the role that a header gives a stream, the first one if several do.
+fn header_role(headers: &Headers, number: u32) -> Option<&'static str>
+    ensures { option_map (λ role. role.now) result ≡ header_role headers.now number }
+{
+    if let Some(header) = &headers.debug
+        && let Some(role) = symbol_role(header, number)
+    {
+        return Some(role);
+    }
+    hash_role(headers, number)
+}
+
+/// Returns the role of a stream, if it has one. The roles of streams 1 to 4 are fixed, and the
+/// debug header and other headers give those of others.
 #[tactic(auto, unfolding(crate::specs::Streams::role_of))]
-pub fn role_of(roles: &DBIExtraStreams, number: u32) -> Option<&'static str>
-    ensures { option_map (λ role. role.now) result ≡ role_of roles.now number }
+pub fn role_of(roles: &DBIExtraStreams, headers: &Headers, number: u32) -> Option<&'static str>
+    ensures { option_map (λ role. role.now) result ≡ role_of roles.now headers.now number }
 {
     match number {
         1 => Some("pdb_information"),
         2 => Some("types"),
         3 => Some("debug_information"),
         4 => Some("ids"),
-        _ => listed_role(roles, number),
+        _ => match listed_role(roles, number) {
+            Some(role) => Some(role),
+            None => header_role(headers, number),
+        },
     }
 }
 

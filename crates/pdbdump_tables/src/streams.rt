@@ -1,6 +1,6 @@
 //! The streams of a file, one line for each.
 
-ghost use Rattle.std.specs.Prelude.{◌≡◌, map, None};
+ghost use Rattle.std.specs.Prelude.{◌≡◌, map};
 ghost use Rattle.std.specs.Option.{option_map};
 ghost use Rattle.pdb_base.specs.Answer.{Answers};
 ghost use Rattle.pdb_msf.specs.Directory.{stream_count_in};
@@ -13,6 +13,7 @@ ghost use Rattle.pdbdump_tables.specs.Known.{known_view};
 ghost use Rattle.pdbdump_tables.specs.Streams.{nameable, pages_held, size_line, stream_line, stream_lines};
 ghost use Rattle.pdbdump_tables.specs.Streams.{stream_shown};
 
+use crate::headers::Headers;
 use crate::parts::{Part, write_refused};
 use crate::roles::{name_of, role_of};
 use pdb_base::{Error, RawString, Result, Stream};
@@ -31,19 +32,26 @@ const NO_STREAM: u32 = 0xffff;
 pub struct Known<'k, 'n> {
     /// Where the directory places the streams.
     pub layout: &'k Layout,
-    /// The roles of streams.
+    /// The roles of streams that the debug header lists.
     pub roles: DBIExtraStreams,
+    /// The headers that give streams other roles.
+    pub headers: Headers,
     /// The streams that have names.
     pub names: &'k [StreamName<'n>],
 }
 
-/// Reads the stream with this number.
-pub fn stream(alloc: Global, file: &mut PDB<Vec<u8>>, number: u32) -> Result<Stream>
-    ensures stream { Answers (λ stream. stream) result (stream_of file.old.source.items file.old.head number None) }
+/// Reads the stream with this number, at most as many of its bytes as the limit says.
+pub fn stream(
+    alloc: Global,
+    file: &mut PDB<Vec<u8>>,
+    number: u32,
+    limit: Option<usize>,
+) -> Result<Stream>
+    ensures stream { Answers (λ stream. stream) result (stream_of file.old.source.items file.old.head number limit) }
     ensures bytes { file.new.source.items ≡ file.old.source.items }
     ensures head { file.new.head ≡ file.old.head }
 {
-    file.get(alloc, number, None)
+    file.get(alloc, number, limit)
 }
 
 /// Returns how many pages hold `size` bytes, or no value if the size of a page is not known.
@@ -91,7 +99,7 @@ fn write_size<W: Write>(
     ensures { Writes (size_line form (known_view known.entry) number size)
         out.old out.new result }
 {
-    let role = role_of(&known.roles, number);
+    let role = role_of(&known.roles, &known.headers, number);
     let name = name_of(known.names, number);
     line.begin(form);
     let added = show_stream(line, known.layout.page_size(), number, size, role, name);

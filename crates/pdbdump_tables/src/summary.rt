@@ -16,6 +16,7 @@ ghost use Rattle.pdbdump_tables.specs.Summary.{summary_listing, tables_part, ref
 ghost use Rattle.pdbdump_tables.specs.declared.parts.Part.TheVariants as parts;
 ghost use Rattle.pdbdump_tables.specs.Listing.{IsListed};
 
+use crate::headers::headers_of;
 use crate::parts::{Part, write_refused};
 use crate::streams::{Known, write_streams};
 use crate::table_summary::write_table;
@@ -52,17 +53,6 @@ fn show_pages(line: &mut Line, page_size: u32, pages: u32, size: usize) -> Resul
     line.field("pages", Value::Number(pages as u64))?;
     line.field("bytes", Value::Number(size as u64))?;
     Ok(())
-}
-
-/// Returns what is known of streams that have no names.
-fn without_names<'k>(layout: &'k Layout, roles: DBIExtraStreams) -> Known<'k, 'static>
-    ensures { known_view result ≡ record { layout = layout.now; roles = roles; names = [] } }
-{
-    Known {
-        layout,
-        roles,
-        names: &[],
-    }
 }
 
 /// Reads the layout of a file, and fails if its directory or the count of streams can't be read.
@@ -121,25 +111,27 @@ fn write_unnamed<W: Write>(
 #[tactic(auto, using(pdb_output::proofs::lemmas::Written::writing))]
 fn write_named<W: Write>(
     alloc: Global,
-    layout: &Layout,
-    roles: DBIExtraStreams,
+    unnamed: Known<'_, '_>,
     information: &PDBInformation,
     form: Form,
     out: &mut Output<W>,
 ) -> Result<()>
-    ensures { Writes (named_part form layout.now roles (stream_names_of information.now)) out.old out.new result }
+    requires { (known_view unnamed).names ≡ [] }
+    ensures { Writes (named_part form (known_view unnamed.entry) (stream_names_of information.now))
+        out.old out.new result }
 {
     match information.stream_names(alloc) {
         Ok(names) => {
             let known = Known {
-                layout,
-                roles,
+                layout: unnamed.layout,
+                roles: unnamed.roles,
+                headers: unnamed.headers,
                 names: names.as_slice(),
             };
             write_streams(alloc, known, form, out)
         }
         Err(Error::OutOfMemory) => Err(Error::OutOfMemory),
-        Err(error) => write_unnamed(alloc, without_names(layout, roles), &error, form, out),
+        Err(error) => write_unnamed(alloc, unnamed, &error, form, out),
     }
 }
 
@@ -149,20 +141,20 @@ fn write_named<W: Write>(
 fn write_all_streams<W: Write>(
     alloc: Global,
     file: &mut PDB<Vec<u8>>,
-    layout: &Layout,
-    roles: DBIExtraStreams,
+    unnamed: Known<'_, '_>,
     form: Form,
     out: &mut Output<W>,
 ) -> Result<()>
-    ensures lines { Writes (named_part form layout.now roles (streams_with_names file.old.source.items file.old.head))
-        out.old out.new result }
+    requires { (known_view unnamed).names ≡ [] }
+    ensures lines { Writes (named_part form (known_view unnamed.entry)
+        (streams_with_names file.old.source.items file.old.head)) out.old out.new result }
     ensures bytes { file.new.source.items ≡ file.old.source.items }
     ensures head { file.new.head ≡ file.old.head }
 {
     match file.pdb_information(alloc) {
-        Ok(information) => write_named(alloc, layout, roles, &information, form, out),
+        Ok(information) => write_named(alloc, unnamed, &information, form, out),
         Err(Error::OutOfMemory) => Err(Error::OutOfMemory),
-        Err(error) => write_unnamed(alloc, without_names(layout, roles), &error, form, out),
+        Err(error) => write_unnamed(alloc, unnamed, &error, form, out),
     }
 }
 
@@ -180,8 +172,15 @@ fn write_streams_part<W: Write>(
     ensures bytes { file.new.source.items ≡ file.old.source.items }
     ensures head { file.new.head ≡ file.old.head }
 {
+    let headers = headers_of(alloc, file)?;
     let roles = known_roles(alloc, file, form, out)?;
-    write_all_streams(alloc, file, layout, roles, form, out)
+    let unnamed = Known {
+        layout,
+        roles,
+        headers,
+        names: &[],
+    };
+    write_all_streams(alloc, file, unnamed, form, out)
 }
 
 /// Writes the tables of types and of ids.

@@ -23,14 +23,20 @@ use std::io::Write;
 
 /// Adds the fields of a table: the number of its stream, how many records it has and how many of
 /// them are lists of fields that another list continues, and the indexes that its header counts.
-fn show_table(line: &mut Line, number: u32, walked: &Walked, least: u32, end: u32) -> Result<()>
-    ensures { ShowsFields (table_shown number walked.now.records walked.now.continued least end)
+fn show_table(line: &mut Line, number: u32, walked: &Walked) -> Result<()>
+    ensures { ShowsFields (table_shown number walked.now.records walked.now.continued walked.now.header)
         line.old line.new result }
 {
     line.field("table", Value::Number(number as u64))?;
     line.field("records", Value::Number(walked.records))?;
-    line.field("minimum_index", Value::Hexadecimal(least))?;
-    line.field("maximum_index", Value::Hexadecimal(end))?;
+    line.field(
+        "minimum_index",
+        Value::Hexadecimal(walked.header.minimum_index),
+    )?;
+    line.field(
+        "maximum_index",
+        Value::Hexadecimal(walked.header.maximum_index),
+    )?;
     line.field("continued_field_lists", Value::Number(walked.continued))?;
     Ok(())
 }
@@ -41,35 +47,27 @@ fn show_table(line: &mut Line, number: u32, walked: &Walked, least: u32, end: u3
 fn write_head<W: Write>(
     alloc: Global,
     number: u32,
-    table: &TypeInformation,
     walked: &Walked,
     form: Form,
     out: &mut Output<W>,
 ) -> Result<()>
-    ensures { Writes (row_text form
-        (table_shown number walked.now.records walked.now.continued table.now.header.minimum_index
-        table.now.header.maximum_index)) out.old out.new result }
+    ensures { Writes (row_text form (table_shown number walked.now.records walked.now.continued walked.now.header))
+        out.old out.new result }
 {
-    let header = table.header();
     let mut line = Line::new(alloc);
     line.begin(form);
-    let added = show_table(
-        &mut line,
-        number,
-        walked,
-        header.minimum_index,
-        header.maximum_index,
-    );
+    let added = show_table(&mut line, number, walked);
     write_line(added, &mut line, out)
 }
 
-/// Adds the fields of a kind of a table's records, and how many there are.
+/// Adds the fields of a kind of a table's records: how many there are, and how many bytes they take.
 fn show_kind(line: &mut Line, number: u32, kind: KindCount) -> Result<()>
     ensures { ShowsFields (kind_shown number kind) line.old line.new result }
 {
     line.field("table", Value::Number(number as u64))?;
     line.field("kind", Value::Kind(kind.leaf))?;
     line.field("count", Value::Number(kind.count))?;
+    line.field("bytes", Value::Number(kind.bytes))?;
     Ok(())
 }
 
@@ -132,18 +130,16 @@ fn write_rest<W: Write>(
 fn write_walked<W: Write>(
     alloc: Global,
     number: u32,
-    table: &TypeInformation,
     walked: &Walked,
     form: Form,
     out: &mut Output<W>,
 ) -> Result<()>
-    ensures { Writes (row_text form (table_shown number walked.now.records walked.now.continued
-        table.now.header.minimum_index table.now.header.maximum_index)
+    ensures { Writes (row_text form (table_shown number walked.now.records walked.now.continued walked.now.header)
         ++ (kind_lines form number walked.now.kinds.items ++
         stop_line form number (option_map refusal_of walked.now.fault)))
         out.old out.new result }
 {
-    write_head(alloc, number, table, walked, form, out)?;
+    write_head(alloc, number, walked, form, out)?;
     write_rest(alloc, number, walked, form, out)
 }
 
@@ -159,7 +155,7 @@ fn write_found<W: Write>(
     ensures { Writes (table_lines form number table.now) out.old out.new result }
 {
     let walked = walk_over(alloc, table)?;
-    write_walked(alloc, number, table, &walked, form, out)
+    write_walked(alloc, number, &walked, form, out)
 }
 
 /// Reads the table in the stream with this number.
@@ -169,7 +165,7 @@ fn table_found(alloc: Global, file: &mut PDB<Vec<u8>>, number: u32) -> Result<Ty
     ensures bytes { file.new.source.items ≡ file.old.source.items }
     ensures head { file.new.head ≡ file.old.head }
 {
-    TypeInformation::parse(stream(alloc, file, number)?)
+    TypeInformation::parse(stream(alloc, file, number, None)?)
 }
 
 /// Writes the table in the stream with this number, or its error.

@@ -1,17 +1,18 @@
 //! Tables of types.
 
-ghost use Rattle.std.specs.Prelude.{◌≡◌, IfOk};
+ghost use Rattle.std.specs.Prelude.{◌≡◌, IfOk, Ok};
 ghost use Rattle.pdb_base.specs.Memory.{FailsOnlyForMemory};
 ghost use Rattle.pdb_values.specs.TypeView.{type_value};
 ghost use Rattle.pdbdump_rows.specs.TypeRows.{type_row};
 ghost use Rattle.pdbdump_rows.specs.Line.{EndsLine};
 ghost use Rattle.pdbdump_rows.specs.Lines.{full_text};
-ghost use Rattle.pdbdump_tables.specs.Lines.{type_lines_at, type_line, type_shown};
+ghost use Rattle.pdbdump_tables.specs.Lines.{member_lines, placed_line, type_lines_at, type_line, type_shown};
 ghost use Rattle.pdbdump_tables.specs.Listed.{IsTableListed, IsShown, IsWalked};
 
 use crate::item_line::make_type;
 use crate::members::{list_of_fields, push_members};
-use pdb_base::{FallibleIterator, Result, Stream, TypeIndex};
+use crate::refused_record::{ItemPlace, write_unread};
+use pdb_base::{Error, FallibleIterator, Result, Stream, TypeIndex};
 use pdb_output::Output;
 use pdb_tpi::{OpenTable, TypeInformation};
 use pdb_values::TypeData;
@@ -23,34 +24,48 @@ use std::io::Write;
 fn list_types<W: Write>(
     alloc: Global,
     table: &TypeInformation,
+    stream: u32,
     form: Form,
     out: &mut Output<W>,
 ) -> Result<()>
-    ensures { IsWalked (type_line form) table.now out.old out.new result }
+    ensures { IsWalked (placed_line (type_line form) stream table.now) table.now out.old out.new result }
 {
     let mut items = table.iter();
     let mut line = Line::new(alloc);
-    while let Some(item) = items.next()? {
-        make_type(alloc, form, &item, &mut line)?;
+    loop {
+        let (_, byte) = items.place();
+        let place = ItemPlace {
+            stream,
+            byte: byte as u32,
+        };
+        let Some(item) = items.next()? else {
+            return Ok(());
+        };
+        make_type(alloc, form, &item, place, &mut line)?;
         out.write(line.as_bytes())?;
     }
-    Ok(())
 }
 
 /// Writes a line for each type of the table in a stream, in the order of the table. A record that
-/// can't be parsed has a line with the error. At most one parsed record and its line are held in
-/// memory.
+/// can't be parsed has a line with the error, the number of the stream and the byte at which the
+/// record begins. At most one parsed record and its line are held in memory.
 ///
 /// # Errors
 /// Fails as `TypeInformation::parse` does, before anything is written; with the error at which the
 /// table stops, after the lines of the types before it; with `IoError` if the writer fails, after a
 /// prefix of what is meant to be written; and with `OutOfMemory` if an allocation fails, after the
 /// lines so far.
-pub fn types<W: Write>(alloc: Global, stream: Stream, form: Form, out: &mut Output<W>) -> Result<()>
-    ensures { IsTableListed (type_line form) stream out.old out.new result }
+pub fn types<W: Write>(
+    alloc: Global,
+    stream: Stream,
+    number: u32,
+    form: Form,
+    out: &mut Output<W>,
+) -> Result<()>
+    ensures { IsTableListed (placed_line (type_line form) number) stream out.old out.new result }
 {
     let table = TypeInformation::parse(stream)?;
-    list_types(alloc, &table, form, out)
+    list_types(alloc, &table, number, form, out)
 }
 
 /// Returns the list in which the fields of the type of an index begin.
@@ -101,26 +116,49 @@ fn make_full(
     line.finish(added)
 }
 
-/// Looks up the type of an index in a table and writes it in full, and then a line for each of its
-/// members.
+/// Writes a type of a table in full, and then a line for each of its members.
+fn write_value<W: Write>(
+    alloc: Global,
+    types: &OpenTable<TypeIndex>,
+    index: u32,
+    leaf: u16,
+    value: &TypeData<'_>,
+    form: Form,
+    out: &mut Output<W>,
+) -> Result<()>
+    ensures { IsShown (Ok (
+      full_text form (type_row index leaf (type_value value.now)),
+      member_lines form types.now.table index (type_value value.now),
+    )) out.old out.new result }
+{
+    let mut line = Line::new(alloc);
+    make_full(alloc, form, index, leaf, value, &mut line)?;
+    out.write(line.as_bytes())?;
+    let mut lines = Vec::new(alloc);
+    push_members(alloc, form, types, TypeIndex(index), value, &mut lines)?;
+    out.write(&lines)?;
+    Ok(())
+}
+
+/// Looks up the type of an index in the table of a stream and writes it in full, and then a line for
+/// each of its members.
+#[tactic(auto, using(crate::proofs::ShownLemmas::type_refused))]
 fn write_type<W: Write>(
     alloc: Global,
     types: &OpenTable<TypeIndex>,
+    stream: u32,
     index: u32,
     form: Form,
     out: &mut Output<W>,
 ) -> Result<()>
-    ensures { IsShown (type_shown form index types.now.table) out.old out.new result }
+    ensures { IsShown (type_shown form stream index types.now.table) out.old out.new result }
 {
     let item = types.item(TypeIndex(index))?;
-    let value = item.parse(alloc)?;
-    let mut line = Line::new(alloc);
-    make_full(alloc, form, index, item.raw_kind(), &value, &mut line)?;
-    out.write(line.as_bytes())?;
-    let mut lines = Vec::new(alloc);
-    push_members(alloc, form, types, TypeIndex(index), &value, &mut lines)?;
-    out.write(&lines)?;
-    Ok(())
+    match item.parse(alloc) {
+        Ok(value) => write_value(alloc, types, index, item.raw_kind(), &value, form, out),
+        Err(Error::OutOfMemory) => Err(Error::OutOfMemory),
+        Err(fault) => write_unread(alloc, types, stream, &item, fault, form, out),
+    }
 }
 
 /// Looks up the type of an index in the table in a stream and writes it in full, and then a line
@@ -128,19 +166,21 @@ fn write_type<W: Write>(
 /// through all lists that hold them, or the methods of a list.
 ///
 /// # Errors
-/// Fails with the error of the table, the look-up or the record, before anything is written; with
-/// the error of the lists of fields, after the type itself; with `IoError` if the writer fails,
+/// Fails with the error of the table or the look-up, before anything is written; with the error of
+/// the record, after a text that says so and where the record is; with the error of the lists of
+/// fields, after the type itself; with `IoError` if the writer fails,
 /// after a prefix of what is meant to be written; and with `OutOfMemory` if an allocation fails.
 pub fn type_at<W: Write>(
     alloc: Global,
     stream: Stream,
+    number: u32,
     index: u32,
     form: Form,
     out: &mut Output<W>,
 ) -> Result<()>
-    ensures { IsShown (type_lines_at form index stream) out.old out.new result }
+    ensures { IsShown (type_lines_at form number index stream) out.old out.new result }
 {
     let table = TypeInformation::parse(stream)?;
     let types = open_table(alloc, table, TypeIndex(index))?;
-    write_type(alloc, &types, index, form, out)
+    write_type(alloc, &types, number, index, form, out)
 }

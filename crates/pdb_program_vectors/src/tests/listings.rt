@@ -79,9 +79,9 @@ const TYPE_LINES: &str =
 0x100a LF_METHODLIST count=2 methods=[0x1007,0x1007]
 0x100b LF_BITFIELD underlying_type=0x75 length=3 position=5
 0x100c LF_VTSHAPE count=3 descriptors=[0x55,0x5]
-0x100d LF_LABEL error=Support for types of kind 0x000e is not implemented
-0x100e 0x1234 error=Support for types of kind 0x1234 is not implemented
-0x100f LF_STRUCTURE error=UnexpectedEof
+0x100d LF_LABEL error=Support for types of kind 0x000e is not implemented stream=2 byte=0x177
+0x100e 0x1234 error=Support for types of kind 0x1234 is not implemented stream=2 byte=0x17d
+0x100f LF_STRUCTURE error=UnexpectedEof stream=2 byte=0x181
 "#;
 
 /// The lines of the ids in JSON.
@@ -92,7 +92,7 @@ const ID_OBJECTS: &str = r#"{"index":4096,"kind":"LF_FUNC_ID","name":"main","fun
 {"index":4100,"kind":"LF_STRING_ID","name":"C:\\a.c"}
 {"index":4101,"kind":"LF_UDT_SRC_LINE","udt":4096,"source_file":4100,"line":7}
 {"index":4102,"kind":"LF_UDT_MOD_SRC_LINE","udt":4096,"source_file":32,"module":2,"line":8}
-{"index":4103,"kind":"LF_STRUCTURE","error":"Support for types of kind 0x1505 is not implemented"}
+{"index":4103,"kind":"LF_STRUCTURE","error":"Support for types of kind 0x1505 is not implemented","stream":4,"byte":162}
 "#;
 
 /// The structure in full, with its fields.
@@ -142,6 +142,19 @@ const UNION: &str =
     r#"{"index":4097,"kind":"LF_UNION","name":"a\n\"b\\","count":0,"properties":["forward_reference"],"fields":0,"size":0}
 "#;
 
+/// The structure that is cut, and where it is.
+const CUT_STRUCTURE: &str = r#"index: 0x100f
+kind: LF_STRUCTURE
+error: UnexpectedEof
+stream: 2
+byte: 0x181
+"#;
+
+/// The record among the ids that is of a kind of types, in JSON.
+const NO_ID: &str =
+    r#"{"index":4103,"kind":"LF_STRUCTURE","error":"Support for types of kind 0x1505 is not implemented","stream":4,"byte":162}
+"#;
+
 /// Two records, of which the second is too short.
 const SHORT: &[&[u8]] = &[&[1, 0x10, 0, 0x10, 0, 0, 3, 0], &[7]];
 
@@ -189,6 +202,15 @@ const LISTED: &[Listed] = &[
     (IDS, Asked::Id(0x1004), Form::Text, TEXT, End::Whole),
     (SHORT, Asked::Types, Form::Text, MODIFIER, End::TooShort),
     (TYPES, Asked::Type(0x1001), Form::Json, UNION, End::Refused),
+    (
+        TYPES,
+        Asked::Type(0x100f),
+        Form::Text,
+        CUT_STRUCTURE,
+        End::Refused,
+    ),
+    (IDS, Asked::Id(0x1007), Form::Json, NO_ID, End::Refused),
+    (TYPES, Asked::Type(0xfff), Form::Text, "", End::Refused),
 ];
 
 /// The items of records: each behind its length.
@@ -219,10 +241,10 @@ fn write(
     out: &mut Output<Vec<u8>>,
 ) -> Result<()> {
     match asked {
-        Asked::Types => types(alloc, stream, form, out),
-        Asked::Ids => ids(alloc, stream, form, out),
-        Asked::Type(index) => type_at(alloc, stream, *index, form, out),
-        Asked::Id(index) => id_at(alloc, stream, *index, form, out),
+        Asked::Types => types(alloc, stream, 2, form, out),
+        Asked::Ids => ids(alloc, stream, 4, form, out),
+        Asked::Type(index) => type_at(alloc, stream, 2, *index, form, out),
+        Asked::Id(index) => id_at(alloc, stream, 4, *index, form, out),
     }
 }
 

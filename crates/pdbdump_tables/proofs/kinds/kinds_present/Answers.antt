@@ -1,27 +1,27 @@
 use Rattle.std.proofs.Common.{ℕ, ap, ◌∙◌}
-use Rattle.std.specs.Prelude.{slice_index_or}
 use Rattle.std.specs.Global.{Vec}
+use Rattle.pdbdump_tables.specs.Tally.{noted_kind}
 use Rattle.pdbdump_tables.specs.declared.kinds.KindCount.{KindCount}
 use Rattle.pdbdump_tables.proofs.KindLemmas.{present_end, present_first, present_more, present_none}
 use Rattle.pdbdump_tables.proofs.kinds.kinds_present.Goals.{then-count-ne0+in_ok-push, else-count-ne0}
 use Rattle.pdbdump_tables.proofs.kinds.kinds_present.Goals as goal
 
 pub loop-leaf-init : goal.loop-leaf-init
-loop-leaf-init c = present_first (λ leaf. slice_index_or c.args.counts.now leaf 0) 0x10000 _ c.new-kinds.ensures.items
+loop-leaf-init c = present_first (noted_kind c.args.counts.now c.args.sizes.now) 0x10000 _ c.new-kinds.ensures.items
 
 pub loop-leaf-preserved : goal.loop-leaf-preserved
 loop-leaf-preserved c =
-    let count : ℕ → ℕ = λ leaf. slice_index_or c.args.counts.now leaf 0 in
+    let counted = noted_kind c.args.counts.now c.args.sizes.now in
     elim c.if-count-ne0.branch [
       | then-count-ne0+in_ok-push w ↦
-          present_more count 0x10000 c.loop-leaf.leaf _ _ _ c.loop-leaf-test.true w.if-count-ne0.true
+          present_more counted 0x10000 c.loop-leaf.leaf _ _ _ c.loop-leaf-test.true w.if-count-ne0.true
           (ap (λ (kinds : Vec KindCount). kinds.items) w.kinds-is
           ∙ w.in_ok-push.ensures.items) c.loop-leaf.invariant
-      | else-count-ne0 w ↦ present_none count 0x10000 c.loop-leaf.leaf _ _ _ c.loop-leaf-test.true w.if-count-ne0.false
+      | else-count-ne0 w ↦
+          present_none counted 0x10000 c.loop-leaf.leaf _ _ _ c.loop-leaf-test.true w.if-count-ne0.false
           (ap (λ (kinds : Vec KindCount). kinds.items) w.kinds-is) c.loop-leaf.invariant
     ]
 
 pub returns-clause-present : goal.returns-clause-present
-returns-clause-present c = present_end
-    (λ leaf. slice_index_or c.args.counts.now leaf 0) 0x10000 c.loop-leaf.leaf _ _ c.loop-leaf-test.false
-    c.loop-leaf.invariant
+returns-clause-present c = present_end (noted_kind c.args.counts.now c.args.sizes.now) 0x10000 c.loop-leaf.leaf _ _
+    c.loop-leaf-test.false c.loop-leaf.invariant

@@ -1,70 +1,19 @@
 -- What stands there at each exit.
-use Rattle.std.proofs.Common.{Ok, Err, inl, ap}
+use Rattle.std.proofs.Common.{Ok, Err, inl, refl, ap}
 use Rattle.pdb_base.proofs.lemmas.Refused.{passed_on}
 use Rattle.pdb_base.specs.declared.index.TypeIndex.{TypeIndex}
-use Rattle.pdbdump_tables.proofs.ListingLemmas.{line_written}
-use Rattle.pdbdump_tables.proofs.ShownLemmas.{behind_none, cut_members, cut_record, full_written, lacks_early}
-use Rattle.pdbdump_tables.proofs.ShownLemmas.{refuses_early}
-use Rattle.pdbdump_tables.proofs.ShownLemmas.{refuses_late, shows_whole, type_meant, type_unfound, type_unparsed}
-use Rattle.pdbdump_rows.specs.TypeRows.{type_row}
-use Rattle.pdb_values.specs.TypeView.{type_value}
+use Rattle.pdbdump_tables.proofs.ShownLemmas.{lacks_early, refuses_early, shown_as, type_found, type_unfound}
 use Rattle.pdbdump_tables.proofs.type_listing.write_type.Goals as goal
 
 pub returns-in_err-item : goal.returns-in_err-item
 returns-in_err-item g c = rw (passed_on _ _ c.from_residual.ensures.1)
-    (refuses_early _ _ _ (type_unfound _ _ _ _ (inl c.in_err-item.ensures.item)))
+    (refuses_early _ _ _ (type_unfound _ _ _ _ _ (inl c.in_err-item.ensures.item)))
 
-pub returns-in_err-value : goal.returns-in_err-value
-returns-in_err-value g c =
-    rw (passed_on _ _ c.from_residual-in_err-value.ensures.1)
-    (refuses_early _ _ _ (type_unparsed _ _ _ _ _ _ c.in_ok-item.ensures.item
-    (ap (λ (index : TypeIndex). index.0) c.in_ok-item.ensures.index) c.in_err-value.ensures.read))
+pub returns-in-Ok : goal.returns-in-Ok
+returns-in-Ok g c =
+    shown_as _ _ _ _ _ (type_found _ _ _ _ _ _ (Ok _) c.in_ok-item.ensures.item
+    (ap (λ (index : TypeIndex). index.0) c.in_ok-item.ensures.index) c.in-Ok.ensures.read)
+    (rw c.raw_kind.ensures at c.write_value.ensures)
 
-pub returns-in_err-make_full : goal.returns-in_err-make_full
-returns-in_err-make_full g c = rw (passed_on _ _ c.from_residual-in_err-make_full.ensures.1)
-    (lacks_early _ _ _ c.in_err-make_full.ensures)
-
-pub returns-in_err-write : goal.returns-in_err-write
-returns-in_err-write g c =
-    rw (passed_on _ _ c.from_residual-in_err-write.ensures.1)
-    (cut_record _ _ _ _ _ _
-    (type_meant _ _ _ _ _ _ c.in_ok-item.ensures.item
-    (ap (λ (index : TypeIndex). index.0) c.in_ok-item.ensures.index) c.in_ok-value.ensures.read)
-    c.in_err-write.ensures.failed
-    (full_written c.args.form (λ leaf. type_row c.args.index leaf (type_value c.in_ok-value.value)) _ _ _ _ _ _ (Err _)
-    c.raw_kind.ensures c.in_ok-make_full.ensures c.as_bytes.ensures c.in_err-write.ensures.bytes))
-
-pub returns-in_err-push_members : goal.returns-in_err-push_members
-returns-in_err-push_members g c =
-    rw (passed_on _ _ c.from_residual-in_err-push_members.ensures.1)
-    (refuses_late _ _ _ _ _ _
-    (type_meant _ _ _ _ _ _ c.in_ok-item.ensures.item
-    (ap (λ (index : TypeIndex). index.0) c.in_ok-item.ensures.index) c.in_ok-value.ensures.read)
-    (full_written c.args.form (λ leaf. type_row c.args.index leaf (type_value c.in_ok-value.value)) _ _ _ _ _ _ (Ok tt)
-    c.raw_kind.ensures c.in_ok-make_full.ensures c.as_bytes.ensures c.in_ok-write.ensures.bytes)
-    c.in_err-push_members.ensures)
-
-pub returns-in_err-write-2 : goal.returns-in_err-write-2
-returns-in_err-write-2 g c =
-    rw (passed_on _ _ c.from_residual-in_err-write-2.ensures.1)
-    (cut_members _ _ _ _ _ _ _ _
-    (type_meant _ _ _ _ _ _ c.in_ok-item.ensures.item
-    (ap (λ (index : TypeIndex). index.0) c.in_ok-item.ensures.index) c.in_ok-value.ensures.read)
-    c.in_ok-push_members.ensures.1
-    (full_written c.args.form (λ leaf. type_row c.args.index leaf (type_value c.in_ok-value.value)) _ _ _ _ _ _ (Ok tt)
-    c.raw_kind.ensures c.in_ok-make_full.ensures c.as_bytes.ensures c.in_ok-write.ensures.bytes)
-    c.in_err-write-2.ensures.failed (line_written _ _ _ _ _ (Err _)
-    (behind_none _ _ _ c.new-lines.ensures.items c.in_ok-push_members.ensures.2) c.deref.ensures.value
-    c.in_err-write-2.ensures.bytes))
-
-pub returns : goal.returns
-returns g c =
-    shows_whole _ _ _ _ _ _ _
-    (type_meant _ _ _ _ _ _ c.in_ok-item.ensures.item
-    (ap (λ (index : TypeIndex). index.0) c.in_ok-item.ensures.index) c.in_ok-value.ensures.read)
-    c.in_ok-push_members.ensures.1
-    (full_written c.args.form (λ leaf. type_row c.args.index leaf (type_value c.in_ok-value.value)) _ _ _ _ _ _ (Ok tt)
-    c.raw_kind.ensures c.in_ok-make_full.ensures c.as_bytes.ensures c.in_ok-write.ensures.bytes)
-    (line_written _ _ _ _ _ (Ok tt)
-    (behind_none _ _ _ c.new-lines.ensures.items c.in_ok-push_members.ensures.2) c.deref.ensures.value
-    c.in_ok-write-2.ensures.bytes)
+pub returns-in-Err-OutOfMemory : goal.returns-in-Err-OutOfMemory
+returns-in-Err-OutOfMemory g c = lacks_early _ _ _ refl
