@@ -1,5 +1,5 @@
 -- Why no map is made of a file.
-use Rattle.std.proofs.Common.{◌≡◌, ◌⊎◌, ℕ, Result, Err, ap, inl, inr, refl}
+use Rattle.std.proofs.Common.{◌≡◌, ◌⊎◌, ℕ, Err, ap, inl, inr, refl}
 use Rattle.pdb_base.specs.Answer.{Answer}
 use Rattle.pdb_base.specs.Refusal.{refusal_of}
 use Rattle.pdb_base.specs.declared.error.Error.{Error}

@@ -1,5 +1,5 @@
 -- What stands on a writer at each exit of showing one record.
-use Rattle.std.proofs.Common.{◌≡◌, ◌⊎◌, inl, inr, ℕ, List, [], ◌++◌, Option, Some, None, Result, Ok}
+use Rattle.std.proofs.Common.{◌≡◌, ◌⊎◌, inl, inr, ℕ, List, [], ◌++◌, Some, None, Result, Ok}
 use Rattle.std.proofs.Common.{Err, refl, sym, ap, subst, ◌∙◌}
 use Rattle.std.proofs.lemmas.List.{append-nil}
 use Rattle.pdb_base.proofs.lemmas.Collected.{ok}
@@ -12,7 +12,7 @@ use Rattle.pdbdump_tables.specs.Lines.{type_shown}
 use Rattle.pdbdump_tables.specs.Listed.{IsShown, cut_shown, lacking_shown, members_text, refused_shown, stopped_shown}
 use Rattle.pdbdump_tables.specs.Listed.{unread_shown, whole_shown}
 use Rattle.pdbdump_rows.specs.declared.form.Form.{Form}
-use Rattle.pdb_output.specs.Output.{OutputState, Gets, IsCutShort, IsFailed, Writes}
+use Rattle.pdb_output.specs.Output.{OutputState, Gets, IsCutShort, IsFailed}
 use Rattle.pdb_output.proofs.lemmas.Written.{first_cut, second_writes}
 use Rattle.pdbdump_rows.specs.Lines.{full_text}
 use Rattle.pdb_tpi.specs.Finder.{item_of}

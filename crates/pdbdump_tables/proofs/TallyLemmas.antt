@@ -11,19 +11,19 @@ use Rattle.std.proofs.lemmas.List.{get_or_past, get_or-set_same, get_or-set_othe
 use Rattle.std.proofs.Math.ListN.{drop_of_length-le}
 use Rattle.std.proofs.lemmas.List.Filters.{length-filter_both, sum_by-filter_both}
 use Rattle.std.proofs.lemmas.List.Sums.{sum_by-cons, sum_by-take-drop}
-use Rattle.std.proofs.lemmas.Option.{slice_get_cases, slice_get_past, slice_get-get_or}
+use Rattle.std.proofs.lemmas.Option.{slice_get_past, slice_get-get_or}
 use Rattle.pdb_base.specs.declared.error.Error.{Error}
 use Rattle.pdb_base.specs.Answer.{Answer}
 use Rattle.pdb_base.specs.Refusal.{Refusal, refusal_of}
-use Rattle.pdb_base.proofs.lemmas.Collected.{ok_is, ok_is_no_err, err_is}
+use Rattle.pdb_base.proofs.lemmas.Collected.{ok_is_no_err, err_is}
 use Rattle.pdb_tpi.specs.OpenTable.{item_size}
 use Rattle.pdb_tpi.specs.Record.{kind_of}
 use Rattle.pdb_tpi.specs.Steps.{WalkPosition, IsStep, body, steps_taken, room, step_at_end, walk, walk_rest}
 use Rattle.pdb_tpi.specs.Table.{IsTable, Table}
 use Rattle.pdb_tpi.specs.Walk.{behind, fault_of, first_item, items}
 use Rattle.pdb_tpi.proofs.FrontLemmas.{front_item}
-use Rattle.pdb_tpi.proofs.StepLemmas.{step_err, step_gives, step_none, step_some, step_stops}
-use Rattle.pdb_tpi.proofs.WalkLemmas.{items_full, items_more, items_none, nth_some}
+use Rattle.pdb_tpi.proofs.StepLemmas.{step_err, step_none, step_some, step_stops}
+use Rattle.pdb_tpi.proofs.WalkLemmas.{items_full, items_more, items_none}
 use Rattle.pdbdump_tables.specs.Tally.{IsTally, noted_kind}
 use Rattle.pdbdump_tables.specs.declared.kinds.KindCount.{KindCount}
 use Rattle.pdbdump_tables.specs.declared.kinds.Tally.{Tally}

@@ -1,5 +1,5 @@
 -- The address map of a file, or one made from given streams.
-use Rattle.std.specs.Prelude.{ℕ, ◌&&◌, if◌then◌else◌, Bool, List, [], Option, Ok, unwrap_or}
+use Rattle.std.specs.Prelude.{ℕ, ◌&&◌, if◌then◌else◌, Bool, List, [], Ok, unwrap_or}
 use Rattle.std.specs.Option.{is_none}
 use Rattle.pdb_base.specs.Answer.{Answer, ◌>>=◌}
 use Rattle.pdb_msf.specs.Header.{Head}

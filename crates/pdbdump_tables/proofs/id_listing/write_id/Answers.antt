@@ -1,5 +1,5 @@
 -- What stands there at each exit.
-use Rattle.std.proofs.Common.{Ok, Err, inl, refl}
+use Rattle.std.proofs.Common.{Ok, inl, refl}
 use Rattle.pdb_base.proofs.lemmas.Refused.{passed_on}
 use Rattle.pdbdump_tables.proofs.ShownLemmas.{id_found, id_unfound, lacks_early, refuses_early, shown_as}
 use Rattle.pdbdump_tables.proofs.id_listing.write_id.Goals as goal

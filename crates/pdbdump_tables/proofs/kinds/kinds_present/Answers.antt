@@ -1,4 +1,4 @@
-use Rattle.std.proofs.Common.{ℕ, ap, ◌∙◌}
+use Rattle.std.proofs.Common.{ap, ◌∙◌}
 use Rattle.std.specs.Global.{Vec}
 use Rattle.pdbdump_tables.specs.Tally.{noted_kind}
 use Rattle.pdbdump_tables.specs.declared.kinds.KindCount.{KindCount}

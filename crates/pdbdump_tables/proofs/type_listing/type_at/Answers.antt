@@ -1,5 +1,4 @@
 -- What the table shows, or its refusal.
-use Rattle.std.proofs.Common.{ap}
 use Rattle.pdb_base.proofs.lemmas.Refused.{passed_on}
 use Rattle.pdbdump_tables.proofs.ShownLemmas.{lacks_early, refuses_table, shows_table}
 use Rattle.pdbdump_tables.specs.Lines.{type_lines_at}

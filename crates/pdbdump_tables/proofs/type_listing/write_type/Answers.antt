@@ -1,5 +1,5 @@
 -- What stands there at each exit.
-use Rattle.std.proofs.Common.{Ok, Err, inl, refl, ap}
+use Rattle.std.proofs.Common.{Ok, inl, refl, ap}
 use Rattle.pdb_base.proofs.lemmas.Refused.{passed_on}
 use Rattle.pdb_base.specs.declared.index.TypeIndex.{TypeIndex}
 use Rattle.pdbdump_tables.proofs.ShownLemmas.{lacks_early, refuses_early, shown_as, type_found, type_unfound}
