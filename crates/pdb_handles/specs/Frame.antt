@@ -1,5 +1,5 @@
 -- Frames, as a caller sees them.
-use Rattle.std.specs.Prelude.{◌≡◌, ℕ, Bool, true, false, is_some, unwrap_or, List, slice_get, Option}
+use Rattle.std.specs.Prelude.{◌≡◌, ℕ, Bool, true, false, is_some, unwrap_or, List, slice_get}
 use Rattle.std.specs.Option.{option_map}
 use Rattle.pdb_frames.specs.declared.frame_data.FrameData.{FrameData}
 use Rattle.pdb_frames.specs.FrameNumbers.{frame_type_number}

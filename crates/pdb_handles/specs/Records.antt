@@ -1,9 +1,10 @@
 -- The contents of a type record, as a caller sees them: its row, its name and its lists.
 use Rattle.std.specs.Prelude.{◌≡◌, ◌⊎◌, ℕ, ◌||◌, nat_lt, if◌then◌else◌, is_some, unwrap_or, List, [], ◌++◌, length}
-use Rattle.std.specs.Prelude.{drop, map, Option, Some, None, Ok, Err}
+use Rattle.std.specs.Prelude.{drop, map, Option, Some, None, Result, Ok, Err}
 use Rattle.std.specs.List.{flat_map}
 use Rattle.pdb_base.specs.Answer.{Answer, ◌>>=◌}
-use Rattle.pdb_base.specs.Refusal.{out_of_memory}
+use Rattle.pdb_base.specs.Refusal.{out_of_memory, refusal_of}
+use Rattle.pdb_base.specs.declared.error.Error.{Error}
 use Rattle.pdb_values.specs.TypeValue.{TypeValue, argument_list, field_list, name_of_type, values_in}
 use Rattle.pdb_tpi.specs.Record.{type_of}
 use Rattle.pdb_handles.specs.declared.fault.Fault.{Fault}
@@ -13,6 +14,12 @@ use Rattle.pdb_handles.specs.Copied.{Copied, nothing_copied, items_copied}
 use Rattle.pdb_handles.specs.Fault.{fine, fault_of, no_value, too_small}
 use Rattle.pdb_handles.specs.Frame.{flag}
 use Rattle.pdb_handles.specs.Row.{type_info}
+use Rattle.pdb_handles.specs.declared.row.Row.{Row}
+
+-- A row is written as what was read is shown; or the fault is that of the error, and the row stays as it was.
+abbrev pub IsRowTold : {A : Type 0} → (A → Row) → Result A Error → Row → Fault → Row → Type 0
+IsRowTold shown (Ok x) old fault new = (fault ≡ fine) × (new ≡ shown x)
+IsRowTold shown (Err e) old fault new = (fault ≡ fault_of (refusal_of e)) × (new ≡ old)
 
 -- what is written of a list that may be absent
 abbrev pub if_copied : {A : Type 0} → List A → Answer (Option (List A)) → Copied A

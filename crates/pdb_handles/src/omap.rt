@@ -53,7 +53,7 @@ fn omap_row(moved: OMAPRecord) -> OmapRow
 pub fn records_in(alloc: Global, table: &OMAPTable) -> Result<Vec<OmapRow>>
     ensures { Answers (λ rows. rows.items) result (Ok (map omap_info table.now)) }
 {
-    Ok(table.records().map(omap_info).collect(alloc)?)
+    Ok(table.records().map(omap_row).collect(alloc)?)
 }
 
 /// Writes 1 if no record of a table has a source below that of the record before it, and 0 if one

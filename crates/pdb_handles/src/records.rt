@@ -1,20 +1,22 @@
 //! What the record of a type says.
 
-ghost use Rattle.std.specs.Prelude.{map, Ok};
+ghost use Rattle.std.specs.Prelude.{map, [], Ok};
 ghost use Rattle.std.specs.Option.{option_map};
 ghost use Rattle.pdb_base.specs.Answer.{Answer, Answers};
 ghost use Rattle.pdb_values.specs.Text.{text_bytes};
-ghost use Rattle.pdb_values.specs.TypeValue.{TypeValue, name_of_type};
+ghost use Rattle.pdb_values.specs.TypeValue.{TypeValue, argument_list, field_list, name_of_type, no_field};
 ghost use Rattle.pdb_values.specs.TypeView.{type_value};
 ghost use Rattle.pdb_tpi.specs.Record.{type_of};
-ghost use Rattle.pdb_handles.specs.Records.{arguments_in, of_type};
+ghost use Rattle.pdb_records.specs.Fields.{type_record};
+ghost use Rattle.pdb_handles.specs.Records.{IsRowTold, arguments_in, of_type};
 ghost use Rattle.pdb_handles.specs.Roles.{IsAnswerTold};
 ghost use Rattle.pdb_handles.specs.Row.{type_info};
 
 use crate::fault::{FINE, Fault};
-use crate::row::Row;
-use pdb_base::{RawString, Result, TypeIndex};
-use pdb_records::parse_type_data;
+use crate::row::{Numbers, Row, index_in, row};
+use pdb_base::{ParseBuffer, RawString, Result, TypeIndex};
+use pdb_records::{parse_behind_leaf, parse_type_data, skip_arguments, skip_field_list};
+use pdb_values::constants::{LF_ARGLIST, LF_FIELDLIST};
 use pdb_values::{FIRST_RECORD, TypeData, type_data_for_primitive};
 use std::alloc::Global;
 
@@ -48,12 +50,55 @@ fn write_row(parsed: &Result<TypeData<'_>>, row: &mut Row) -> Fault
     }
 }
 
-/// Does what `write_type_row` does, out of line, also for a primitive type.
-#[inline(never)]
-fn write_any_row(alloc: Global, bytes: &[u8], index: u32, row: &mut Row) -> Fault
-    ensures { IsAnswerTold (λ value. type_info value) (type_of index bytes.now) row.old result row.new }
+/// Writes the numbers in a list of fields, of which only the continuation was read, or returns the
+/// fault of its error.
+#[inline(always)]
+fn write_list_row(read: &Result<Option<TypeIndex>>, row: &mut Row) -> Fault
+    ensures { IsRowTold (λ continuation. type_info (field_list no_field continuation)) read.now row.old result row.new }
 {
-    write_row(&type_in(alloc, bytes, index), row)
+    match read {
+        Ok(continuation) => {
+            *row = row!(19; list_index: index_in(*continuation));
+            Fault::status(FINE)
+        }
+        Err(error) => Fault::of(error),
+    }
+}
+
+/// Writes the numbers in a list of arguments that was skipped, of which there are none, or returns
+/// the fault of its error.
+#[inline(always)]
+fn write_arguments_row(skipped: &Result<()>, row: &mut Row) -> Fault
+    ensures { IsRowTold (λ nothing. type_info (argument_list [])) skipped.now row.old result row.new }
+{
+    match skipped {
+        Ok(_) => {
+            *row = Row::of(20, &Numbers::default());
+            Fault::status(FINE)
+        }
+        Err(error) => Fault::of(error),
+    }
+}
+
+/// Writes the numbers in a record, or returns the fault of its error. No field and no argument of a
+/// list is kept, since the numbers say nothing of them.
+#[inline(always)]
+fn write_record_row(alloc: Global, bytes: &[u8], row: &mut Row) -> Fault
+    ensures { IsAnswerTold (λ value. type_info value) (type_record bytes.now) row.old result row.new }
+{
+    let mut buffer = ParseBuffer::from(bytes);
+    let kind = match buffer.parse_u16() {
+        Ok(kind) => kind,
+        Err(error) => return Fault::of(&error),
+    };
+    if kind == LF_FIELDLIST {
+        return write_list_row(&skip_field_list(alloc, &mut buffer), row);
+    }
+    if kind == LF_ARGLIST {
+        return write_arguments_row(&skip_arguments(&mut buffer), row);
+    }
+    // What a function in between returned would be copied.
+    write_row(&parse_behind_leaf(alloc, &mut buffer, kind), row)
 }
 
 /// Writes the numbers in the record of a type, or returns the fault of its error. An index below
@@ -64,9 +109,9 @@ pub fn write_type_row(alloc: Global, bytes: &[u8], index: u32, row: &mut Row) ->
     ensures { IsAnswerTold (λ value. type_info value) (type_of index bytes.now) row.old result row.new }
 {
     if index < FIRST_RECORD {
-        return write_any_row(alloc, bytes, index, row);
+        return write_row(&type_data_for_primitive(TypeIndex(index)), row);
     }
-    write_row(&parse_type_data(alloc, bytes), row)
+    write_record_row(alloc, bytes, row)
 }
 
 /// Parses a record and returns the name of its type, if it has one.

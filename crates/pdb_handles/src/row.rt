@@ -83,7 +83,7 @@ pub(crate) use row;
 
 /// Returns the number of an index, if there is one.
 #[inline(always)]
-fn index_in(index: Option<TypeIndex>) -> Option<u32>
+pub(crate) fn index_in(index: Option<TypeIndex>) -> Option<u32>
     ensures { result ≡ index_in index }
 {
     index.map(|index| index.0)
