@@ -13,7 +13,7 @@ ghost use Rattle.pdb_handles.specs.Translation.{Translates};
 use pdb_handles::copied::{copy_list, copy_nothing};
 use pdb_handles::file::addresses_in;
 use pdb_handles::ranges::{Span, write_internal, write_loaded};
-use pdb_handles::sections::{Section, sections_told};
+use pdb_handles::sections::{Section, sections_in};
 use pdb_handles::translation::{Translation, translate};
 use pdb_handles::{Fault, Handle, TOO_LONG};
 use pdb_space::{PdbInternalRva, Rva};

@@ -58,7 +58,27 @@ pub struct Numbered<T> {
     table: Box<T>,
 }
 
+/// Reads the table in a stream.
+#[inline(never)]
+fn read_table<T: Table, F: ReadStreams>(
+    alloc: Global,
+    file: &mut F,
+    number: u32,
+) -> Result<Numbered<T>>
+    requires { F.can_read file.old }
+    ensures table { AnswersUnless (F.failed file.old file.new) (λ opened. opened.table.value) result
+        (table_of_stream T.table_in (F.stream file.old) number) }
+    ensures number { IfOk result (λ opened. opened.number ≡ number) }
+    ensures kept { F.kept file.old file.new }
+{
+    let stream = file.read(alloc, number, None)?;
+    let table = Box::new(alloc, T::parse_in(alloc, stream)?)?;
+    Ok(Numbered { number, table })
+}
+
 /// Returns the table in a stream: the open one if it is that stream's, or else one that is read.
+/// Only the reading is a call, so that a table that is open is not copied.
+#[inline(always)]
 fn table_of_stream<T: Table, F: ReadStreams>(
     alloc: Global,
     file: &mut F,
@@ -77,9 +97,7 @@ fn table_of_stream<T: Table, F: ReadStreams>(
             return Ok(last);
         }
     }
-    let stream = file.read(alloc, number, None)?;
-    let table = Box::new(alloc, T::parse_in(alloc, stream)?)?;
-    Ok(Numbered { number, table })
+    read_table(alloc, file, number)
 }
 
 /// Learns where items begin, up to the one of an index, if another query can follow. The last query
