@@ -215,7 +215,8 @@ pub(crate) fn push_next(
     out: &mut Vec<u8>,
 ) -> Result<()>
     ensures ok { OnOk result (out.new.items ≡ out.old.items
-        ++ ((if is_first then line_opening form else separator form) ++ field_text form (name.now, value_shown value.now))) }
+        ++ ((if is_first then line_opening form else separator form)
+        ++ field_text form (name.now, value_shown value.now))) }
     ensures memory { FailsOnlyForMemory result }
 {
     let before = if is_first {
