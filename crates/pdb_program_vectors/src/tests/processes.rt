@@ -14,7 +14,7 @@ use std::rt::{Env, Files};
 use std::test::Fail;
 
 /// A process: its words, its input, the file `a.pdb`, what it has written, and whether its standard
-/// output and its standard error fail. The word U+FFFD stands for one that is not UTF-8.
+/// output and its standard error fail. The word U+FFFD is handed over as a byte that is not UTF-8.
 #[derive(Drop)]
 struct Process<'a> {
     alloc: Global,
@@ -52,6 +52,15 @@ impl<'a> Process<'a> {
     }
 }
 
+/// The bytes of a word.
+fn bytes_of(word: &str) -> &[u8] {
+    if word == "\u{fffd}" {
+        b"\xff".as_slice()
+    } else {
+        word.as_bytes()
+    }
+}
+
 /// Adds bytes to what was written, or fails.
 fn add(written: &RefCell<Vec<u8>>, bytes: &[u8], fails: bool) -> io::Result<()> {
     if fails {
@@ -76,11 +85,7 @@ impl Env for Process<'_> {
         let Some(word) = self.words.get(index) else {
             return Err(FillError::NotPresent);
         };
-        let bytes = if *word == "\u{fffd}" {
-            [0xff].as_slice()
-        } else {
-            word.as_bytes()
-        };
+        let bytes = bytes_of(word);
         if bytes.len() > room.len() {
             return Err(FillError::TooLong);
         }
