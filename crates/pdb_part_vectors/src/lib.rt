@@ -1,4 +1,5 @@
-//! Test cases of whole files, of what holds between their parts, and of types.
+//! Test cases of whole files, of what holds between their parts, of types, and of calls for programs
+//! in other languages.
 #![tactic(auto)]
 
 #[cfg(test)]

@@ -1,5 +1,6 @@
 //! Test cases, a file a crate.
 
+mod callers;
 mod consistency;
 mod types;
 mod validation;

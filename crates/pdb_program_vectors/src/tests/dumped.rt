@@ -198,6 +198,30 @@ fn each_listing(rt: HostRuntime) -> std::result::Result<(), Fail> {
     Ok(())
 }
 
+/// The place in S1 of the number of the page that holds its directory.
+const PAGE_OF_DIRECTORY: usize = 1536;
+
+/// The summary of S1 with the number 9 there, though it has 8 pages.
+const NO_DIRECTORY: &str =
+    "page_size=512 pages=8 bytes=4096\npart=directory error=MSF referred to page number (9) out of range\n";
+
+/// Whether the summary of S1 says that its directory can't be read.
+fn is_directory_told(alloc: Global) -> Result<bool> {
+    let mut file = s1_with(alloc, b"hello")?;
+    if let Some(at) = file.get_mut(PAGE_OF_DIRECTORY) {
+        *at = 9;
+    }
+    let mut out = Output::new(Vec::new(alloc));
+    list(alloc, file, Command::Summary, Form::Text, &mut out)?;
+    Ok(out.into_inner().as_slice() == NO_DIRECTORY.as_bytes())
+}
+
+#[test]
+fn unread_directory(rt: HostRuntime) -> std::result::Result<(), Fail> {
+    assert!(rt; is_directory_told(rt.alloc())?);
+    Ok(())
+}
+
 /// What is written of the sections of S1 with a header as its stream 3.
 const SECTION_LINE: &str =
     "1 .text virtual_address=0x1000 virtual_size=133 pointer_to_raw_data=0x400 size_of_raw_data=512 \

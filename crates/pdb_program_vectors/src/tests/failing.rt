@@ -14,10 +14,12 @@ use std::io;
 use std::io::{ErrorKind, Read, Write};
 use std::test::Fail;
 
-/// A channel that fails at a call: it holds what it took, or gives what is left of its bytes.
+/// A channel that fails at a call: it holds what it took, and how many bytes of it are flushed, or
+/// gives what is left of its bytes.
 #[derive(Drop)]
 struct Failing {
     bytes: Vec<u8>,
+    flushed: usize,
     at: usize,
     calls: usize,
     kind: ErrorKind,
@@ -27,6 +29,7 @@ impl Failing {
     fn new(bytes: Vec<u8>, calls: usize, kind: ErrorKind) -> Self {
         Failing {
             bytes,
+            flushed: 0,
             at: 0,
             calls,
             kind,
@@ -51,7 +54,9 @@ impl Write for Failing {
     }
 
     fn flush(&mut self) -> io::Result<()> {
-        self.call()
+        self.call()?;
+        self.flushed = self.bytes.len();
+        Ok(())
     }
 }
 
@@ -155,11 +160,13 @@ const IO_ERROR: &[u8] = b"IO error while reading PDB: ";
 /// More calls than any program makes.
 const NEVER: usize = 1_000_000;
 
-/// The status of a run in which a channel fails at a call, and what each output then has.
+/// The status of a run in which a channel fails at a call, what each output then has, and how many
+/// bytes of standard output are flushed.
 #[derive(Drop)]
 struct Ended {
     status: u8,
     out: Vec<u8>,
+    flushed: usize,
     out_failed: bool,
     err: Vec<u8>,
     err_failed: bool,
@@ -177,9 +184,11 @@ fn end_of(alloc: Global, served: Served, calls: Calls) -> Result<Ended> {
     let mut err = Output::new(Failing::new(Vec::new(alloc), messages, ErrorKind::StorageFull));
     let status = run(alloc, served, &mut input, &mut out, &mut err)?;
     let (out_failed, err_failed) = (out.has_failed(), err.has_failed());
+    let Failing { bytes, flushed, .. } = out.into_inner();
     Ok(Ended {
         status,
-        out: out.into_inner().bytes,
+        out: bytes,
+        flushed,
         out_failed,
         err: err.into_inner().bytes,
         err_failed,
@@ -206,15 +215,16 @@ fn is_cut(served: Served, kind: ErrorKind, whole: &Ended, ended: &Ended) -> bool
     is_ended && whole.out.starts_with(&ended.out)
 }
 
-/// Whether a program whose output fails at each call in turn ends as it must, and how many calls it
-/// makes.
+/// Whether a program whose output fails at each call in turn ends as it must, and flushes all that
+/// it writes where none fails; and how many calls it makes.
 fn fails_at_each_write(alloc: Global, served: Served, kind: ErrorKind) -> Result<Option<usize>> {
     let whole = end_of(alloc, served, (NEVER, NEVER, NEVER, kind))?;
     for call in 0..NEVER {
         let run = end_of(alloc, served, (NEVER, call, NEVER, kind))?;
         if !run.out_failed {
             let is_whole = run.status == whole.status && run.out == whole.out;
-            return Ok(if is_whole && run.err.is_empty() {
+            let is_flushed = run.flushed == run.out.len();
+            return Ok(if is_whole && is_flushed && run.err.is_empty() {
                 Some(call)
             } else {
                 None

@@ -14,7 +14,7 @@ use std::rt::{Env, Files};
 use std::test::Fail;
 
 /// A process: its words, its input, the file `a.pdb`, what it has written, and whether its standard
-/// error fails.
+/// output and its standard error fail. The word U+FFFD is handed over as a byte that is not UTF-8.
 #[derive(Drop)]
 struct Process<'a> {
     alloc: Global,
@@ -23,6 +23,7 @@ struct Process<'a> {
     file: Option<&'a [u8]>,
     out: RefCell<Vec<u8>>,
     err: RefCell<Vec<u8>>,
+    out_fails: bool,
     err_fails: bool,
 }
 
@@ -35,21 +36,36 @@ impl<'a> Process<'a> {
             file: None,
             out: RefCell::new(Vec::new(alloc)),
             err: RefCell::new(Vec::new(alloc)),
+            out_fails: false,
             err_fails,
         }
     }
 
+    /// Adds bytes to what was written to standard output, unless that fails.
+    fn add_to_out(&self, bytes: &[u8]) -> io::Result<()> {
+        add(&self.out, bytes, self.out_fails)
+    }
+
     /// Adds bytes to what was written to standard error, unless that fails.
     fn add_to_err(&self, bytes: &[u8]) -> io::Result<()> {
-        if self.err_fails {
-            return Err(io::Error::from(ErrorKind::StorageFull));
-        }
-        add(&self.err, bytes)
+        add(&self.err, bytes, self.err_fails)
     }
 }
 
-/// Adds bytes to what was written.
-fn add(written: &RefCell<Vec<u8>>, bytes: &[u8]) -> io::Result<()> {
+/// The bytes of a word.
+fn bytes_of(word: &str) -> &[u8] {
+    if word == "\u{fffd}" {
+        b"\xff".as_slice()
+    } else {
+        word.as_bytes()
+    }
+}
+
+/// Adds bytes to what was written, or fails.
+fn add(written: &RefCell<Vec<u8>>, bytes: &[u8], fails: bool) -> io::Result<()> {
+    if fails {
+        return Err(io::Error::from(ErrorKind::StorageFull));
+    }
     match written.try_borrow_mut() {
         Ok(mut written) => Ok(written.extend_from_slice(bytes)?),
         Err(_) => Err(io::Error::from(ErrorKind::ResourceBusy)),
@@ -69,7 +85,7 @@ impl Env for Process<'_> {
         let Some(word) = self.words.get(index) else {
             return Err(FillError::NotPresent);
         };
-        let bytes = word.as_bytes();
+        let bytes = bytes_of(word);
         if bytes.len() > room.len() {
             return Err(FillError::TooLong);
         }
@@ -104,15 +120,15 @@ impl<'a> Input for Process<'a> {
 
 impl Print for Process<'_> {
     fn print<D: Display + Drop>(&self, value: D) -> io::Result<()> {
-        add(&self.out, format!(in self.alloc; "{value}")?.as_bytes())
+        self.add_to_out(format!(in self.alloc; "{value}")?.as_bytes())
     }
 
     fn println<D: Display + Drop>(&self, value: D) -> io::Result<()> {
-        add(&self.out, format!(in self.alloc; "{value}\n")?.as_bytes())
+        self.add_to_out(format!(in self.alloc; "{value}\n")?.as_bytes())
     }
 
     fn write_all(&self, bytes: &[u8]) -> io::Result<()> {
-        add(&self.out, bytes)
+        self.add_to_out(bytes)
     }
 }
 
@@ -326,6 +342,101 @@ fn calls(rt: HostRuntime) -> Result<(), Fail> {
         assert!(rt; holds(&process.out, out.as_bytes()), "output of {words:?}");
         assert!(rt; begins(&process.err, err), "errors of {words:?}");
     }
+    Ok(())
+}
+
+/// Words among which one is not UTF-8, and how what is then written to standard error begins.
+const BROKEN: &[(&[&str], &str)] = &[
+    (&["pdbq", "\u{fffd}"], USAGE),
+    (&["pdbq", "stream", "\u{fffd}"], USAGE),
+    (&["pdbdump", "\u{fffd}"], ABOUT),
+    (&["pdbdump", "types", "a.pdb", "\u{fffd}"], ABOUT),
+];
+
+/// How the text begins that says how `pdbdump` is called.
+const ABOUT: &str = "pdbdump ";
+
+/// Whether words of which one is not UTF-8 are misuse, and the status is the same where standard
+/// error fails.
+fn is_misuse(alloc: Global, words: &[&str], told: &str) -> bool {
+    let process = Process::new(alloc, words, b"", false);
+    let silent = Process::new(alloc, words, b"", true);
+    run(&process) == 2
+        && run(&silent) == 2
+        && holds(&process.out, b"")
+        && begins(&process.err, told)
+        && holds(&silent.out, b"")
+}
+
+#[test]
+fn broken_words(rt: HostRuntime) {
+    for (words, told) in BROKEN {
+        assert!(rt; is_misuse(rt.alloc(), words, told), "{words:?}");
+    }
+}
+
+/// Commands for a path at which there is no file.
+const MISSING: &[&[&str]] = &[
+    &["pdbdump", "missing.pdb"],
+    &["pdbdump", "types", "missing.pdb"],
+    &["pdbdump", "ask", "missing.pdb"],
+    &["pdbdump", "id", "missing.pdb"],
+    &["pdbdump", "extract", "missing.pdb", "3"],
+    &["pdbdump", "validate", "missing.pdb"],
+    &["pdbdump", "layout", "missing.pdb", "S"],
+];
+
+/// How the line of an error of the system begins.
+const IO_ERROR: &str = "IO error while reading PDB: ";
+
+/// Whether a process ends with status 1, reports an error of the system and writes nothing else,
+/// and ends so too if its standard error fails.
+fn is_told(mut process: Process<'_>) -> bool {
+    let is_told = run(&process) == 1 && begins(&process.err, IO_ERROR) && holds(&process.out, b"");
+    process.err_fails = true;
+    is_told && run(&process) == 1 && holds(&process.out, b"")
+}
+
+#[test]
+fn missing_files(rt: HostRuntime) {
+    for words in MISSING {
+        let process = Process::new(rt.alloc(), words, b"stream 3", false);
+        assert!(rt; is_told(process), "{words:?}");
+    }
+}
+
+/// Words that ask how the program, or one command, is called.
+const HELPED: &[&[&str]] = &[
+    &["pdbdump", "--help"],
+    &["pdbdump", "types", "--help"],
+    &["pdbdump", "--help", "ask"],
+];
+
+/// Whether a call writes something to standard output and nothing to standard error.
+fn is_help(alloc: Global, words: &[&str]) -> bool {
+    let process = Process::new(alloc, words, b"", false);
+    run(&process) == 0 && begins(&process.out, ABOUT) && holds(&process.err, b"")
+}
+
+/// Whether a call for a file, whose input is one question, reports that its standard output fails.
+fn is_unwritten(alloc: Global, words: &[&str], file: &[u8]) -> bool {
+    let mut process = Process::new(alloc, words, b"stream 3", false);
+    process.file = Some(file);
+    process.out_fails = true;
+    is_told(process)
+}
+
+#[test]
+fn unwritten_outputs(rt: HostRuntime) -> Result<(), Fail> {
+    let file = build_file(rt.alloc())?;
+    for words in HELPED {
+        assert!(rt; is_help(rt.alloc(), words), "{words:?}");
+        assert!(rt; is_unwritten(rt.alloc(), words, &file), "{words:?}");
+    }
+    for (words, _) in COMMANDS {
+        assert!(rt; is_unwritten(rt.alloc(), words, &file), "{words:?}");
+    }
+    assert!(rt; is_unwritten(rt.alloc(), &["pdbdump", "extract", "a.pdb", "3"], &file));
     Ok(())
 }
 

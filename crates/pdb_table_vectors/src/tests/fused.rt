@@ -59,11 +59,12 @@ fn table(alloc: Global) -> Result<OMAPTable, Fail> {
     Ok(OMAPTable::parse(stream(alloc, RECORDS)?)?)
 }
 
-/// Whether the iterators of a table end for good behind two items, and the others behind one and
-/// none.
+/// Whether the iterators of a table end for good behind two items, or behind one where the range
+/// ends before the second record, and the others behind one and none.
 fn end_for_good(table: &OMAPTable) -> bool {
     count_records(table.records()) == 2
         && count_parts(table.lookup_range(0x1008..0x1018)) == 2
+        && count_parts(table.lookup_range(0x1008..0x1010)) == 1
         && count_parts(RangeIter::identity(3..5)) == 1
         && count_parts(RangeIter::empty()) == 0
 }

@@ -1,0 +1,183 @@
+//! Calls for programs in other languages over a file of which a byte is wrong: each error is that of
+//! the first fault, and never `OutOfMemory`, since there is plenty of memory.
+
+use pdb_base::{Error, Result};
+use pdb_handles::Fault;
+use pdb_handles::file::{addresses_in, frames_in, layout_in, named_stream_in};
+use pdb_handles::information::{information_in, stream_names_in};
+use pdb_handles::roles::roles_in;
+use std::alloc::Global;
+use std::test::Fail;
+
+/// The header of a file: page size 512, free page map 1, 8 pages used, a directory of 28 bytes, and
+/// page 3, which says where the directory is.
+const HEADER: &[u8] =
+    b"Microsoft C/C++ MSF 7.00\r\n\x1aDS\0\0\0\x00\x02\0\0\x01\0\0\0\x08\0\0\0\x1c\0\0\0\0\0\0\0\x03\0\0\0";
+
+/// The page of the directory.
+const LOCATION: &[u8] = b"\x04\0\0\0";
+
+/// The directory: stream 0 has no bytes, stream 1 has 74 in page 5, stream 2 is absent, and stream
+/// 3 has 86 in page 6.
+const DIRECTORY: &[u8] =
+    b"\x04\0\0\0\0\0\0\0\x4a\0\0\0\xff\xff\xff\xff\x56\0\0\0\x05\0\0\0\x06\0\0\0";
+
+/// Stream 1: the names `/a` of stream 2 and `/names` of stream 4, neither of which there is.
+const INFORMATION: &[u8] =
+    b"\x94.1\x01\0\0\0\0\x01\0\0\0\0\0\0\0\0\0\0\0\0\0\0\0\0\0\0\0\x0a\0\0\0/names\0/a\0\x02\0\0\0\x04\0\0\0\0\0\0\0\0\0\0\0\x07\0\0\0\x02\0\0\0\0\0\0\0\x04\0\0\0";
+
+/// Stream 3: frames of the older format in stream 9, the section headers in stream 8, neither of
+/// which there is, and no other role.
+const DEBUG: &[u8] =
+    b"\xff\xff\xff\xffw\x091\x01\x01\0\0\0\0\0\0\0\0\0\0\0\0\0\0\0\0\0\0\0\0\0\0\0\0\0\0\0\0\0\0\0\0\0\0\0\0\0\0\0\x16\0\0\0\0\0\0\0\0\0\0\0\0\0\0\0\x09\0\xff\xff\xff\xff\xff\xff\xff\xff\x08\0\xff\xff\xff\xff\xff\xff\xff\xff\xff\xff";
+
+/// The pages of the file.
+const PAGES: [&[u8]; 8] = [
+    HEADER,
+    b"",
+    b"",
+    LOCATION,
+    DIRECTORY,
+    INFORMATION,
+    DEBUG,
+    b"",
+];
+
+/// Bytes in a page.
+const PAGE_SIZE: usize = 512;
+
+/// The file, with a byte set to another.
+fn file_with(alloc: Global, place: usize, byte: u8) -> Result<Vec<u8>> {
+    let mut file = Vec::new(alloc);
+    for page in PAGES {
+        let mut bytes = Vec::from_slice(alloc, page)?;
+        bytes.resize(PAGE_SIZE, 0)?;
+        file.extend_from_slice(&bytes)?;
+    }
+    if let Some(at) = file.get_mut(place) {
+        *at = byte;
+    }
+    Ok(file)
+}
+
+/// A call.
+#[derive(Clone, Copy, Debug)]
+enum Call {
+    Layout,
+    Information,
+    Names,
+    Stream(&'static [u8]),
+    Roles,
+    Map,
+    Frames,
+}
+
+/// The error of a call over a file, if it fails.
+fn error_of(alloc: Global, file: &[u8], call: Call) -> Option<Error> {
+    match call {
+        Call::Layout => layout_in(alloc, file).err(),
+        Call::Information => information_in(alloc, file).err(),
+        Call::Names => stream_names_in(alloc, file).err(),
+        Call::Stream(name) => named_stream_in(alloc, file, name).err(),
+        Call::Roles => roles_in(alloc, file).err(),
+        Call::Map => addresses_in(alloc, file).err(),
+        Call::Frames => frames_in(alloc, file).err(),
+    }
+}
+
+/// The places in the file of a letter of the magic, of the second byte of the page size, of the page
+/// of the directory, of the sizes of streams 1 and 3, and of the first byte of stream 3.
+const MAGIC: usize = 0;
+
+const PAGES_OF: usize = 33;
+
+const PAGE_OF_DIRECTORY: usize = 0x600;
+
+const SIZE_OF_1: usize = 0x808;
+
+const SIZE_OF_3: usize = 0x810;
+
+const FIRST_OF_3: usize = 0xc00;
+
+/// The statuses of the errors, as the header for C numbers them.
+const UNRECOGNIZED: u32 = 1;
+
+const OUT_OF_RANGE: u32 = 2;
+
+const PAGE_SIZE_INVALID: u32 = 3;
+
+const NOT_FOUND: u32 = 4;
+
+const NAME_NOT_FOUND: u32 = 5;
+
+const ENDED: u32 = 8;
+
+const UNIMPLEMENTED: u32 = 9;
+
+/// A byte that is set to another, a call, and the status and the number of its error. The text
+/// "ancient DBI header" has the number 5.
+type Row = (usize, u8, Call, u32, u32);
+
+/// Errors of the header and of the directory.
+const OPENED: &[Row] = &[
+    (MAGIC, b'm', Call::Layout, UNRECOGNIZED, 0),
+    (MAGIC, b'm', Call::Roles, UNRECOGNIZED, 0),
+    (PAGES_OF, 3, Call::Layout, PAGE_SIZE_INVALID, 768),
+    (PAGES_OF, 3, Call::Information, PAGE_SIZE_INVALID, 768),
+    (PAGE_OF_DIRECTORY, 9, Call::Layout, OUT_OF_RANGE, 9),
+    (PAGE_OF_DIRECTORY, 9, Call::Information, OUT_OF_RANGE, 9),
+    (PAGE_OF_DIRECTORY, 9, Call::Names, OUT_OF_RANGE, 9),
+    (PAGE_OF_DIRECTORY, 9, Call::Stream(b"/a"), OUT_OF_RANGE, 9),
+    (PAGE_OF_DIRECTORY, 9, Call::Roles, OUT_OF_RANGE, 9),
+    (PAGE_OF_DIRECTORY, 9, Call::Map, OUT_OF_RANGE, 9),
+    (PAGE_OF_DIRECTORY, 9, Call::Frames, OUT_OF_RANGE, 9),
+];
+
+/// Errors of streams 1 and 3, of names, and of streams that there are not.
+const STREAMS: &[Row] = &[
+    (SIZE_OF_1, 27, Call::Information, ENDED, 0),
+    (SIZE_OF_1, 27, Call::Names, ENDED, 0),
+    (SIZE_OF_1, 27, Call::Stream(b"/a"), ENDED, 0),
+    (SIZE_OF_1, 73, Call::Names, ENDED, 0),
+    (SIZE_OF_1, 73, Call::Stream(b"/a"), ENDED, 0),
+    (SIZE_OF_1, 74, Call::Stream(b"a"), NAME_NOT_FOUND, 0),
+    (SIZE_OF_1, 74, Call::Stream(b"/a"), NOT_FOUND, 2),
+    (SIZE_OF_1, 74, Call::Stream(b"/names"), NOT_FOUND, 4),
+    (SIZE_OF_3, 63, Call::Roles, ENDED, 0),
+    (SIZE_OF_3, 63, Call::Map, ENDED, 0),
+    (SIZE_OF_3, 63, Call::Frames, ENDED, 0),
+    (FIRST_OF_3, 0, Call::Roles, UNIMPLEMENTED, 5),
+    (FIRST_OF_3, 0, Call::Map, UNIMPLEMENTED, 5),
+    (FIRST_OF_3, 0, Call::Frames, UNIMPLEMENTED, 5),
+    (FIRST_OF_3, 0xff, Call::Map, NOT_FOUND, 8),
+    (FIRST_OF_3, 0xff, Call::Frames, NOT_FOUND, 9),
+];
+
+/// Whether a call fails with the error of its case.
+fn is_refused(alloc: Global, row: &Row) -> Result<bool> {
+    let (place, byte, call, status, number) = *row;
+    let file = file_with(alloc, place, byte)?;
+    Ok(match error_of(alloc, &file, call) {
+        Some(error) => {
+            let fault = Fault::of(&error);
+            fault.status == status && fault.first == number && fault.second == 0
+        }
+        None => false,
+    })
+}
+
+#[test]
+fn refused_files(rt: HostRuntime) -> std::result::Result<(), Fail> {
+    for rows in [OPENED, STREAMS] {
+        for row in rows {
+            assert!(rt;
+                is_refused(rt.alloc(), row)?,
+                "byte {:#x} is {:#x}: {:?}",
+                row.0,
+                row.1,
+                row.2
+            );
+        }
+    }
+    Ok(())
+}
