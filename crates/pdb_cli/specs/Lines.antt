@@ -11,12 +11,12 @@ use Rattle.pdb_container.specs.declared.query.Reply.TheVariants as replies
 use Rattle.pdb_base.specs.Text.{lossy}
 
 -- the byte that ends a line
-abbrev pub line_feed : ℕ
-line_feed = 10
+abbrev pub line_end : ℕ
+line_end = 10
 
 -- a text and a line feed
 abbrev pub line : List ℕ → List ℕ
-line text = text ++ line_feed ∷ []
+line text = text ++ line_end ∷ []
 
 -- bytes as lower-case hexadecimal digits
 abbrev pub hex_line : List ℕ → List ℕ

@@ -15,7 +15,7 @@ use Rattle.pdb_values.specs.TypeValue.{TypeValue, argument_list, field_list, no_
 use Rattle.pdb_values.specs.TypeView.{type_value}
 use Rattle.pdb_handles.specs.declared.fault.Fault.{Fault}
 use Rattle.pdb_handles.specs.declared.row.Row.{Row}
-use Rattle.pdb_handles.specs.Fault.{fault_of}
+use Rattle.pdb_handles.specs.Fault.{fault_of_refusal}
 use Rattle.pdb_handles.specs.Records.{IsRowTold}
 use Rattle.pdb_handles.specs.Roles.{IsAnswerTold, LacksValue}
 use Rattle.pdb_handles.specs.Row.{type_info}
@@ -63,7 +63,7 @@ list_record bytes mid rest number (Err e) old new fault leaf is (inl refused) to
     (sym (reads_list bytes mid number leaf is) ∙ list_refused mid (refusal_of e) refused) in
     rw whole (inl told)
 list_record bytes mid rest number (Err e) old new fault leaf is (inr want) told =
-    lacks (type_record bytes) old new fault (told.0 ∙ ap (λ (d : Error). fault_of (refusal_of d)) want, told.1)
+    lacks (type_record bytes) old new fault (told.0 ∙ ap (λ (d : Error). fault_of_refusal (refusal_of d)) want, told.1)
 
 no_fields : (number : ℕ) → number ≡ argument_list_leaf → number ≢ field_list_leaf
 no_fields number is other = absurd (omega (arith, is, other))

@@ -11,7 +11,7 @@ use Rattle.pdb_base.specs.Refusal.{Refusal, invalid_stream_length, io_error, uni
 use Rattle.pdb_base.specs.Refusal.{unimplemented_symbol_kind, invalid_type_information_header, unimplemented_type_kind}
 use Rattle.pdb_base.specs.Refusal.{unexpected_numeric_prefix, unimplemented_file_checksum_kind}
 use Rattle.pdb_handles.specs.declared.fault.Fault.{Fault}
-use Rattle.pdb_handles.specs.Fault.{fault_of, error_kind_number, text_number, texts}
+use Rattle.pdb_handles.specs.Fault.{fault_of_refusal, error_kind_number, text_number, texts}
 use Rattle.pdb_handles.specs.Told.{IsOurs, candidate, if_told, is_same, kind_numbered, refusal_told, text_numbered}
 
 inside : {X : Type 0} (x y : X) → Some x ≡ Some y → x ≡ y
@@ -45,7 +45,7 @@ kind_back kind (zero, inside, is) = subst (λ (k : ErrorKind). kind_numbered (er
 kind_back kind (suc zero, inside, is) = subst (λ (k : ErrorKind). kind_numbered (error_kind_number k) ≡ Some k) is refl
 kind_back kind (suc (suc k), inside, is) = absurd (omega (arith, inside))
 
-candidate_of : (refusal : Refusal) → IsOurs refusal → candidate (fault_of refusal) ≡ Some refusal
+candidate_of : (refusal : Refusal) → IsOurs refusal → candidate (fault_of_refusal refusal) ≡ Some refusal
 candidate_of (invalid_stream_length text) ours = ap (option_map invalid_stream_length) (text_back text ours)
 candidate_of (io_error kind) ours = ap (option_map io_error) (kind_back kind ours)
 candidate_of (unimplemented_feature text) ours = ap (option_map unimplemented_feature) (text_back text ours)
@@ -61,9 +61,9 @@ same_numbers : (fault : Fault) → is_same fault fault ≡ true
 same_numbers fault = grind (arith, nat_tests)
 
 -- the refusal that the fault of a refusal tells
-pub forth : (refusal : Refusal) → IsOurs refusal → refusal_told (fault_of refusal) ≡ Some refusal
+pub forth : (refusal : Refusal) → IsOurs refusal → refusal_told (fault_of_refusal refusal) ≡ Some refusal
 unfolding refusal_told
-forth refusal ours = rw (candidate_of refusal ours) (rw (same_numbers (fault_of refusal)) refl)
+forth refusal ours = rw (candidate_of refusal ours) (rw (same_numbers (fault_of_refusal refusal)) refl)
 
 are_same : (one other : Fault) → is_same one other ≡ true → one ≡ other
 are_same one other is =
@@ -75,13 +75,13 @@ are_same one other is =
     ∙ ap (λ (n : ℕ). record { status = other.status; first = other.first; second = n }) second
 
 told_back : (fault : Fault) (can : Option Refusal) (refusal : Refusal) → if_told fault can ≡ Some refusal
-    → fault_of refusal ≡ fault
+    → fault_of_refusal refusal ≡ fault
 told_back fault None refusal is = absurd (none-some refusal is)
 told_back fault (Some told) refusal is =
-    let p = cond_some (is_same (fault_of told) fault) told refusal is in
-    ap fault_of (sym p.1) ∙ are_same (fault_of told) fault p.0
+    let p = cond_some (is_same (fault_of_refusal told) fault) told refusal is in
+    ap fault_of_refusal (sym p.1) ∙ are_same (fault_of_refusal told) fault p.0
 
 -- a fault that tells a refusal is that of the refusal
-pub back_of : (fault : Fault) (refusal : Refusal) → refusal_told fault ≡ Some refusal → fault_of refusal ≡ fault
+pub back_of : (fault : Fault) (refusal : Refusal) → refusal_told fault ≡ Some refusal → fault_of_refusal refusal ≡ fault
 unfolding refusal_told
 back_of fault refusal is = told_back fault (candidate fault) refusal is

@@ -3,7 +3,7 @@ use Rattle.std.specs.Prelude.{◌≡◌, ◌⊎◌, ℕ, List, ◌++◌, length,
 use Rattle.pdb_base.specs.Answer.{Answer}
 use Rattle.pdb_base.specs.Refusal.{out_of_memory}
 use Rattle.pdb_handles.specs.declared.fault.Fault.{Fault}
-use Rattle.pdb_handles.specs.Fault.{fine, fault_of, no_text, not_open, too_small}
+use Rattle.pdb_handles.specs.Fault.{fine, fault_of_refusal, no_text, not_open, too_small}
 
 -- how a call ended, how many items its answer has, and the caller's array afterwards
 pub record Copied (A : Type 0) : Type 0 where
@@ -26,7 +26,7 @@ items_copied room items =
 -- the items of an answer are written, or the fault is that of its refusal
 abbrev pub answer_copied : {A : Type 0} → List A → Answer (List A) → Copied A
 answer_copied room (Ok items) = items_copied room items
-answer_copied room (Err refusal) = nothing_copied (fault_of refusal) room
+answer_copied room (Err refusal) = nothing_copied (fault_of_refusal refusal) room
 
 -- the answer for what a handle holds, if it holds what is asked, and else `not_open`
 abbrev pub copied_of : {A B : Type 0} → List B → (A → Answer (List B)) → Option A → Copied B
@@ -40,4 +40,4 @@ text_copied room None = nothing_copied no_text room
 
 -- What is meant was written; or memory was refused, and nothing was written.
 abbrev pub CopiesOrLacks : {A : Type 0} → Copied A → List A → Copied A → Type 0
-CopiesOrLacks done room meant = (done ≡ meant) ⊎ (done ≡ nothing_copied (fault_of out_of_memory) room)
+CopiesOrLacks done room meant = (done ≡ meant) ⊎ (done ≡ nothing_copied (fault_of_refusal out_of_memory) room)

@@ -85,32 +85,32 @@ error_kind_number kind = 0
 -- ---- refusals
 
 -- the fault of a refusal: a status for each, and the refusal's own numbers, or the number of its text
-abbrev pub fault_of : Refusal → Fault
-fault_of unrecognized_file_format = record { status = 1; first = 0; second = 0 }
-fault_of (page_reference_out_of_range page) = record { status = 2; first = page; second = 0 }
-fault_of (invalid_page_size size) = record { status = 3; first = size; second = 0 }
-fault_of (stream_not_found number) = record { status = 4; first = number; second = 0 }
-fault_of stream_name_not_found = record { status = 5; first = 0; second = 0 }
-fault_of (invalid_stream_length stream) = record { status = 6; first = text_number stream; second = 0 }
-fault_of (io_error kind) = record { status = 7; first = error_kind_number kind; second = 0 }
-fault_of unexpected_eof = record { status = 8; first = 0; second = 0 }
-fault_of (unimplemented_feature feature) = record { status = 9; first = text_number feature; second = 0 }
-fault_of global_symbols_not_found = record { status = 10; first = 0; second = 0 }
-fault_of symbol_too_short = record { status = 11; first = 0; second = 0 }
-fault_of (unimplemented_symbol_kind kind) = record { status = 12; first = kind; second = 0 }
-fault_of (invalid_type_information_header rule) = record { status = 13; first = text_number rule; second = 0 }
-fault_of type_too_short = record { status = 14; first = 0; second = 0 }
-fault_of (type_not_found index) = record { status = 15; first = index; second = 0 }
-fault_of (type_not_indexed index covered) = record { status = 16; first = index; second = covered }
-fault_of (unimplemented_type_kind kind) = record { status = 17; first = kind; second = 0 }
-fault_of (not_a_cross_module_ref index) = record { status = 18; first = index; second = 0 }
-fault_of (cross_module_ref_not_found index) = record { status = 19; first = index; second = 0 }
-fault_of (unexpected_numeric_prefix prefix) = record { status = 20; first = prefix; second = 0 }
-fault_of address_map_not_found = record { status = 21; first = 0; second = 0 }
-fault_of (unimplemented_debug_subsection kind) = record { status = 22; first = kind; second = 0 }
-fault_of (unimplemented_file_checksum_kind kind) = record { status = 23; first = kind; second = 0 }
-fault_of (invalid_file_checksum_offset offset) = record { status = 24; first = offset; second = 0 }
-fault_of lines_not_found = record { status = 25; first = 0; second = 0 }
-fault_of invalid_compressed_annotation = record { status = 26; first = 0; second = 0 }
-fault_of (unknown_binary_annotation number) = record { status = 27; first = number; second = 0 }
-fault_of out_of_memory = record { status = 28; first = 0; second = 0 }
+abbrev pub fault_of_refusal : Refusal → Fault
+fault_of_refusal unrecognized_file_format = record { status = 1; first = 0; second = 0 }
+fault_of_refusal (page_reference_out_of_range page) = record { status = 2; first = page; second = 0 }
+fault_of_refusal (invalid_page_size size) = record { status = 3; first = size; second = 0 }
+fault_of_refusal (stream_not_found number) = record { status = 4; first = number; second = 0 }
+fault_of_refusal stream_name_not_found = record { status = 5; first = 0; second = 0 }
+fault_of_refusal (invalid_stream_length stream) = record { status = 6; first = text_number stream; second = 0 }
+fault_of_refusal (io_error kind) = record { status = 7; first = error_kind_number kind; second = 0 }
+fault_of_refusal unexpected_eof = record { status = 8; first = 0; second = 0 }
+fault_of_refusal (unimplemented_feature feature) = record { status = 9; first = text_number feature; second = 0 }
+fault_of_refusal global_symbols_not_found = record { status = 10; first = 0; second = 0 }
+fault_of_refusal symbol_too_short = record { status = 11; first = 0; second = 0 }
+fault_of_refusal (unimplemented_symbol_kind kind) = record { status = 12; first = kind; second = 0 }
+fault_of_refusal (invalid_type_information_header rule) = record { status = 13; first = text_number rule; second = 0 }
+fault_of_refusal type_too_short = record { status = 14; first = 0; second = 0 }
+fault_of_refusal (type_not_found index) = record { status = 15; first = index; second = 0 }
+fault_of_refusal (type_not_indexed index covered) = record { status = 16; first = index; second = covered }
+fault_of_refusal (unimplemented_type_kind kind) = record { status = 17; first = kind; second = 0 }
+fault_of_refusal (not_a_cross_module_ref index) = record { status = 18; first = index; second = 0 }
+fault_of_refusal (cross_module_ref_not_found index) = record { status = 19; first = index; second = 0 }
+fault_of_refusal (unexpected_numeric_prefix prefix) = record { status = 20; first = prefix; second = 0 }
+fault_of_refusal address_map_not_found = record { status = 21; first = 0; second = 0 }
+fault_of_refusal (unimplemented_debug_subsection kind) = record { status = 22; first = kind; second = 0 }
+fault_of_refusal (unimplemented_file_checksum_kind kind) = record { status = 23; first = kind; second = 0 }
+fault_of_refusal (invalid_file_checksum_offset offset) = record { status = 24; first = offset; second = 0 }
+fault_of_refusal lines_not_found = record { status = 25; first = 0; second = 0 }
+fault_of_refusal invalid_compressed_annotation = record { status = 26; first = 0; second = 0 }
+fault_of_refusal (unknown_binary_annotation number) = record { status = 27; first = number; second = 0 }
+fault_of_refusal out_of_memory = record { status = 28; first = 0; second = 0 }

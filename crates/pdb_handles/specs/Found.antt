@@ -2,7 +2,7 @@
 use Rattle.std.specs.Prelude.{◌≡◌, Option, Some, None, Ok, Err}
 use Rattle.pdb_base.specs.Answer.{Answer}
 use Rattle.pdb_handles.specs.declared.fault.Fault.{Fault}
-use Rattle.pdb_handles.specs.Fault.{fault_of, fine, not_open}
+use Rattle.pdb_handles.specs.Fault.{fault_of_refusal, fine, not_open}
 
 -- how a call ended, and the caller's variable afterwards
 pub record Found (A : Type 0) : Type 0 where
@@ -21,7 +21,7 @@ not_held old = record { fault = not_open; value = old }
 -- the value of an answer; or the fault of its refusal, and then the variable stays as it was
 abbrev pub answer_or_fault : {A : Type 0} → A → Answer A → Found A
 answer_or_fault old (Ok value) = record { fault = fine; value = value }
-answer_or_fault old (Err refusal) = record { fault = fault_of refusal; value = old }
+answer_or_fault old (Err refusal) = record { fault = fault_of_refusal refusal; value = old }
 
 -- the answer for what a handle holds, if it holds what is asked, and else `not_open`
 abbrev pub answered_of : {A B : Type 0} → B → (A → Answer B) → Option A → Found B

@@ -10,7 +10,7 @@ use Rattle.pdb_tpi.specs.Steps.{WalkPosition}
 use Rattle.pdb_handles.specs.declared.content.Content.{Content}
 use Rattle.pdb_handles.specs.declared.content.Content.TheVariants as contents
 use Rattle.pdb_handles.specs.declared.fault.Fault.{Fault}
-use Rattle.pdb_handles.specs.Fault.{fine, fault_of, already_open, too_long}
+use Rattle.pdb_handles.specs.Fault.{fine, fault_of_refusal, already_open, too_long}
 
 -- the number of the kind of a handle's contents; 0 if it holds nothing
 abbrev pub content_kind : Option Content → ℕ
@@ -30,13 +30,13 @@ held_as content (Err refusal) = Err refusal
 
 -- Memory was refused, and nothing is held.
 abbrev pub HoldsNothing : Fault → Option Content → Type 0
-HoldsNothing fault now = (fault ≡ fault_of out_of_memory) × (now ≡ None)
+HoldsNothing fault now = (fault ≡ fault_of_refusal out_of_memory) × (now ≡ None)
 
 -- The handle holds what is meant; or the fault is that of the refusal that is meant, and the handle holds
 -- nothing; or memory was refused.
 abbrev pub OpensTo : Answer Content → Fault → Option Content → Type 0
 OpensTo (Ok content) fault now = ((fault ≡ fine) × (now ≡ Some content)) ⊎ HoldsNothing fault now
-OpensTo (Err refusal) fault now = ((fault ≡ fault_of refusal) × (now ≡ None)) ⊎ HoldsNothing fault now
+OpensTo (Err refusal) fault now = ((fault ≡ fault_of_refusal refusal) × (now ≡ None)) ⊎ HoldsNothing fault now
 
 -- A handle that holds nothing is opened to what is meant. One that holds something is refused with
 -- `already_open`, and still holds it.

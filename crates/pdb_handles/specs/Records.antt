@@ -11,7 +11,7 @@ use Rattle.pdb_handles.specs.declared.fault.Fault.{Fault}
 use Rattle.pdb_handles.specs.declared.fields.FieldRow.{FieldRow}
 use Rattle.pdb_handles.specs.declared.listing.Listing.{Listing as Collected}
 use Rattle.pdb_handles.specs.Copied.{Copied, nothing_copied, items_copied}
-use Rattle.pdb_handles.specs.Fault.{fine, fault_of, no_value, too_small}
+use Rattle.pdb_handles.specs.Fault.{fine, fault_of_refusal, no_value, too_small}
 use Rattle.pdb_handles.specs.Frame.{flag}
 use Rattle.pdb_handles.specs.Row.{type_info}
 use Rattle.pdb_handles.specs.declared.row.Row.{Row}
@@ -19,13 +19,13 @@ use Rattle.pdb_handles.specs.declared.row.Row.{Row}
 -- A row is written as what was read is shown; or the fault is that of the error, and the row stays as it was.
 abbrev pub IsRowTold : {A : Type 0} → (A → Row) → Result A Error → Row → Fault → Row → Type 0
 IsRowTold shown (Ok x) old fault new = (fault ≡ fine) × (new ≡ shown x)
-IsRowTold shown (Err e) old fault new = (fault ≡ fault_of (refusal_of e)) × (new ≡ old)
+IsRowTold shown (Err e) old fault new = (fault ≡ fault_of_refusal (refusal_of e)) × (new ≡ old)
 
 -- what is written of a list that may be absent
 abbrev pub if_copied : {A : Type 0} → List A → Answer (Option (List A)) → Copied A
 if_copied room (Ok (Some items)) = items_copied room items
 if_copied room (Ok None) = nothing_copied no_value room
-if_copied room (Err refusal) = nothing_copied (fault_of refusal) room
+if_copied room (Err refusal) = nothing_copied (fault_of_refusal refusal) room
 
 -- what the type in a record of this index says
 abbrev pub of_type : {A : Type 0} → (TypeValue → A) → ℕ → List ℕ → Answer A
@@ -101,8 +101,9 @@ rows_copied rows names told bytes =
 abbrev pub listing_told : {R : Type 0} → List R → List ℕ → Answer (Option (NamedRows R)) → Fielded R
 listing_told rows names (Ok (Some told)) = rows_copied rows names told.rows told.names
 listing_told rows names (Ok None) = no_rows_copied no_value rows names
-listing_told rows names (Err refusal) = no_rows_copied (fault_of refusal) rows names
+listing_told rows names (Err refusal) = no_rows_copied (fault_of_refusal refusal) rows names
 
 -- What is meant was written; or memory was refused, and nothing was written.
 abbrev pub FieldsOrLacks : {R : Type 0} → Fielded R → List R → List ℕ → Fielded R → Type 0
-FieldsOrLacks done rows names meant = (done ≡ meant) ⊎ (done ≡ no_rows_copied (fault_of out_of_memory) rows names)
+FieldsOrLacks done rows names meant =
+    (done ≡ meant) ⊎ (done ≡ no_rows_copied (fault_of_refusal out_of_memory) rows names)

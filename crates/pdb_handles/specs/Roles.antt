@@ -6,7 +6,7 @@ use Rattle.pdb_file.specs.File.{file_roles}
 use Rattle.pdb_file.specs.declared.debug_header.DBIExtraStreams.{DBIExtraStreams}
 use Rattle.pdb_handles.specs.declared.fault.Fault.{Fault}
 use Rattle.pdb_handles.specs.declared.roles.Roles.{Roles}
-use Rattle.pdb_handles.specs.Fault.{fine, fault_of}
+use Rattle.pdb_handles.specs.Fault.{fine, fault_of_refusal}
 use Rattle.pdb_handles.specs.File.{read_of_file}
 
 -- the roles for the caller
@@ -31,10 +31,11 @@ roles_said file = read_of_file file_roles file >>= λ streams. Ok (roles_of stre
 
 -- Memory was refused, and the caller's value stays as it was.
 abbrev pub LacksValue : {B : Type 0} → B → Fault → B → Type 0
-LacksValue old fault new = (fault ≡ fault_of out_of_memory) × (new ≡ old)
+LacksValue old fault new = (fault ≡ fault_of_refusal out_of_memory) × (new ≡ old)
 
 -- What is meant was written for the caller; or the fault is that of the refusal that is meant, and the
 -- caller's value stays as it was; or memory was refused.
 abbrev pub IsAnswerTold : {A B : Type 0} → (A → B) → Answer A → B → Fault → B → Type 0
 IsAnswerTold shown (Ok value) old fault new = ((fault ≡ fine) × (new ≡ shown value)) ⊎ LacksValue old fault new
-IsAnswerTold shown (Err refusal) old fault new = ((fault ≡ fault_of refusal) × (new ≡ old)) ⊎ LacksValue old fault new
+IsAnswerTold shown (Err refusal) old fault new =
+    ((fault ≡ fault_of_refusal refusal) × (new ≡ old)) ⊎ LacksValue old fault new

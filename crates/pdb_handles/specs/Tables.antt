@@ -13,7 +13,7 @@ use Rattle.pdb_handles.specs.declared.content.Content.TheVariants as contents
 use Rattle.pdb_handles.specs.declared.fault.Fault.{Fault}
 use Rattle.pdb_handles.specs.declared.fields.FieldRow.{FieldRow}
 use Rattle.pdb_handles.specs.declared.open_table.Located.{Located}
-use Rattle.pdb_handles.specs.Fault.{fault_of, fine, no_more, no_value, not_open}
+use Rattle.pdb_handles.specs.Fault.{fault_of_refusal, fine, no_more, no_value, not_open}
 use Rattle.pdb_handles.specs.Found.{Found, not_held}
 use Rattle.pdb_handles.specs.Records.{Fielded, NamedRows, all_found, listing_told, no_rows_copied}
 
@@ -29,7 +29,7 @@ located_at index place = record { index = index; offset = place.offset; length =
 abbrev pub located_told : Located → ℕ → Answer (Option RecordPlace) → Found Located
 located_told old index (Ok (Some place)) = record { fault = fine; value = located_at index place }
 located_told old index (Ok None) = record { fault = no_value; value = old }
-located_told old index (Err refusal) = record { fault = fault_of refusal; value = old }
+located_told old index (Err refusal) = record { fault = fault_of_refusal refusal; value = old }
 
 -- the same for the table that a handle holds
 abbrev pub located_in : Located → ℕ → Option WalkPosition → Found Located
@@ -59,7 +59,7 @@ step_to fault value stand = record { fault = fault; value = value; held = Some (
 abbrev pub step_outcome : WalkPosition → Answer (Option RecordPlace × WalkPosition) → Step
 step_outcome stand (Ok (Some place, next)) = step_to fine (located_at (index_told stand.index) place) next
 step_outcome stand (Ok (None, next)) = step_to no_more (stopped_at stand.index) next
-step_outcome stand (Err refusal) = step_to (fault_of refusal) (stopped_at stand.index) stand
+step_outcome stand (Err refusal) = step_to (fault_of_refusal refusal) (stopped_at stand.index) stand
 
 -- the same for what a handle holds
 abbrev pub step_told : Located → Option Content → Step

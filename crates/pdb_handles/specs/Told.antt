@@ -16,7 +16,7 @@ use Rattle.pdb_base.specs.Refusal.{io_error}
 use Rattle.std.specs.Option.{option_map_or}
 use Rattle.pdb_base.specs.ErrorText.{text_of}
 use Rattle.pdb_handles.specs.declared.fault.Fault.{Fault}
-use Rattle.pdb_handles.specs.Fault.{fault_of, texts}
+use Rattle.pdb_handles.specs.Fault.{fault_of_refusal, texts}
 
 -- the refusal that a status can stand for, if any, by the two numbers that go with it
 abbrev pub RefusalByNumbers : Type 0
@@ -84,7 +84,7 @@ is_same one other = one.status == other.status && one.first == other.first && on
 
 -- a refusal, if its fault is this one
 abbrev pub if_told : Fault → Option Refusal → Option Refusal
-if_told fault (Some refusal) = if is_same (fault_of refusal) fault then Some refusal else None
+if_told fault (Some refusal) = if is_same (fault_of_refusal refusal) fault then Some refusal else None
 if_told fault None = None
 
 -- the refusal that a fault stands for: the one that has this fault
@@ -106,11 +106,11 @@ IsOurs refusal = ⊤
 
 -- The fault of a refusal that this library returns stands for that refusal.
 abbrev pub IsTold : Refusal → Type 0
-IsTold refusal = IsOurs refusal → refusal_told (fault_of refusal) ≡ Some refusal
+IsTold refusal = IsOurs refusal → refusal_told (fault_of_refusal refusal) ≡ Some refusal
 
 -- A fault that stands for a refusal is the fault of that refusal.
 abbrev pub TellsBack : Fault → Refusal → Type 0
-TellsBack fault refusal = refusal_told fault ≡ Some refusal → fault_of refusal ≡ fault
+TellsBack fault refusal = refusal_told fault ≡ Some refusal → fault_of_refusal refusal ≡ fault
 
 -- the library's text of a refusal that may be absent
 abbrev pub text_if : Option Refusal → Option (List ℕ)

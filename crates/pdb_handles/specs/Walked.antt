@@ -13,7 +13,7 @@ use Rattle.pdb_handles.specs.declared.fault.Fault.{Fault}
 use Rattle.pdb_handles.specs.declared.row.Row.{Row}
 use Rattle.pdb_handles.specs.declared.walked.TypeRow.{TypeRow}
 use Rattle.pdb_handles.specs.Copied.{Copied, nothing_copied}
-use Rattle.pdb_handles.specs.Fault.{fault_of, fine, not_open, no_more}
+use Rattle.pdb_handles.specs.Fault.{fault_of_refusal, fine, not_open, no_more}
 use Rattle.pdb_handles.specs.Row.{no_numbers, zeroed_row, type_info}
 use Rattle.pdb_handles.specs.Tables.{index_told, located_at}
 
@@ -25,7 +25,11 @@ no_row = zeroed_row 0 no_numbers
 -- a row of zeros
 abbrev pub type_told : ℕ → RecordPlace → Answer TypeValue → TypeRow
 type_told index place (Ok value) = record { place = located_at index place; fault = fine; info = type_info value }
-type_told index place (Err refusal) = record { place = located_at index place; fault = fault_of refusal; info = no_row }
+type_told index place (Err refusal) = record {
+  place = located_at index place;
+  fault = fault_of_refusal refusal;
+  info = no_row;
+}
 
 -- A record is written as it is meant; or memory to parse it was refused.
 abbrev pub IsTypeRow : ℕ → RecordPlace → Answer TypeValue → TypeRow → Type 0
@@ -45,7 +49,7 @@ AreNext stand (told ∷ more) end =
 abbrev pub StopsWith : Answer (Option RecordPlace × WalkPosition) → Fault → Type 0
 StopsWith (Ok (Some place, next)) fault = ⊥
 StopsWith (Ok (None, next)) fault = fault ≡ no_more
-StopsWith (Err refusal) fault = fault ≡ fault_of refusal
+StopsWith (Err refusal) fault = fault ≡ fault_of_refusal refusal
 
 -- Why no more records are written: the array has no room for more, or the walk stops there.
 abbrev pub EndsWith : ℕ → ℕ → WalkPosition → Fault → Type 0

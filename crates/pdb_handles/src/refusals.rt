@@ -2,7 +2,7 @@
 
 ghost use Rattle.std.specs.Prelude.{◌≡◌};
 ghost use Rattle.pdb_base.specs.Refusal.{refusal_of};
-ghost use Rattle.pdb_handles.specs.Fault.{fault_of, error_kind_number, text_number};
+ghost use Rattle.pdb_handles.specs.Fault.{fault_of_refusal, error_kind_number, text_number};
 
 use crate::fault::Fault;
 use pdb_base::Error;
@@ -61,7 +61,7 @@ impl Fault {
     /// Returns the fault that reports an error: its status, and the numbers that go with it.
     #[inline(always)]
     pub fn of(error: &Error) -> Fault
-        ensures { result ≡ fault_of (refusal_of error.now) }
+        ensures { result ≡ fault_of_refusal (refusal_of error.now) }
     {
         // Inlined, this gives the fault of an error a place of its own, and a caller that succeeds
         // keeps its fault in registers.
@@ -71,7 +71,7 @@ impl Fault {
     /// Returns the fault that reports an error.
     #[inline(never)]
     fn fault_of_error(error: &Error) -> Fault
-        ensures { result ≡ fault_of (refusal_of error.now) }
+        ensures { result ≡ fault_of_refusal (refusal_of error.now) }
     {
         match error {
             Error::UnrecognizedFileFormat => Fault::fault_with_number(1, 0),

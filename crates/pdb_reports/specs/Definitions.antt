@@ -10,7 +10,7 @@ use Rattle.pdb_types.specs.TypeAt.{type_at}
 use Rattle.pdb_handles.specs.declared.content.Content.{Content}
 use Rattle.pdb_handles.specs.declared.content.Content.TheVariants as contents
 use Rattle.pdb_handles.specs.Copied.{Copied, nothing_copied, items_copied}
-use Rattle.pdb_handles.specs.Fault.{fault_of, no_value, not_open}
+use Rattle.pdb_handles.specs.Fault.{fault_of_refusal, no_value, not_open}
 use Rattle.pdb_handles.specs.Found.{Found, value_or_fault}
 
 -- the table of types in a stream, whose definitions are found in one walk along it
@@ -29,7 +29,7 @@ definitions_named name table = Ok (all_definitions table (source_name name))
 -- a value that was found; or it was not found, or refused, and then the variable stays as it was
 abbrev pub found_told : {A : Type 0} → A → Answer (Option A) → Found A
 found_told old (Ok value) = value_or_fault no_value old value
-found_told old (Err refusal) = record { fault = fault_of refusal; value = old }
+found_told old (Err refusal) = record { fault = fault_of_refusal refusal; value = old }
 
 -- the same for what a handle holds, if it holds what is asked, and else `not_open`
 abbrev pub found_in : {A B : Type 0} → B → (A → Answer (Option B)) → Option A → Found B
@@ -38,7 +38,7 @@ found_in old answer None = record { fault = not_open; value = old }
 
 -- What is meant was found; or memory was refused, and the variable stays as it was.
 abbrev pub FindsOrLacks : {A : Type 0} → Found A → A → Found A → Type 0
-FindsOrLacks done old meant = (done ≡ meant) ⊎ (done ≡ record { fault = fault_of out_of_memory; value = old })
+FindsOrLacks done old meant = (done ≡ meant) ⊎ (done ≡ record { fault = fault_of_refusal out_of_memory; value = old })
 
 -- A refusal is that of memory, or that of a type in a table or of its size.
 abbrev pub IsOfTable : Table → Refusal → Type 0
@@ -50,7 +50,7 @@ IsOfTable table refusal =
 abbrev pub WritesText : Table → List ℕ → Copied ℕ → Type 0
 WritesText table room told =
     ((text : List ℕ) × (told ≡ items_copied room text))
-    ⊎ ((refusal : Refusal) × IsOfTable table refusal × (told ≡ nothing_copied (fault_of refusal) room))
+    ⊎ ((refusal : Refusal) × IsOfTable table refusal × (told ≡ nothing_copied (fault_of_refusal refusal) room))
 
 -- The same for the table whose definitions a handle holds; nothing is written if it holds none.
 abbrev pub WritesTextOf : Option Table → List ℕ → Copied ℕ → Type 0

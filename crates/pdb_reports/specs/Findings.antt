@@ -12,7 +12,7 @@ use Rattle.pdb_consistency.specs.declared.mismatch.Extent.{Extent}
 use Rattle.pdb_consistency.specs.declared.mismatch.Extent.TheVariants.{First, All}
 use Rattle.pdb_reports.specs.declared.findings.FoundFault.{FoundFault}
 use Rattle.pdb_reports.specs.declared.findings.ProblemNumbers.{ProblemNumbers}
-use Rattle.pdb_handles.specs.Fault.{fault_of, fine}
+use Rattle.pdb_handles.specs.Fault.{fault_of_refusal, fine}
 use Rattle.pdb_handles.specs.Frame.{flag}
 
 -- the number of a part
@@ -69,7 +69,7 @@ detail_of other = 0
 
 -- what is wrong, in numbers
 abbrev pub problem_numbers : ProblemValue → ProblemNumbers
-problem_numbers (failure refusal) = record { inconsistency = 0; number = 0; fault = fault_of refusal }
+problem_numbers (failure refusal) = record { inconsistency = 0; number = 0; fault = fault_of_refusal refusal }
 problem_numbers (inconsistent what) = record {
   inconsistency = inconsistency_number what;
   number = detail_of what;

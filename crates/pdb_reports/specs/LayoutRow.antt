@@ -17,7 +17,7 @@ use Rattle.pdb_types.specs.FieldPlace.{virtual_base_pointer, virtual_function_po
 use Rattle.pdb_types.specs.Gap.{AreGapRows}
 use Rattle.pdb_types.specs.Layout.{FieldValue, ClassLayout, layout_of_type}
 use Rattle.pdb_reports.specs.declared.layout_row.LayoutRow.{LayoutRow}
-use Rattle.pdb_handles.specs.Fault.{fault_of, no_value, not_open}
+use Rattle.pdb_handles.specs.Fault.{fault_of_refusal, no_value, not_open}
 use Rattle.pdb_handles.specs.Frame.{flag}
 use Rattle.pdb_handles.specs.Records.{Fielded, rows_copied, no_rows_copied}
 
@@ -115,12 +115,12 @@ pub record WritesLayout (rows : List LayoutRow) (names : List ℕ) (layout : Cla
 abbrev pub LaysOut : List LayoutRow → List ℕ → Answer (Option ClassLayout) → Fielded LayoutRow → Type 0
 LaysOut rows names (Ok (Some layout)) told = WritesLayout rows names layout told
 LaysOut rows names (Ok None) told = told ≡ no_rows_copied no_value rows names
-LaysOut rows names (Err refusal) told = told ≡ no_rows_copied (fault_of refusal) rows names
+LaysOut rows names (Err refusal) told = told ≡ no_rows_copied (fault_of_refusal refusal) rows names
 
 -- The same; or memory was refused, and nothing was written.
 abbrev pub LaysOutOrLacks : List LayoutRow → List ℕ → Answer (Option ClassLayout) → Fielded LayoutRow → Type 0
 LaysOutOrLacks rows names meant told =
-    LaysOut rows names meant told ⊎ (told ≡ no_rows_copied (fault_of out_of_memory) rows names)
+    LaysOut rows names meant told ⊎ (told ≡ no_rows_copied (fault_of_refusal out_of_memory) rows names)
 
 -- The same for the type of an index in the table whose definitions a handle holds; nothing is written if it
 -- holds none.

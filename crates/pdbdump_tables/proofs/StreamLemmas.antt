@@ -3,7 +3,7 @@ use Rattle.std.proofs.Common.{◌≡◌, ℕ, suc, ◌+◌, ◌-◌, ◌<◌, �
 use Rattle.std.specs.List.{flat_map, range_with_len}
 use Rattle.pdb_msf.specs.Directory.{stream_count_in}
 use Rattle.pdbdump_rows.specs.declared.form.Form.{Form}
-use Rattle.pdbdump_tables.specs.Streams.{KnownStreams, nameable, stream_line, stream_lines}
+use Rattle.pdbdump_tables.specs.Streams.{KnownStreams, numbered_streams, stream_line, stream_lines}
 
 -- what is made of the numbers from one on, up to below another
 unfoldable pub made_from : (ℕ → List ℕ) → ℕ → ℕ → List ℕ
@@ -24,9 +24,9 @@ made_end line end n over =
 -- the lines of all streams are those from 0 on
 pub lines_from_first : (form : Form) (known : KnownStreams)
     → stream_lines form known
-    ≡ made_from (stream_line form known) (nameable (stream_count_in known.layout.directory)) 0
+    ≡ made_from (stream_line form known) (numbered_streams (stream_count_in known.layout.directory)) 0
 unfolding stream_lines made_from
 lines_from_first form known =
-    let count = nameable (stream_count_in known.layout.directory) in
+    let count = numbered_streams (stream_count_in known.layout.directory) in
     let all : count - 0 ≡ count = omega arith in
     rw all refl

@@ -125,11 +125,11 @@ unfoldable pub stream_line : Form → KnownStreams → ℕ → List ℕ
 stream_line form known n = sized_line form known n (size_by known.layout n)
 
 -- how many streams the directory has that a number of 16 bits can name
-abbrev pub nameable : Answer ℕ → ℕ
-nameable (Ok count) = min count no_stream
-nameable (Err refusal) = 0
+abbrev pub numbered_streams : Answer ℕ → ℕ
+numbered_streams (Ok count) = min count no_stream
+numbered_streams (Err refusal) = 0
 
 -- the lines of all streams
 unfoldable pub stream_lines : Form → KnownStreams → List ℕ
 stream_lines form known =
-    flat_map (stream_line form known) (range_with_len 0 (nameable (stream_count_in known.layout.directory)))
+    flat_map (stream_line form known) (range_with_len 0 (numbered_streams (stream_count_in known.layout.directory)))

@@ -10,7 +10,7 @@ ghost use Rattle.pdbdump_rows.specs.Line.{ShowsFields};
 ghost use Rattle.pdbdump_rows.specs.Row.{value_shown};
 ghost use Rattle.pdb_output.specs.Output.{Writes};
 ghost use Rattle.pdbdump_tables.specs.Known.{known_view};
-ghost use Rattle.pdbdump_tables.specs.Streams.{nameable, pages_held, size_line, stream_line, stream_lines};
+ghost use Rattle.pdbdump_tables.specs.Streams.{numbered_streams, pages_held, size_line, stream_line, stream_lines};
 ghost use Rattle.pdbdump_tables.specs.Streams.{stream_shown};
 
 use crate::headers::Headers;
@@ -128,7 +128,7 @@ fn write_stream<W: Write>(
 
 /// Returns how many streams of a layout a number of 16 bits can name.
 fn nameable(layout: &Layout) -> u32
-    ensures { result ≡ nameable (stream_count_in layout.now.directory) }
+    ensures { result ≡ numbered_streams (stream_count_in layout.now.directory) }
 {
     match layout.stream_count() {
         Ok(count) => count.min(NO_STREAM),
