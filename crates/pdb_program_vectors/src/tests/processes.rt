@@ -345,19 +345,32 @@ fn calls(rt: HostRuntime) -> Result<(), Fail> {
     Ok(())
 }
 
-/// Words among which one is not UTF-8, and how what is then written to standard error begins.
-const BROKEN: &[(&[&str], &str)] = &[
+/// Words among which one is not UTF-8, and words that ask nothing; and how what is then written to
+/// standard error begins.
+const MISUSED: &[(&[&str], &str)] = &[
     (&["pdbq", "\u{fffd}"], USAGE),
     (&["pdbq", "stream", "\u{fffd}"], USAGE),
     (&["pdbdump", "\u{fffd}"], ABOUT),
     (&["pdbdump", "types", "a.pdb", "\u{fffd}"], ABOUT),
+    (&["pdbdump"], ABOUT),
+    (&["pdbdump", "--json"], ABOUT),
+    (&["pdbdump", "types"], NOTHING),
+    (&["pdbdump", "id"], NOTHING),
+    (&["pdbdump", "id", "--format", "none", "a.pdb"], NOTHING),
+    (&["pdbdump", "extract", "a.pdb"], NOTHING),
+    (&["pdbdump", "extract", "a.pdb", "3", "--json"], NOTHING),
+    (&["pdbdump", "validate"], NOTHING),
+    (&["pdbdump", "validate", "--none", "a.pdb"], NOTHING),
+    (&["pdbdump", "layout", "a.pdb"], NOTHING),
 ];
+
+/// How the line begins that says that words ask nothing.
+const NOTHING: &str = "pdbdump: these words ask nothing:";
 
 /// How the text begins that says how `pdbdump` is called.
 const ABOUT: &str = "pdbdump ";
 
-/// Whether words of which one is not UTF-8 are misuse, and the status is the same where standard
-/// error fails.
+/// Whether words are misuse, and the status is the same where standard error fails.
 fn is_misuse(alloc: Global, words: &[&str], told: &str) -> bool {
     let process = Process::new(alloc, words, b"", false);
     let silent = Process::new(alloc, words, b"", true);
@@ -369,8 +382,8 @@ fn is_misuse(alloc: Global, words: &[&str], told: &str) -> bool {
 }
 
 #[test]
-fn broken_words(rt: HostRuntime) {
-    for (words, told) in BROKEN {
+fn misuse(rt: HostRuntime) {
+    for (words, told) in MISUSED {
         assert!(rt; is_misuse(rt.alloc(), words, told), "{words:?}");
     }
 }
