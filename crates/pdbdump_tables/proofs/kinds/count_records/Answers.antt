@@ -32,7 +32,8 @@ loop-item-preserved c =
     (rw c.in-Ok-Some.field-0-is at c.in-Ok-Some.ensures) c.loop-item.invariant c.raw_kind-kind.ensures
     c.raw_kind-kind.type_inv c.note.ensures.noted
     (omega (arith, c.note.new.counts.ok.0, c.note.ensures.kinds)) (rw c.len.ensures at c.note-in-Ok-Some.ensures.noted)
-    (omega (arith, c.note-in-Ok-Some.new.counts.ok.0, c.note-in-Ok-Some.ensures.kinds)) c.in_ok-is_continued-in-Ok-Some.ensures.ok)
+    (omega (arith, c.note-in-Ok-Some.new.counts.ok.0, c.note-in-Ok-Some.ensures.kinds))
+    c.in_ok-is_continued-in-Ok-Some.ensures.ok)
 
 pub returns-in-Ok-None-clause-tally : goal.returns-in-Ok-None-clause-tally
 returns-in-Ok-None-clause-tally c =

@@ -9,7 +9,8 @@ use Rattle.pdbdump_tables.proofs.kinds.rank.Goals as goal
 pub returns-clause-ranked : goal.returns-clause-ranked
 returns-clause-ranked c = λ most few.
     let key : KindCount → Reverse ℕ = λ kind. record { 0 = kind.count } in
-    ranked_sorted (noted_kind c.args.counts.now c.args.sizes.now) most _ _ few c.in_ok-kinds.ensures.present c.in_ok-sort_by_key.ensures.permutation
+    ranked_sorted (noted_kind c.args.counts.now c.args.sizes.now) most _ _ few
+    c.in_ok-kinds.ensures.present c.in_ok-sort_by_key.ensures.permutation
     (c.in_ok-sort_by_key.ensures.sorted key (always_returns_same _ (λ a r. r ≡ key a.0.now) _
     (λ a r q k. search rules)))
     (c.in_ok-sort_by_key.ensures.stable key (always_returns_same _ (λ a r. r ≡ key a.0.now) _

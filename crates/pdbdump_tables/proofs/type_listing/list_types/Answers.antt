@@ -23,7 +23,8 @@ returns-in_err-write g c =
     (line_written _ _ _ _ _ (Err _)
     (c.in_ok-make_type.ensures
     ∙ placed_next _ (type_line c.args.form) c.args.stream _ _ _ c.in-Some.item _ c.loop-line.invariant.same
-    c.place-byte.ensures.place (rw c.in-Some.is at c.in_ok-item.ensures)) c.as_bytes.ensures c.in_err-write.ensures.bytes))
+    c.place-byte.ensures.place (rw c.in-Some.is at c.in_ok-item.ensures)) c.as_bytes.ensures
+    c.in_err-write.ensures.bytes))
 
 pub loop-line-preserved : goal.loop-line-preserved
 loop-line-preserved g c =
@@ -31,7 +32,8 @@ loop-line-preserved g c =
     (line_written _ _ _ _ _ (Ok tt)
     (c.in_ok-make_type.ensures
     ∙ placed_next _ (type_line c.args.form) c.args.stream _ _ _ c.in-Some.item _ c.loop-line.invariant.same
-    c.place-byte.ensures.place (rw c.in-Some.is at c.in_ok-item.ensures)) c.as_bytes.ensures c.in_ok-write.ensures.bytes)
+    c.place-byte.ensures.place (rw c.in-Some.is at c.in_ok-item.ensures)) c.as_bytes.ensures
+    c.in_ok-write.ensures.bytes)
 
 pub returns-in_default : goal.returns-in_default
 returns-in_default g c = ends_whole _ _ _ _ _ _ _ c.loop-line.invariant (rw c.in_default.is at c.in_ok-item.ensures)
