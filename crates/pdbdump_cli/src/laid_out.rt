@@ -1,6 +1,5 @@
 //! What `layout` does with a file.
 
-ghost use Rattle.std.specs.Prelude.{map};
 ghost use Rattle.pdbdump_cli.specs.LaidOut.{AreLaidOut, IsLayoutEnded, IsLayoutServed};
 
 use crate::command::Layouts;
@@ -26,8 +25,7 @@ fn show_in<O: Write, E: Write>(
     out: &mut Output<O>,
     err: &mut Output<E>,
 ) -> Result<bool>
-    ensures { AreLaidOut file.items (map (λ name. name.now) asked.now.names.now) asked.now.options form
-        out.old out.new err.old err.new result }
+    ensures { AreLaidOut file.items result err.old err.new }
 {
     let file = PDB::open(alloc, file)?;
     let stream = file.into_msf().into_stream(alloc, TYPE_STREAM, None)?;
@@ -65,8 +63,7 @@ pub fn serve_layout<I: Read, O: Write, E: Write>(
     out: &mut Output<O>,
     err: &mut Output<E>,
 ) -> u8
-    ensures { IsLayoutServed (map (λ name. name.now) asked.now.names.now) asked.now.options form (I.remaining input.old)
-        out.old out.new err.old err.new result }
+    ensures { IsLayoutServed (I.remaining input.old) out.old out.new err.old err.new result }
 {
     match read_all(alloc, input) {
         Ok(file) => {

@@ -39,9 +39,9 @@ IsAccounted old new = ((new.progress.is_whole ≡ old.progress.is_whole) × (new
     ⊎ ((new.progress.is_whole ≡ false) × TellsMessages old.err new.err)
 
 tells_more : (old mid new : OutputState) → TellsMessages old mid → TellsMessages mid new → TellsMessages old new
-tells_more old mid new first (Tells.one new' message gets) = Tells.more mid new message first gets
-tells_more old mid new first (Tells.more between new' message then gets) =
-    Tells.more between new message (tells_more old mid between first then) gets
+tells_more old mid new first (TellsMessages.one new' message gets) = TellsMessages.more mid new message first gets
+tells_more old mid new first (TellsMessages.more between new' message then gets) =
+    TellsMessages.more between new message (tells_more old mid between first then) gets
 
 both : (old mid new : ShowState) → IsAccounted old mid → IsAccounted mid new → IsAccounted old new
 both old mid new (inl quiet) (inl quiet') = inl (quiet'.0 ∙ quiet.0, quiet'.1 ∙ quiet.1)
@@ -58,7 +58,7 @@ wrote : (text : List ℕ) (old new : ShowState) → IsTextWritten text old new �
 wrote text old new is = inl (is.whole, is.silent)
 
 told_of : (old new : ShowState) → IsMessageTold old new → IsAccounted old new
-told_of old new is = inr (is.part, Tells.one new.err is.message is.told)
+told_of old new is = inr (is.part, TellsMessages.one new.err is.message is.told)
 
 of_type : (table : Table) (options : Options) (form : Form) (index : ℕ) (old new : ShowState)
     → IsTypeShown table options form index old new → IsAccounted old new

@@ -14,9 +14,9 @@ StandsFor sign bytes = (sign ≡ 42) ⊎ (((byte : ℕ) × (sign ≡ 63) × (byt
 pub record BeginsWithSign (sign : ℕ) (others : List ℕ → Type 0) (text : List ℕ) : Type 0 where
   pub bytes : List ℕ
   pub behind : List ℕ
-  pub is : text ≡ bytes ++ behind_signs
+  pub is : text ≡ bytes ++ behind
   pub stands : StandsFor sign bytes
-  pub means : others behind_signs
+  pub means : others behind
 
 -- a name is one that a pattern means: what its signs stand for, one behind another
 unfoldable pub Means : List ℕ → List ℕ → Type 0
