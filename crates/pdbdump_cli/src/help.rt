@@ -56,7 +56,8 @@ pub fn meaning_of(verb: Verb) -> &'static str {
     match verb {
         Verb::Summary => {
             "The size and number of the file's pages and its size in bytes; then a line for each stream: its number,
-its size in bytes, its role and its name. A part that is refused is told in a line of its own."
+its size in bytes, its role and its name; then for each table how many records it has, and how many of each kind,
+with their bytes. A part that is refused is told in a line of its own."
         }
         Verb::Types => {
             "Each type of the table in stream S, or in stream 2: its index, its kind and its name, and what it is made
@@ -108,8 +109,8 @@ that format."
         }
         Verb::Extract => {
             "The bytes of a stream and nothing else: without the first N bytes with --skip, and N bytes at most with --take.
-STREAM is the number of a stream, a role as `summary` shows it (types, ids, omap_from_src), or the name of a
-stream (/names, srcsrv). There is no form in JSON."
+STREAM is the number of a stream, a role as `summary` shows it (types, ids, omap_from_src; not those of symbols and
+hashes), or the name of a stream (/names, srcsrv). There is no form in JSON."
         }
         Verb::Validate => {
             "For each file a line that says whether it is whole, behind a line for each part in which something is wrong, with

@@ -139,7 +139,7 @@ fn name_number<S: Source>(alloc: Global, file: &mut PDB<S>, name: &str) -> Resul
 }
 
 /// Returns the number of the stream that a word means: one of the roles that `list_summary` shows,
-/// or else the name of a stream, such as `/names`.
+/// but for those of symbols and hashes, or else the name of a stream, such as `/names`.
 ///
 /// # Errors
 /// For a role that the debug header lists fails as `PDB::extra_streams` does, and with
