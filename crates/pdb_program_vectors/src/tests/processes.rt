@@ -402,19 +402,23 @@ const MISSING: &[&[&str]] = &[
 /// How the line of an error of the system begins.
 const IO_ERROR: &str = "IO error while reading PDB: ";
 
-/// Whether a process ends with status 1, reports an error of the system and writes nothing else,
-/// and ends so too if its standard error fails.
-fn is_told(mut process: Process<'_>) -> bool {
-    let is_told = run(&process) == 1 && begins(&process.err, IO_ERROR) && holds(&process.out, b"");
-    process.err_fails = true;
-    is_told && run(&process) == 1 && holds(&process.out, b"")
+/// Whether a process ends with status 1 and writes nothing to standard output.
+fn has_failed(process: &Process<'_>) -> bool {
+    run(process) == 1 && holds(&process.out, b"")
+}
+
+/// Whether a process ends with status 1, reports an error of the system and writes nothing else.
+fn is_told(process: &Process<'_>) -> bool {
+    has_failed(process) && begins(&process.err, IO_ERROR)
 }
 
 #[test]
 fn missing_files(rt: HostRuntime) {
     for words in MISSING {
-        let process = Process::new(rt.alloc(), words, b"stream 3", false);
-        assert!(rt; is_told(process), "{words:?}");
+        let mut process = Process::new(rt.alloc(), words, b"stream 3", false);
+        assert!(rt; is_told(&process), "{words:?}");
+        process.err_fails = true;
+        assert!(rt; has_failed(&process), "{words:?}");
     }
 }
 
@@ -431,12 +435,15 @@ fn is_help(alloc: Global, words: &[&str]) -> bool {
     run(&process) == 0 && begins(&process.out, ABOUT) && holds(&process.err, b"")
 }
 
-/// Whether a call for a file, whose input is one question, reports that its standard output fails.
+/// Whether a call for a file, whose input is one question, reports that its standard output fails,
+/// and ends alike where its standard error fails too.
 fn is_unwritten(alloc: Global, words: &[&str], file: &[u8]) -> bool {
     let mut process = Process::new(alloc, words, b"stream 3", false);
     process.file = Some(file);
     process.out_fails = true;
-    is_told(process)
+    let is_told = is_told(&process);
+    process.err_fails = true;
+    is_told && has_failed(&process)
 }
 
 #[test]
