@@ -175,7 +175,7 @@ def check_statuses(tally, text):
     for name, number in re.findall(r"pub const (\w+): u32 = (\d+);", (source / "fault.rt").read_text()):
         name = {"FINE": "OK"}.get(name, name)
         tally.check(statuses.get(name) == number, f"PDB_{name} is {number} in the crate")
-    arm = r"Error::(\w+?)(?:\([^)]*\))? => (?:Fault::numbered\(|Fault \{\s*status: )(\d+)"
+    arm = r"Error::(\w+?)(?:\([^)]*\))? => (?:Fault::fault_with_number\(\s*|Fault \{\s*status: )(\d+)"
     refusals = re.findall(arm, (source / "refusals.rt").read_text())
     for name, number in refusals:
         tally.check(statuses.get(constant_of(name)) == number, f"PDB_{constant_of(name)} is {number} in the crate")
