@@ -437,7 +437,7 @@ fn is_help(alloc: Global, words: &[&str]) -> bool {
 
 /// Whether a call for a file, whose input is one question, reports that its standard output fails,
 /// and ends alike where its standard error fails too.
-fn is_unwritten(alloc: Global, words: &[&str], file: &[u8]) -> bool {
+fn is_unwritten<'a>(alloc: Global, words: &'a [&'a str], file: &'a [u8]) -> bool {
     let mut process = Process::new(alloc, words, b"stream 3", false);
     process.file = Some(file);
     process.out_fails = true;
