@@ -17,6 +17,16 @@ template <class Handle> struct Opened {
   pdb_fault fault{};
 };
 
+// What a call sums up over numbers, as many at a time as fit in its array.
+template <class Found, class Call> uint64_t for_each_batch(const Numbers &numbers, uint32_t turns, Call call) {
+  Found found[64];
+  uint64_t sum = 0;
+  for (uint32_t turn = 0; turn < turns; turn++)
+    for (size_t at = 0; at < numbers.size(); at += std::size(found))
+      sum += call(numbers.data() + at, std::min(std::size(found), numbers.size() - at), found);
+  return sum;
+}
+
 } // namespace
 
 uint64_t border_walk(const Bytes &stream, uint32_t turns) {
@@ -50,26 +60,27 @@ uint64_t border_rows(const Bytes &stream, uint32_t turns) {
 uint64_t border_find(const Bytes &stream, const Numbers &indexes, uint32_t turns) {
   Opened<pdb_types> table(pdb_types_open, stream);
   pdb_record record{};
-  uint64_t sum = 0;
   uint32_t first = 0, count = 0;
   pdb_types_first_index(&table.handle, &first, &table.fault);
   pdb_types_count(&table.handle, &count, &table.fault);
   // Once the last index was asked for, look-ups know the whole table.
   pdb_types_find(&table.handle, first + count - 1, &record, &table.fault);
-  for (uint32_t turn = 0; turn < turns; turn++)
-    for (uint32_t index : indexes)
-      if (pdb_types_find(&table.handle, index, &record, &table.fault) == PDB_OK)
-        sum += record.length;
-  return sum;
+  return for_each_batch<pdb_found_record>(indexes, turns, [&](const uint32_t *some, size_t length, pdb_found_record *found) {
+    pdb_types_find_all(&table.handle, some, length, found, length, &length, &table.fault);
+    uint64_t sum = 0;
+    for (size_t at = 0; at < length; at++)
+      sum += found[at].place.length;
+    return sum;
+  });
 }
 
 uint64_t border_names(const Bytes &stream, const Numbers &offsets, uint32_t turns) {
   Opened<pdb_names> names(pdb_names_open, stream);
-  pdb_name place{};
-  uint64_t sum = 0;
-  for (uint32_t turn = 0; turn < turns; turn++)
-    for (uint32_t offset : offsets)
-      if (pdb_names_place(&names.handle, offset, &place, &names.fault) == PDB_OK)
-        sum += 1 + place.length;
-  return sum;
+  return for_each_batch<pdb_name>(offsets, turns, [&](const uint32_t *some, size_t length, pdb_name *found) {
+    pdb_names_places(&names.handle, some, length, found, length, &length, &names.fault);
+    uint64_t sum = 0;
+    for (size_t at = 0; at < length; at++)
+      sum += found[at].length + (found[at].offset > 0);
+    return sum;
+  });
 }

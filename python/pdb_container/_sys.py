@@ -450,6 +450,13 @@ class Record(Structure):
     ]
 
 
+class FoundRecord(Structure):
+    _fields_ = [
+        ("place", Record),
+        ("fault", Fault),
+    ]
+
+
 class Row(Structure):
     _fields_ = [
         ("shape", c_uint32),
@@ -521,6 +528,7 @@ FUNCTIONS = {
     "pdb_file_stream_size": (c_uint32, [c_void_p, c_uint32, c_void_p, c_void_p]),
     "pdb_names_open": (c_uint32, [c_void_p, c_size_t, c_void_p, c_void_p]),
     "pdb_names_place": (c_uint32, [c_void_p, c_uint32, c_void_p, c_void_p]),
+    "pdb_names_places": (c_uint32, [c_void_p, c_void_p, c_size_t, c_void_p, c_size_t, c_void_p, c_void_p]),
     "pdb_omap_open": (c_uint32, [c_void_p, c_size_t, c_void_p, c_void_p]),
     "pdb_omap_records": (c_uint32, [c_void_p, c_void_p, c_size_t, c_void_p, c_void_p]),
     "pdb_omap_is_sorted": (c_uint32, [c_void_p, c_void_p, c_void_p]),
@@ -536,6 +544,7 @@ FUNCTIONS = {
     "pdb_types_first_index": (c_uint32, [c_void_p, c_void_p, c_void_p]),
     "pdb_types_count": (c_uint32, [c_void_p, c_void_p, c_void_p]),
     "pdb_types_find": (c_uint32, [c_void_p, c_uint32, c_void_p, c_void_p]),
+    "pdb_types_find_all": (c_uint32, [c_void_p, c_void_p, c_size_t, c_void_p, c_size_t, c_void_p, c_void_p]),
     "pdb_types_next": (c_uint32, [c_void_p, c_void_p, c_void_p]),
     "pdb_types_rewind": (c_uint32, [c_void_p, c_void_p]),
     "pdb_type_parse": (c_uint32, [c_void_p, c_size_t, c_uint32, c_void_p, c_void_p]),

@@ -172,6 +172,13 @@ pub struct Record {
 
 #[repr(C)]
 #[derive(Debug, Clone, Copy, Default, PartialEq, Eq)]
+pub struct FoundRecord {
+    pub place: Record,
+    pub fault: Fault,
+}
+
+#[repr(C)]
+#[derive(Debug, Clone, Copy, Default, PartialEq, Eq)]
 pub struct Row {
     pub shape: u32,
     pub has: u32,
@@ -479,6 +486,7 @@ unsafe extern "C" {
     pub fn pdb_file_stream_size(file: *mut Handle, number: u32, size: *mut u32, fault: *mut Fault) -> u32;
     pub fn pdb_names_open(stream: *const u8, stream_length: usize, names: *mut Handle, fault: *mut Fault) -> u32;
     pub fn pdb_names_place(names: *mut Handle, offset: u32, place: *mut Name, fault: *mut Fault) -> u32;
+    pub fn pdb_names_places(names: *mut Handle, offsets: *const u32, offsets_length: usize, room: *mut Name, room_length: usize, length: *mut usize, fault: *mut Fault) -> u32;
     pub fn pdb_omap_open(stream: *const u8, stream_length: usize, omap: *mut Handle, fault: *mut Fault) -> u32;
     pub fn pdb_omap_records(omap: *mut Handle, room: *mut OmapRecord, room_length: usize, length: *mut usize, fault: *mut Fault) -> u32;
     pub fn pdb_omap_is_sorted(omap: *mut Handle, is_sorted: *mut u32, fault: *mut Fault) -> u32;
@@ -494,6 +502,7 @@ unsafe extern "C" {
     pub fn pdb_types_first_index(table: *mut Handle, index: *mut u32, fault: *mut Fault) -> u32;
     pub fn pdb_types_count(table: *mut Handle, count: *mut u32, fault: *mut Fault) -> u32;
     pub fn pdb_types_find(table: *mut Handle, index: u32, record: *mut Record, fault: *mut Fault) -> u32;
+    pub fn pdb_types_find_all(table: *mut Handle, indexes: *const u32, indexes_length: usize, room: *mut FoundRecord, room_length: usize, length: *mut usize, fault: *mut Fault) -> u32;
     pub fn pdb_types_next(table: *mut Handle, record: *mut Record, fault: *mut Fault) -> u32;
     pub fn pdb_types_rewind(table: *mut Handle, fault: *mut Fault) -> u32;
     pub fn pdb_type_parse(record: *const u8, record_length: usize, index: u32, info: *mut Row, fault: *mut Fault) -> u32;

@@ -209,16 +209,24 @@ static void ask_frames(void) {
     pdb_frames_close(&frames);
 }
 
-// Each name begins right after the NUL of the one before it.
+// Each name begins right after the NUL of the one before it. All of them are found in one call too.
 static void ask_names(void) {
     pdb_names names = {0};
     pdb_name place = {0};
+    uint32_t offset = 0, offsets[64];
+    size_t count = 0;
+    pdb_name found[64];
     allowed(pdb_file_named_stream(&opened, (const uint8_t *)"/names", 6, stream, ROOM, &stream_length, &fault), PDB_OK);
     allowed(pdb_names_open(stream, stream_length, &names, &fault), PDB_OK);
-    for (uint32_t offset = 0; !allowed(pdb_names_place(&names, offset, &place, &fault), PDB_UNEXPECTED_EOF); offset += (uint32_t)place.length + 1) {
+    for (; !allowed(pdb_names_place(&names, offset, &place, &fault), PDB_UNEXPECTED_EOF); offset += (uint32_t)place.length + 1) {
         printf("name %" PRIu32 " %.*s\n", offset, (int)place.length, (char *)stream + place.offset);
         printf("place %" PRIu32 " %zu %zu\n", offset, place.offset, place.length);
+        offsets[count++] = offset;
     }
+    offsets[count++] = offset;
+    allowed(pdb_names_places(&names, offsets, count, found, 64, &length, &fault), PDB_OK);
+    for (size_t i = 0; i < length; i++)
+        printf("found %" PRIu32 " %zu %zu\n", offsets[i], found[i].offset, found[i].length);
     pdb_names_close(&names);
 }
 

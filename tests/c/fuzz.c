@@ -58,6 +58,7 @@ static void ask_table(const uint8_t *stream, size_t stream_length) {
         told(pdb_types_first_index(&types, &first, &fault));
         told(pdb_types_count(&types, &count, &fault));
         told(pdb_types_find(&types, first + count / 2, &place, &fault));
+        told(pdb_types_find_all(&types, (uint32_t[]){first, 0x74, first + count / 3, UINT32_MAX}, 4, ITEMS(pdb_found_record, 4), &length, &fault));
         for (size_t n = 0; n < RECORDS && told(pdb_types_next(&types, &place, &fault)) == PDB_OK; n++) {
             if (place.offset > stream_length || place.length > stream_length - place.offset) abort();
             ask_record(stream + place.offset, place.length, place.index);
@@ -89,11 +90,13 @@ static void ask_names(const uint8_t *stream, size_t stream_length) {
     pdb_names table = {0};
     pdb_name place;
     uint32_t offset = 0;
-    if (told(pdb_names_open(stream, stream_length, &table, &fault)) == PDB_OK)
+    if (told(pdb_names_open(stream, stream_length, &table, &fault)) == PDB_OK) {
+        told(pdb_names_places(&table, (uint32_t[]){0, 7, UINT32_MAX}, 3, ITEMS(pdb_name, 3), &length, &fault));
         for (size_t n = 0; n < RECORDS && told(pdb_names_place(&table, offset, &place, &fault)) == PDB_OK; n++) {
             if (stream[place.offset + place.length] || (place.length && memchr(stream + place.offset, 0, place.length))) abort();
             offset += (uint32_t)place.length + 1;
         }
+    }
     pdb_names_close(&table);
 }
 

@@ -20,9 +20,11 @@ static pdb_omap omap;
 static pdb_address_map map;
 static pdb_frames frames;
 static pdb_types types;
+static pdb_names string_table;
 static pdb_definitions definitions;
 static pdb_identity identity;
 static uint32_t record_index;
+static const uint32_t offsets[] = {0, UINT32_MAX, 1}, indexes[] = {0x1000, 0x74, UINT32_MAX, 0x1001};
 static pdb_fault fault;
 
 // A call into one array, or into two: of rows, and of the bytes of their names. `room` has a size of its items.
@@ -53,6 +55,8 @@ ONE(sections, pdb_section, pdb_sections(stream, stream_length, items, room_lengt
 ONE(rva_ranges, pdb_span, pdb_rva_ranges(&map, 0x1000, 0x1190, items, room_length, length, &fault))
 ONE(internal_rva_ranges, pdb_span, pdb_internal_rva_ranges(&map, 0x1000, 0x1190, items, room_length, length, &fault))
 ONE(frames_list, pdb_frame, pdb_frames_list(&frames, items, room_length, length, &fault))
+ONE(names_places, pdb_name, pdb_names_places(&string_table, offsets, 3, items, room_length, length, &fault))
+ONE(types_find_all, pdb_found_record, pdb_types_find_all(&types, indexes, 4, items, room_length, length, &fault))
 ONE(type_name, uint8_t, pdb_type_name(record, record_length, record_index, items, room_length, length, &fault))
 ONE(unique_name, uint8_t, pdb_type_unique_name(record, record_length, record_index, items, room_length, length, &fault))
 ONE(arguments, uint32_t, pdb_type_arguments(record, record_length, record_index, items, room_length, length, &fault))
@@ -127,6 +131,18 @@ static void read_stream(uint32_t number) {
     if (status != PDB_OK) fail("stream", "not read");
 }
 
+// The number of the stream of the string table.
+static uint32_t names_number(void) {
+    pdb_named_stream rows[16];
+    uint8_t names[400];
+    size_t count, size;
+    if (pdb_file_stream_names(&file, rows, 16, &count, names, sizeof names, &size, &fault)) fail("stream names", "not read");
+    for (size_t n = 0, at = 0; n < count; at += rows[n++].name_length)
+        if (rows[n].name_length == 6 && !memcmp(names + at, "/names", 6)) return rows[n].number;
+    fail("stream names", "no string table");
+    return 0;
+}
+
 static void ask_file(void) {
     pdb_roles roles;
     seen("pdb_error_text", error_text, 1);
@@ -146,6 +162,9 @@ static void ask_file(void) {
     seen("pdb_rva_ranges", rva_ranges, sizeof(pdb_span));
     seen("pdb_internal_rva_ranges", internal_rva_ranges, sizeof(pdb_span));
     seen("pdb_frames_list", frames_list, sizeof(pdb_frame));
+    read_stream(names_number());
+    if (pdb_names_open(stream, stream_length, &string_table, &fault)) fail("names", "not opened");
+    seen("pdb_names_places", names_places, sizeof(pdb_name));
 }
 
 // Each call on each record of a table that has an answer, and whether each had one.
@@ -178,6 +197,7 @@ static void ask_records(int is_of_ids) {
     }
     for (size_t i = 0; i < count; i++)
         if (!answered[i]) fail((is_of_ids ? of_ids : of_types)[i].name, "no answer");
+    seen("pdb_types_find_all", types_find_all, sizeof(pdb_found_record));
     if (!is_of_ids) seen("pdb_definitions_named", definitions_named, 4);
     pdb_types_close(&types);
     pdb_definitions_close(&definitions);
@@ -199,6 +219,7 @@ int main(int count, char **words) {
     pdb_omap_close(&omap);
     pdb_address_map_close(&map);
     pdb_frames_close(&frames);
+    pdb_names_close(&string_table);
     pdb_file_close(&file);
     unguarded(stream, stream_length);
     unguarded(bytes, bytes_length);

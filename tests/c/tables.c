@@ -182,12 +182,29 @@ static void check_find(uint32_t index) {
     EXPECT(status == wanted.status && same_fault(fault, wanted) && record.index == 7 && record.offset == 7 && record.length == 7);
 }
 
-// Finds in an order that jumps to and fro, and the indexes around both ends.
+// One call for all indexes finds what a call for each finds.
+static void check_found(const uint32_t *indexes, size_t indexes_length) {
+    pdb_found_record found[2000];
+    pdb_fault fault;
+    size_t got = 7;
+    EXPECT(pdb_types_find_all(&table, indexes, indexes_length, found, indexes_length - 1, &got, &fault) == PDB_TOO_SMALL && got == indexes_length);
+    EXPECT(pdb_types_find_all(&table, indexes, indexes_length, found, 2000, &got, &fault) == PDB_OK && got == indexes_length);
+    for (size_t n = 0; n < indexes_length; n++) {
+        pdb_record record = {indexes[n], 0, 0};
+        pdb_types_find(&table, indexes[n], &record, &fault);
+        EXPECT(same_fault(found[n].fault, fault) && !memcmp(&found[n].place, &record, sizeof record));
+    }
+}
+
+// Finds in an order that jumps to and fro, and the indexes around both ends; and then all of them in one call.
 static void check_finds(void) {
+    uint32_t indexes[2000];
     size_t steps = count < 2000 ? count : 2000;
-    for (size_t n = 0; n < steps; n++) check_find(first_index + (uint32_t)(n * 7919 % count));
+    for (size_t n = 0; n < steps; n++) check_find(indexes[n] = first_index + (uint32_t)(n * 7919 % count));
     uint32_t some[] = {0, 0x74, first_index - 1, first_index, first_index + (uint32_t)count, maximum_index - 1, maximum_index, 0xffffffff};
     for (size_t i = 0; i < sizeof some / sizeof *some; i++) check_find(some[i]);
+    check_found(indexes, steps);
+    check_found(some, sizeof some / sizeof *some);
 }
 
 // The fields of a list and of those in which it goes on, list by list; the fault, or PDB_OK.
@@ -255,6 +272,8 @@ static void check_closed(pdb_types *closed) {
     EXPECT(pdb_types_first_index(closed, &number, &fault) == PDB_NOT_OPEN && number == 7);
     EXPECT(pdb_types_count(closed, &number, &fault) == PDB_NOT_OPEN && number == 7);
     EXPECT(pdb_types_find(closed, 0x1000, &record, &fault) == PDB_NOT_OPEN && record.index == 7);
+    pdb_found_record found = {.place = {7, 7, 7}};
+    EXPECT(pdb_types_find_all(closed, &(uint32_t){0x1000}, 1, &found, 1, &length, &fault) == PDB_NOT_OPEN && !length && found.place.index == 7);
     EXPECT(pdb_types_next(closed, &record, &fault) == PDB_NOT_OPEN && record.index == 7 && record.length == 7);
     EXPECT(pdb_types_rewind(closed, &fault) == PDB_NOT_OPEN);
     pdb_type type = {.place = {7, 7, 7}};
@@ -274,6 +293,9 @@ static void check_misuse(void) {
     table.handle = names.handle;
     names.handle = closed.handle;
     EXPECT(pdb_names_place(&names, 0, &place, &fault) == PDB_NOT_OPEN && place.length == 7);
+    pdb_name found = {7, 7};
+    size_t length = 7;
+    EXPECT(pdb_names_places(&names, &(uint32_t){0}, 1, &found, 1, &length, &fault) == PDB_NOT_OPEN && !length && found.length == 7);
     check_closed(&closed);
     pdb_types_close(&table);
     check_closed(&table);

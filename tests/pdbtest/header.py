@@ -16,6 +16,7 @@ STRUCTURES = {
     "Row": "pdb_row", "TypeRow": "pdb_type", "FieldRow": "pdb_field", "OmapRow": "pdb_omap_record",
     "Translation": "pdb_translation", "FileIdentity": "pdb_identity", "LayoutRow": "pdb_layout_row",
     "FoundFault": "pdb_finding", "NamePlace": "pdb_name",
+    "FoundRecord": "pdb_found_record",
 }  # fmt: skip
 NUMBERS = {"u64": "uint64_t", "u32": "uint32_t", "u16": "uint16_t", "u8": "uint8_t", "usize": "size_t"}
 SIZES = {"u64": 8, "u32": 4, "u16": 2, "u8": 1, "usize": 8}
@@ -123,24 +124,39 @@ def layouts():
 
 # Names of the union where the definitions have others: of a shape, and of a number of one.
 MEMBERS = {"class": "class_type", "union": "union_type"}
-WORDS = {
-    ("virtual_base_class", "direct"): "is_direct", ("enumerate", "value"): "value",
-    ("user_defined_type_source", "source_file"): None,
-}  # fmt: skip
+WORDS = {("virtual_base_class", "direct"): "is_direct", ("modifier", "unaligned"): "modifiers"}
+ENUMERATE = {"kind": "is_signed", "count": "width", "number": "value"}
+# The numbers that definitions give by a word, in the order of what follows it.
+SHARED = {"typed": ("attributes", "type_index"), "counted": ("properties", "count")}
+# The numbers of the source of a type, which is one of two records.
+SOURCE = {"udt": "type_index", "file_id": "second_index", "module": "third_index", "file_name": "number", "line": "extra"}
+SAID = re.compile(r"^\w+ \((values|ids)\.(\w+) [^=]*\) =\s+zeroed_row \d+(.*?)(?=^\S)(?!^\})", re.MULTILINE | re.DOTALL)
 
 
 def words_of_union():
-    """The numbers of each shape of a type by the definition that says which number of a row is which: of the union's
-    member, the name there, the name in a row, and whether some records lack it."""
-    text = (ROOT / "crates/pdb_handles/specs/Row.antt").read_text()
-    for shape, body in re.findall(r"row(?:_of)? \(values\.(\w+) v\) = row \d+ \(record no_numbers \{(.*)\}\)", text):
-        for slot, said in re.findall(r"(\w+) = ([^;}]+)", body):
-            word = re.findall(r"v\.(\w+)", said)[-1]
-            if (shape, slot) == ("modifier", "kind"):
-                word = "modifiers"
-            if shape == "enumerate":
-                word = {"kind": "is_signed", "count": "width"}.get(slot, word)
-            yield MEMBERS.get(shape, shape), WORDS.get((shape, word), word), slot, "Some" not in said
+    """The numbers of each shape by the definitions that say which number of a row is which: of the union's member, the
+    name there, the name in a row, and whether some records lack it."""
+    for path in sorted((ROOT / "crates/pdb_handles/specs").glob("*.antt")):
+        for module, shape, body in SAID.findall(path.read_text()):
+            member = f"{shape}_id" if module == "ids" else MEMBERS.get(shape, shape)
+            for shared, *words in re.findall(r"\((\w+) v\.(\w+) v\.(\w+)\)", body):
+                yield from ((member, word, slot, False) for word, slot in zip(words, SHARED[shared]))
+            for slot, said in re.findall(r"(\w+) = ([^;}]+)", body):
+                word = re.findall(r"[ .]([a-z]\w+)\b", said)[-1]
+                word = ENUMERATE.get(slot, word) if shape == "enumerate" else WORDS.get((shape, word), word)
+                yield member, word, slot, "Some" not in said
+    for word, slot in SOURCE.items():
+        yield "type_source_id", word, slot, False
+
+
+def words_of_header(text):
+    """The names of the numbers of each member of the union."""
+    bare = re.sub(r"/\*.*?\*/", "", text, flags=re.DOTALL)
+    union = re.search(r"^typedef union pdb_type_info \{(.*?)^\} pdb_type_info;", bare, re.DOTALL | re.MULTILINE)[1]
+    for body, member in re.findall(r"^    struct \{(.*?)^    \} (\w+);", union, re.DOTALL | re.MULTILINE):
+        for word in re.findall(r"\w+(?=[,;])", re.sub(r"union \{.*?\} ", "", body, flags=re.DOTALL)):
+            if word not in ("shape", "has") and not word.startswith("unused"):
+                yield member, word
 
 
 def asserted(text):
@@ -175,8 +191,8 @@ def check_statuses(tally, text):
     for name, number in re.findall(r"pub const (\w+): u32 = (\d+);", (source / "fault.rt").read_text()):
         name = {"FINE": "OK"}.get(name, name)
         tally.check(statuses.get(name) == number, f"PDB_{name} is {number} in the crate")
-    arm = r"Error::(\w+?)(?:\([^)]*\))? => (?:Fault::fault_with_number\(\s*|Fault \{\s*status: )(\d+)"
-    refusals = re.findall(arm, (source / "refusals.rt").read_text())
+    arm = r"Error::(\w+?)(?:\([^)]*\))? => Fault::new\((\d+),"
+    refusals = re.findall(arm, (source / "fault.rt").read_text())
     for name, number in refusals:
         tally.check(statuses.get(constant_of(name)) == number, f"PDB_{constant_of(name)} is {number} in the crate")
     tally.check(len(refusals) == 28, f"{len(refusals)} refusals have a status")
@@ -196,6 +212,11 @@ def check_header(tally):
         ours, theirs = crate.get(name), header.get(other)
         tally.check(ours == theirs, f"{other}: {theirs} in the header, {ours} in {name}")
     check_statuses(tally, text)
+    defined, named = ({(member, word) for member, word, *_ in words_of_union()}, {*words_of_header(text)})
+    for member, word in sorted(defined ^ named):
+        where = "the definitions" if (member, word) in defined else "the header"
+        tally.check(False, f"{member}.{word} is in {where} alone")
+    tally.check(len(defined) > 60, f"{len(defined)} numbers of records have a name in the header")
     words = ["-std=c11", "-Werror", f"-I{HEADER.parent}", "-fsyntax-only", "-x", "c", "-"]
     ran = call(tool("cc"), words, "\n".join([*asserted(text), ""]).encode())
     tally.check(ran.status == 0, f"structures lie elsewhere: {ran.err.decode()}")

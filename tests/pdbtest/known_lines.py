@@ -249,11 +249,14 @@ def lines(page_size, data):
     yield from address_lines()
     yield from omap_lines()
     yield from frame_lines()
-    offset = 0
+    offset, found = 0, []
     for name in NAMES:
         yield f"name {offset} {name}"
         yield f"place {offset} {12 + offset} {len(name)}"
+        found.append(f"found {offset} {12 + offset} {len(name)}")
         offset += len(name) + 1
+    yield from found
+    yield f"found {offset} 0 0"
     yield from type_lines()
     yield from definition_lines()
     yield from finding_lines(data)

@@ -21,7 +21,7 @@ abbrev pub values_of_all : {A : Type 0} → List (Answer A) → Answer (List A)
 values_of_all [] = Ok []
 values_of_all (answer ∷ answers) = answer >>= λ x. values_of_all answers >>= λ xs. Ok (x ∷ xs)
 
--- `Ok` if the test holds, and otherwise that refusal
+-- `Ok` if the condition is true, and otherwise that refusal
 abbrev pub ok_if : Bool → Refusal → Answer (Unit {0})
 ok_if true e = Ok tt
 ok_if false e = Err e

@@ -1,14 +1,12 @@
 //! Definitions of types, their sizes, texts and layouts.
 
 ghost use Rattle.std.specs.Prelude.{◌≡◌};
-ghost use Rattle.pdb_types.specs.Definition.{definition_of};
-ghost use Rattle.pdb_types.specs.Size.{size_of};
+ghost use Rattle.pdb_types.specs.{Definition.definition_of, Size.size_of};
 ghost use Rattle.pdb_handles.specs.declared.content.Content.TheVariants.{Definitions};
-ghost use Rattle.pdb_handles.specs.Copied.{CopiesOrLacks, copied_of};
+ghost use Rattle.pdb_handles.specs.{Copied.CopiesOrLacks, Copied.copied_of, Handle.OpensStream, Handle.held_as};
 ghost use Rattle.pdb_reports.specs.Definitions.{FindsOrLacks, WritesTextOf, definitions_held, definitions_named};
 ghost use Rattle.pdb_reports.specs.Definitions.{definitions_opened, found_in};
 ghost use Rattle.pdb_reports.specs.LayoutRow.{LaysOutOf};
-ghost use Rattle.pdb_handles.specs.Handle.{OpensStream, held_as};
 
 use pdb_handles::copied::copy_list;
 use pdb_handles::{Fault, Handle};

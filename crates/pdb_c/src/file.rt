@@ -1,23 +1,25 @@
-//! Files: their streams, and what is found by the roles and names of these.
+//! Files: their streams, what is found by the roles and names of these, what identifies a file, and
+//! whether it is whole.
 
-ghost use Rattle.std.specs.Prelude.{◌≡◌, Some};
-ghost use Rattle.pdb_msf.specs.Directory.{stream_count_in};
-ghost use Rattle.pdb_msf.specs.Layout.{size_by, stream_by};
-ghost use Rattle.pdb_handles.specs.Copied.{CopiesOrLacks, answer_copied, copied_of};
-ghost use Rattle.pdb_handles.specs.File.{layout_said, named_stream_said};
-ghost use Rattle.pdb_handles.specs.Found.{answered_of, found_of};
-ghost use Rattle.pdb_handles.specs.Handle.{Opens, file_held};
-ghost use Rattle.pdb_handles.specs.Information.{information_said, names_said};
-ghost use Rattle.pdb_handles.specs.Records.{FieldsOrLacks, listing_told};
-ghost use Rattle.pdb_handles.specs.Roles.{IsAnswerTold, roles_said};
+ghost use Rattle.std.specs.Prelude.{◌≡◌, Some, Ok};
+ghost use Rattle.pdb_msf.specs.{Directory.stream_count_in, Layout.size_by, Layout.stream_by};
+ghost use Rattle.pdb_identity.specs.Format.{format_of};
+ghost use Rattle.pdb_handles.specs.File.{layout_said, named_stream_said, information_said, names_said, roles_said};
+ghost use Rattle.pdb_handles.specs.Copied.{CopiesAnswer, CopiesOrLacks, copied_of, IsAnswerTold};
+ghost use Rattle.pdb_handles.specs.Records.{FieldsOrLacks, listing_told, CopiesIf};
+ghost use Rattle.pdb_handles.specs.{Found.answered_of, Found.found_of, Handle.Opens, Handle.file_held};
+ghost use Rattle.pdb_reports.specs.Identity.{format_number, identity_said, key_text};
+ghost use Rattle.pdb_reports.specs.Findings.{findings_said};
 
-use pdb_handles::copied::copy_stream;
+use pdb_handles::copied::{copy_list, copy_stream, write_listing};
 use pdb_handles::file::{layout_in, named_stream_in};
 use pdb_handles::found::{tell_answered, tell_value};
 use pdb_handles::information::{Information, NamedStream, information_in, stream_names_in};
-use pdb_handles::listing::write_listing;
 use pdb_handles::roles::{Roles, roles_in};
 use pdb_handles::{Fault, Handle};
+use pdb_identity::Format;
+use pdb_reports::findings::{FoundFault, findings_in};
+use pdb_reports::identity::{FileIdentity, copy_key, format_number, identity_in, write_read};
 use std::alloc::Global;
 
 /// Opens a file: reads its header and its directory, and keeps them. The bytes are not kept.
@@ -119,8 +121,7 @@ pub extern "C" fn pdb_bytes_named_stream(
     length: &mut usize,
     fault: &mut Fault,
 ) -> u32
-    ensures answer { CopiesOrLacks (record { fault = fault.new; length = length.new; room = room.new }) room.old
-        (answer_copied room.old (named_stream_said name.now bytes.now)) }
+    ensures answer { CopiesAnswer (named_stream_said name.now bytes.now) room.old fault.new length.new room.new }
     ensures status { result ≡ fault.new.status }
 {
     copy_stream(named_stream_in(alloc, bytes, name), room, length).tell(fault)
@@ -174,4 +175,59 @@ pub extern "C" fn pdb_bytes_roles(
     ensures status { result ≡ fault.new.status }
 {
     tell_answered(roles_in(alloc, bytes), roles).tell(fault)
+}
+
+/// Writes what identifies a file.
+#[unsafe(no_mangle)]
+pub extern "C" fn pdb_identity_of(
+    alloc: Global,
+    bytes: &[u8],
+    identity: &mut FileIdentity,
+    fault: &mut Fault,
+) -> u32
+    ensures answer { IsAnswerTold (λ identity. identity) (identity_said bytes.now) identity.old fault.new identity.new }
+    ensures status { result ≡ fault.new.status }
+{
+    write_read(identity_in(alloc, bytes), identity).tell(fault)
+}
+
+/// Copies the text of a file's key in the form of a number.
+#[unsafe(no_mangle)]
+pub extern "C" fn pdb_key(
+    alloc: Global,
+    identity: &FileIdentity,
+    form: u32,
+    room: &mut [u8],
+    length: &mut usize,
+    fault: &mut Fault,
+) -> u32
+    ensures answer { CopiesIf (Ok (key_text form identity.now)) room.old fault.new length.new room.new }
+    ensures status { result ≡ fault.new.status }
+{
+    copy_key(alloc, identity, form, room, length).tell(fault)
+}
+
+/// Returns the number of the format with whose prefix a file begins.
+#[unsafe(no_mangle)]
+pub extern "C" fn pdb_format_of(bytes: &[u8]) -> u32
+    ensures { result ≡ format_number (format_of bytes.now) }
+{
+    format_number(Format::of(bytes))
+}
+
+/// Writes what is found wrong in a file: the first fault of each part, or every one unless `every`
+/// is 0.
+#[unsafe(no_mangle)]
+pub extern "C" fn pdb_validate(
+    alloc: Global,
+    file: &[u8],
+    every: u32,
+    room: &mut [FoundFault],
+    length: &mut usize,
+    fault: &mut Fault,
+) -> u32
+    ensures answer { CopiesAnswer (findings_said every file.now) room.old fault.new length.new room.new }
+    ensures status { result ≡ fault.new.status }
+{
+    copy_list(findings_in(alloc, file, every), room, length).tell(fault)
 }

@@ -1,13 +1,10 @@
 //! Frames of a program.
 
 ghost use Rattle.std.specs.Prelude.{◌≡◌, IfSome, map, Ok};
-ghost use Rattle.pdb_frames.specs.Merge.{by_heads, merge};
-ghost use Rattle.pdb_frames.specs.Table.{StartsIncrease};
+ghost use Rattle.pdb_frames.specs.{Merge.by_heads, Merge.merge, Table.StartsIncrease};
 ghost use Rattle.pdb_handles.specs.Copied.{CopiesOrLacks, copied_of, items_copied};
-ghost use Rattle.pdb_handles.specs.File.{frames_said};
-ghost use Rattle.pdb_handles.specs.Found.{AsksContent, not_held};
-ghost use Rattle.pdb_handles.specs.Frame.{TellsFirst, frame_of};
-ghost use Rattle.pdb_handles.specs.Handle.{Opens, frames_held};
+ghost use Rattle.pdb_handles.specs.{File.frames_said, Found.AsksContent, Found.not_held, Frame.TellsFirst};
+ghost use Rattle.pdb_handles.specs.{Frame.frame_of, Handle.Opens, Handle.frames_held};
 
 use pdb_handles::copied::copy_list;
 use pdb_handles::file::frames_in;

@@ -1,14 +1,13 @@
 //! String tables.
 
-ghost use Rattle.std.specs.Prelude.{◌≡◌};
+ghost use Rattle.std.specs.Prelude.{◌≡◌, map, Ok};
 ghost use Rattle.pdb_space.specs.StringTable.{names_of};
-ghost use Rattle.pdb_handles.specs.declared.content.Content.TheVariants.{Names};
-ghost use Rattle.pdb_handles.specs.Found.{answered_of};
-ghost use Rattle.pdb_handles.specs.Handle.{OpensStream, held_as, names_held};
-ghost use Rattle.pdb_handles.specs.Names.{name_place};
+ghost use Rattle.pdb_handles.specs.{declared.content.Content.TheVariants.Names, Copied.copied_of, Found.answered_of};
+ghost use Rattle.pdb_handles.specs.{Handle.OpensStream, Handle.held_as, Handle.names_held};
+ghost use Rattle.pdb_handles.specs.Names.{name_place, place_or_zeros};
 
 use pdb_handles::found::tell_answered;
-use pdb_handles::names::{NamePlace, names_in, place_in};
+use pdb_handles::names::{NamePlace, find_names, names_in, place_in};
 use pdb_handles::{Fault, Handle};
 use std::alloc::Global;
 
@@ -43,4 +42,25 @@ pub extern "C" fn pdb_names_place(
     ensures status { result ≡ fault.new.status }
 {
     ask!(names, alloc, fault, Names(table) => tell_answered(place_in(table, offset), place))
+}
+
+/// Writes where the name at each of some offsets is, as `pdb_names_place` does, or zeros where there
+/// is no name.
+#[unsafe(no_mangle)]
+pub extern "C" fn pdb_names_places(
+    alloc: Global,
+    names: &mut Handle,
+    offsets: &[u32],
+    room: &mut [NamePlace],
+    length: &mut usize,
+    fault: &mut Fault,
+) -> u32
+    ensures answer { record { fault = fault.new; length = length.new; room = room.new } ≡ copied_of room.old
+        (λ names. Ok (map (λ offset. place_or_zeros (name_place names offset)) offsets.now))
+        (names_held names.old.held.content) }
+    ensures kept { names.new.held.content ≡ names.old.held.content }
+    ensures status { result ≡ fault.new.status }
+{
+    *length = 0;
+    ask!(names, alloc, fault, Names(table) => find_names(table, offsets, room, length))
 }

@@ -1,23 +1,20 @@
 //! What the record of a type or of an id says.
 
 ghost use Rattle.std.specs.Prelude.{◌≡◌};
+ghost use Rattle.pdb_values.specs.{IdValue.id_name, TypeValue.name_of_type};
 ghost use Rattle.pdb_tpi.specs.Record.{type_of};
-ghost use Rattle.pdb_values.specs.IdValue.{id_name};
-ghost use Rattle.pdb_values.specs.TypeValue.{name_of_type};
-ghost use Rattle.pdb_handles.specs.Copied.{CopiesOrLacks};
-ghost use Rattle.pdb_handles.specs.Ids.{id_info, id_list, of_id};
-ghost use Rattle.pdb_handles.specs.Lists.{dimensions_in, methods_in, unique_name_in};
-ghost use Rattle.pdb_handles.specs.Records.{FieldsOrLacks, arguments_in, fields_told, if_copied, listing_told, of_type};
-ghost use Rattle.pdb_handles.specs.Roles.{IsAnswerTold};
-ghost use Rattle.pdb_handles.specs.Row.{type_info};
+ghost use Rattle.pdb_handles.specs.Records.{id_info, id_list, of_id, CopiesIf, dimensions_in, methods_in};
+ghost use Rattle.pdb_handles.specs.Records.{unique_name_in, FieldsOrLacks, arguments_in, fields_told, listing_told};
+ghost use Rattle.pdb_handles.specs.Records.{of_type};
+ghost use Rattle.pdb_handles.specs.{Copied.IsAnswerTold, Row.type_info};
 
-use pdb_handles::copied::{copy_if, copy_name};
+use pdb_handles::copied::{copy_if, copy_name, write_listing};
 use pdb_handles::fields::{FieldRow, fields_of};
 use pdb_handles::found::tell_answered;
-use pdb_handles::ids::{id_name_in, id_row_in, list_of};
-use pdb_handles::listing::write_listing;
-use pdb_handles::lists::{dimensions_of, methods_of, unique_name_in};
-use pdb_handles::records::{arguments_of, type_name_in, write_type_row};
+use pdb_handles::records::{
+    arguments_of, dimensions_of, id_name_in, id_row_in, list_of, methods_of, type_name_in,
+    unique_name_in, write_type_row,
+};
 use pdb_handles::{Fault, Row};
 use std::alloc::Global;
 
@@ -46,8 +43,7 @@ pub extern "C" fn pdb_type_name(
     length: &mut usize,
     fault: &mut Fault,
 ) -> u32
-    ensures answer { CopiesOrLacks (record { fault = fault.new; length = length.new; room = room.new }) room.old
-        (if_copied room.old (of_type name_of_type index bytes.now)) }
+    ensures answer { CopiesIf (of_type name_of_type index bytes.now) room.old fault.new length.new room.new }
     ensures status { result ≡ fault.new.status }
 {
     copy_name(type_name_in(alloc, bytes, index), room, length).tell(fault)
@@ -63,8 +59,7 @@ pub extern "C" fn pdb_type_arguments(
     length: &mut usize,
     fault: &mut Fault,
 ) -> u32
-    ensures answer { CopiesOrLacks (record { fault = fault.new; length = length.new; room = room.new }) room.old
-        (if_copied room.old (of_type arguments_in index bytes.now)) }
+    ensures answer { CopiesIf (of_type arguments_in index bytes.now) room.old fault.new length.new room.new }
     ensures status { result ≡ fault.new.status }
 {
     copy_if(arguments_of(alloc, bytes, index), room, length).tell(fault)
@@ -80,8 +75,7 @@ pub extern "C" fn pdb_type_methods(
     length: &mut usize,
     fault: &mut Fault,
 ) -> u32
-    ensures answer { CopiesOrLacks (record { fault = fault.new; length = length.new; room = room.new }) room.old
-        (if_copied room.old (of_type methods_in index bytes.now)) }
+    ensures answer { CopiesIf (of_type methods_in index bytes.now) room.old fault.new length.new room.new }
     ensures status { result ≡ fault.new.status }
 {
     copy_if(methods_of(alloc, bytes, index), room, length).tell(fault)
@@ -98,8 +92,7 @@ pub extern "C" fn pdb_type_dimensions(
     length: &mut usize,
     fault: &mut Fault,
 ) -> u32
-    ensures answer { CopiesOrLacks (record { fault = fault.new; length = length.new; room = room.new }) room.old
-        (if_copied room.old (of_type dimensions_in index bytes.now)) }
+    ensures answer { CopiesIf (of_type dimensions_in index bytes.now) room.old fault.new length.new room.new }
     ensures status { result ≡ fault.new.status }
 {
     copy_if(dimensions_of(alloc, bytes, index), room, length).tell(fault)
@@ -115,8 +108,7 @@ pub extern "C" fn pdb_type_unique_name(
     length: &mut usize,
     fault: &mut Fault,
 ) -> u32
-    ensures answer { CopiesOrLacks (record { fault = fault.new; length = length.new; room = room.new }) room.old
-        (if_copied room.old (of_type unique_name_in index bytes.now)) }
+    ensures answer { CopiesIf (of_type unique_name_in index bytes.now) room.old fault.new length.new room.new }
     ensures status { result ≡ fault.new.status }
 {
     copy_name(unique_name_in(alloc, bytes, index), room, length).tell(fault)
@@ -161,8 +153,7 @@ pub extern "C" fn pdb_id_name(
     length: &mut usize,
     fault: &mut Fault,
 ) -> u32
-    ensures answer { CopiesOrLacks (record { fault = fault.new; length = length.new; room = room.new }) room.old
-        (if_copied room.old (of_id id_name bytes.now)) }
+    ensures answer { CopiesIf (of_id id_name bytes.now) room.old fault.new length.new room.new }
     ensures status { result ≡ fault.new.status }
 {
     copy_name(id_name_in(alloc, bytes), room, length).tell(fault)
@@ -178,8 +169,7 @@ pub extern "C" fn pdb_id_list(
     length: &mut usize,
     fault: &mut Fault,
 ) -> u32
-    ensures answer { CopiesOrLacks (record { fault = fault.new; length = length.new; room = room.new }) room.old
-        (if_copied room.old (of_id id_list bytes.now)) }
+    ensures answer { CopiesIf (of_id id_list bytes.now) room.old fault.new length.new room.new }
     ensures status { result ≡ fault.new.status }
 {
     copy_if(list_of(alloc, bytes), room, length).tell(fault)

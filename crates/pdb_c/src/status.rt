@@ -1,8 +1,7 @@
 //! Faults, the version, and the end of a handle.
 
 ghost use Rattle.std.specs.Prelude.{◌≡◌, None};
-ghost use Rattle.pdb_handles.specs.Copied.{CopiesOrLacks, text_copied};
-ghost use Rattle.pdb_handles.specs.Told.{fault_text};
+ghost use Rattle.pdb_handles.specs.{Copied.CopiesOrLacks, Copied.text_copied, Told.refusal_told, Told.text_if};
 
 use pdb_handles::told::{copy_text_of, error_of_fault};
 use pdb_handles::{Fault, Handle};
@@ -18,7 +17,7 @@ pub extern "C" fn pdb_error_text(
     fault: &mut Fault,
 ) -> u32
     ensures answer { CopiesOrLacks (record { fault = fault.new; length = length.new; room = room.new }) room.old
-        (text_copied room.old (fault_text about.now)) }
+        (text_copied room.old (text_if (refusal_told about.now))) }
     ensures status { result ≡ fault.new.status }
 {
     copy_text_of(alloc, error_of_fault(about), room, length).tell(fault)

@@ -1,18 +1,18 @@
 //! Tables of types and of ids behind a handle.
 
-ghost use Rattle.std.specs.Prelude.{◌≡◌};
+ghost use Rattle.std.specs.Prelude.{◌≡◌, map, Ok};
 ghost use Rattle.pdb_tpi.specs.Table.{count_in_header};
-ghost use Rattle.pdb_handles.specs.declared.content.Content.TheVariants.{Table};
-ghost use Rattle.pdb_handles.specs.Found.{found_of};
-ghost use Rattle.pdb_handles.specs.Handle.{OpensStream, held_as, table_held};
-ghost use Rattle.pdb_handles.specs.Records.{FieldsOrLacks};
-ghost use Rattle.pdb_handles.specs.Tables.{fields_asked, located_in, rewind_outcome, step_told, table_opened};
-ghost use Rattle.pdb_handles.specs.Walked.{WritesNextOf};
+ghost use Rattle.pdb_handles.specs.{declared.content.Content.TheVariants.Table, Copied.copied_of, Found.found_of};
+ghost use Rattle.pdb_handles.specs.{Handle.OpensStream, Handle.held_as, Handle.table_held, Records.FieldsOrLacks};
+ghost use Rattle.pdb_handles.specs.{Tables.table_opened, Walked.WritesNextOf};
+ghost use Rattle.pdb_handles.specs.Tables.{fields_asked, located_in, record_found, rewind_outcome, step_told};
 
+use pdb_handles::copied::write_listing;
 use pdb_handles::fields::FieldRow;
 use pdb_handles::found::tell_value;
-use pdb_handles::listing::write_listing;
-use pdb_handles::open_table::{find_record, index_count, listed_fields, next_record, table_in};
+use pdb_handles::open_table::{
+    FoundRecord, find_record, find_records, index_count, listed_fields, next_record, table_in,
+};
 use pdb_handles::walked::{TypeRow, write_next};
 use pdb_handles::{FINE, Fault, Handle, Located};
 use std::alloc::Global;
@@ -82,6 +82,25 @@ pub extern "C" fn pdb_types_find(
     ensures status { result ≡ fault.new.status }
 {
     ask!(table, alloc, fault, Table(open) => find_record(open, index, place))
+}
+
+/// Writes what `pdb_types_find` finds for each of some indexes, and how each search ended.
+#[unsafe(no_mangle)]
+pub extern "C" fn pdb_types_find_all(
+    alloc: Global,
+    table: &mut Handle,
+    indexes: &[u32],
+    room: &mut [FoundRecord],
+    length: &mut usize,
+    fault: &mut Fault,
+) -> u32
+    ensures answer { record { fault = fault.new; length = length.new; room = room.new } ≡ copied_of room.old
+        (λ stand. Ok (map (record_found stand.table) indexes.now)) (table_held table.old.held.content) }
+    ensures kept { table.new.held.content ≡ table.old.held.content }
+    ensures status { result ≡ fault.new.status }
+{
+    *length = 0;
+    ask!(table, alloc, fault, Table(open) => find_records(open, indexes, room, length))
 }
 
 /// Writes the index of the next record of the walk along a table, and where it is in the stream. If

@@ -15,13 +15,13 @@ use Rattle.pdb_cli.specs.declared.outcome.Outcome.{Outcome}
 use Rattle.pdb_cli.specs.Printed.{IsLineOf, IsUsage, Shows, question_of}
 
 -- why an input isn't read: a read failed for a reason other than an interruption, or the input did not
--- end, or memory was refused
+-- end, or memory ran out
 abbrev pub IsUnread : Error → Type 0
 IsUnread (IoError fault) = error_kind fault ≢ kinds.Interrupted
 IsUnread OutOfMemory = ⊤
 IsUnread other = ⊥
 
--- why the program has nothing to show: a channel failed, or memory was refused
+-- why the program has nothing to show: a channel failed, or memory ran out
 abbrev pub IsFault : Error → Type 0
 IsFault (IoError fault) = ⊤
 IsFault OutOfMemory = ⊤
@@ -60,7 +60,7 @@ pub record IsOutcomeWritten (outcome : Outcome) (out out' err err' : OutputState
 abbrev pub IsOutputCut : Outcome → OutputState → OutputState → Error → Type 0
 IsOutputCut outcome out out' fault = IsFailed out' fault × IsPrefix outcome.out.items out.contents out'.contents
 
--- A fault, or that memory was refused for the text of the fault, is reported on standard error, with
+-- A fault, or that memory ran out for the text of the fault, is reported on standard error, with
 -- status 1; or standard error failed.
 pub record IsFaultReported (fault : Error) (err err' : OutputState) (status : ℕ) : Type 0 where
   pub is_status : status ≡ 1

@@ -83,7 +83,7 @@ abbrev pub question_of : List (List ℕ) → List ℕ → Option (Query × List 
 question_of [] file = Some (queries.Stream 1 None, s1_bytes)
 question_of words file = option_map (λ query. (query, file)) (query_of words)
 
--- what the program shows: the answer to what was asked, or that memory was refused, or else the usage
+-- what the program shows: the answer to what was asked, or that memory ran out, or else the usage
 abbrev pub Shows : Option (Query × List ℕ) → Outcome → Type 0
 Shows (Some question) outcome = IsOutcomeOf (answer_of question.1 question.0) outcome ⊎ IsRefused out_of_memory outcome
 Shows None outcome = IsUsage outcome

@@ -138,7 +138,7 @@ IsReply failed (replies.Ranges ranges) meant = (table : List OmapValue) × (aske
 IsReply failed (replies.Refused e) meant = RefusesUnless failed e meant
 
 -- A call that takes memory and reads no source returns the reply that is meant, or fails with the refusal
--- that is meant, or because memory was refused.
+-- that is meant, or because memory ran out.
 abbrev pub Replies : Result Reply Error → Answer ReplyValue → Type 0
 Replies (Ok reply) meant = IsReply ⊥ reply meant
 Replies (Err e) meant = (meant ≡ Err (refusal_of e)) ⊎ (e ≡ errors.OutOfMemory)

@@ -1,12 +1,11 @@
 -- The fields of a list of fields.
-use Rattle.std.proofs.Common.{◌≡◌, List, map, ap, sym, ◌∙◌, Option, Some}
+use Rattle.std.proofs.Common.{◌≡◌, List, map, ap, sym, ◌∙◌, Some}
 use Rattle.pdb_values.specs.declared.field_list.FieldList.{FieldList, fold_out-FieldList}
-use Rattle.pdb_values.specs.declared.type_data.TypeData.{TypeData, fold-roll-TypeData}
-use Rattle.pdb_values.specs.declared.type_data.TypeData.TheVariants as variants
-use Rattle.pdb_values.specs.declared.type_data.TypeData.TheVariants.{rolls-FieldList}
-use Rattle.pdb_values.specs.declared.type_data.TypeData.TheOpen.{TypeData-F}
-use Rattle.pdb_values.specs.TypeValue.{TypeValue}
 use Rattle.pdb_values.specs.TypeView.{type_value, field_list_value, view_step, list_step}
+use Rattle.pdb_values.specs.declared.type_data.TypeData.{TypeData, fold-roll-TypeData}
+use Rattle.pdb_values.specs.declared.type_data.TypeData.TheVariants.{rolls-FieldList}
+use Rattle.pdb_values.specs.{declared.type_data.TypeData.TheOpen.TypeData-F, TypeValue.TypeValue}
+use Rattle.pdb_values.specs.declared.type_data.TypeData.TheVariants as variants
 use Rattle.pdb_values.proofs.lemmas.Fields.{listed}
 use Rattle.pdb_handles.specs.Records.{fields_told, listing}
 

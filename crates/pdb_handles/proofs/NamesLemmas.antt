@@ -3,10 +3,8 @@ use Rattle.std.proofs.Common.{◌≡◌, ℕ, ◌+◌, List, ◌∷◌, ◌++◌
 use Rattle.std.proofs.Math.Seq.{drop-append_seam, take-append_seam}
 use Rattle.std.proofs.lemmas.List.{append_assoc, drop-drop, take-append-drop}
 use Rattle.pdb_base.proofs.lemmas.Collected.{ok_is, bind_ok}
-use Rattle.pdb_space.specs.StringTable.{name_of}
-use Rattle.pdb_space.specs.StringTableLaws.{FindsName, FindsNames}
-use Rattle.pdb_handles.specs.declared.names.NamePlace.{NamePlace}
-use Rattle.pdb_handles.specs.Names.{StandsAtItsPlace}
+use Rattle.pdb_space.specs.{StringTable.name_of, StringTableLaws.FindsName, StringTableLaws.FindsNames}
+use Rattle.pdb_handles.specs.{declared.names.NamePlace.NamePlace, Names.StandsAtItsPlace}
 
 -- a part of what stands at the front of some bytes
 part_there : (bytes before part behind : List ℕ) (n : ℕ) → take n bytes ≡ (before ++ part) ++ behind

@@ -1,18 +1,15 @@
 -- Refusals of the library and the faults that tell one correspond one to one.
-use Rattle.std.proofs.Common.{◌≡◌, ◌∙◌, ap, sym, subst, refl, ℕ, zero, suc, ◌+◌, ◌^◌, ◌==◌, ◌&&◌, nat_lt, Bool, true}
-use Rattle.std.proofs.Common.{false, if◌then◌else◌, List, [], ◌∷◌, length, slice_get, Option, Some, None, arith}
-use Rattle.std.proofs.lemmas.Bool.Decides.{nat_tests}
-use Rattle.std.proofs.lemmas.Option.{none-some, cond_some, slice_get_read}
-use Rattle.std.specs.Prelude.{Contains}
-use Rattle.std.specs.Option.{option_map}
-use Rattle.std.specs.declared.io.ErrorKind.{ErrorKind}
+use Rattle.std.specs.{declared.io.ErrorKind.ErrorKind, Prelude.Contains, Option.option_map}
 use Rattle.std.specs.declared.io.ErrorKind.TheVariants as kinds
+use Rattle.std.proofs.Common.{◌≡◌, ap, sym, subst, refl, ℕ, zero, suc, ◌+◌, ◌==◌, ◌&&◌, Bool, true, List, [], ◌∷◌}
+use Rattle.std.proofs.Common.{length, slice_get, Option, Some, None, arith}
+use Rattle.std.proofs.lemmas.{Bool.Decides.nat_tests, Option.none-some, Option.cond_some, Option.slice_get_read}
 use Rattle.pdb_base.specs.Refusal.{Refusal, invalid_stream_length, io_error, unimplemented_feature}
 use Rattle.pdb_base.specs.Refusal.{unimplemented_symbol_kind, invalid_type_information_header, unimplemented_type_kind}
 use Rattle.pdb_base.specs.Refusal.{unexpected_numeric_prefix, unimplemented_file_checksum_kind}
 use Rattle.pdb_handles.specs.declared.fault.Fault.{Fault}
 use Rattle.pdb_handles.specs.Fault.{fault_of_refusal, error_kind_number, text_number, texts}
-use Rattle.pdb_handles.specs.Told.{IsOurs, candidate, if_told, is_same, kind_numbered, refusal_told, text_numbered}
+use Rattle.pdb_handles.specs.Told.{IsOurs, candidate, if_told, kind_numbered, refusal_told, text_numbered}
 
 inside : {X : Type 0} (x y : X) → Some x ≡ Some y → x ≡ y
 inside x y is = (cond_some true x y is).1
@@ -57,29 +54,15 @@ candidate_of (unexpected_numeric_prefix number) ours = grind (arith, nat_tests, 
 candidate_of (unimplemented_file_checksum_kind number) ours = grind (arith, nat_tests, ours)
 candidate_of refusal ours = refl
 
-same_numbers : (fault : Fault) → is_same fault fault ≡ true
-same_numbers fault = grind (arith, nat_tests)
-
 -- the refusal that the fault of a refusal tells
 pub forth : (refusal : Refusal) → IsOurs refusal → refusal_told (fault_of_refusal refusal) ≡ Some refusal
 unfolding refusal_told
-forth refusal ours = rw (candidate_of refusal ours) (rw (same_numbers (fault_of_refusal refusal)) refl)
-
-are_same : (one other : Fault) → is_same one other ≡ true → one ≡ other
-are_same one other is =
-    let status : one.status ≡ other.status = grind (arith, nat_tests, is) in
-    let first : one.first ≡ other.first = grind (arith, nat_tests, is) in
-    let second : one.second ≡ other.second = grind (arith, nat_tests, is) in
-    ap (λ (n : ℕ). record { status = n; first = one.first; second = one.second }) status
-    ∙ ap (λ (n : ℕ). record { status = other.status; first = n; second = one.second }) first
-    ∙ ap (λ (n : ℕ). record { status = other.status; first = other.first; second = n }) second
+forth refusal ours = rw (candidate_of refusal ours) (grind (arith, nat_tests))
 
 told_back : (fault : Fault) (can : Option Refusal) (refusal : Refusal) → if_told fault can ≡ Some refusal
     → fault_of_refusal refusal ≡ fault
 told_back fault None refusal is = absurd (none-some refusal is)
-told_back fault (Some told) refusal is =
-    let p = cond_some (is_same (fault_of_refusal told) fault) told refusal is in
-    ap fault_of_refusal (sym p.1) ∙ are_same (fault_of_refusal told) fault p.0
+told_back fault (Some told) refusal is = grind (arith, nat_tests)
 
 -- a fault that tells a refusal is that of the refusal
 pub back_of : (fault : Fault) (refusal : Refusal) → refusal_told fault ≡ Some refusal → fault_of_refusal refusal ≡ fault

@@ -1,21 +1,14 @@
 -- The next records of a walk, as they are written one after another.
-use Rattle.std.proofs.Common.{◌≡◌, ℕ, ◌+◌, ◌<◌, ◌≤◌, List, [], ◌∷◌, ◌++◌, length, set, take, drop, refl, sym, ap, subst}
-use Rattle.std.proofs.Common.{◌∙◌, arith, Option, Some, None, Ok, inr}
-use Rattle.std.proofs.lemmas.List.{drop-drop, drop-set-lt, length-take-le, take-append-drop, take_more_set}
-use Rattle.std.specs.Option.{option_map, option_map_or}
-use Rattle.std.specs.List.{slice_get}
+use Rattle.std.specs.{Option.option_map, Option.option_map_or, List.slice_get}
+use Rattle.std.proofs.Common.{◌≡◌, ℕ, ◌+◌, ◌<◌, List, [], ◌∷◌, ◌++◌, length, set, take, drop, refl, sym, ap, subst, ◌∙◌}
+use Rattle.std.proofs.Common.{arith, Option, Some, None, Ok}
+use Rattle.std.proofs.lemmas.List.{drop-drop, drop-set-lt, take_more_set}
 use Rattle.pdb_base.specs.Answer.{◌>>=◌}
 use Rattle.pdb_base.proofs.lemmas.Collected.{ok, ok_is, ok_is_no_err}
-use Rattle.pdb_tpi.specs.declared.open_table.RecordPlace.{RecordPlace}
-use Rattle.pdb_tpi.specs.OpenTable.{record_bytes, record_place, step_located}
-use Rattle.pdb_tpi.specs.Record.{type_of}
 use Rattle.pdb_tpi.specs.Steps.{WalkPosition, step_of, steps_taken, step_at_end, walk, walk_rest}
-use Rattle.pdb_tpi.specs.Table.{Table}
-use Rattle.pdb_handles.specs.declared.fault.Fault.{Fault}
-use Rattle.pdb_handles.specs.declared.walked.TypeRow.{TypeRow}
-use Rattle.pdb_handles.specs.Fault.{no_more}
-use Rattle.pdb_handles.specs.Tables.{index_told}
-use Rattle.pdb_handles.specs.Walked.{AreNext, EndsWith, IsTypeRow, WritesNext}
+use Rattle.pdb_tpi.specs.OpenTable.{record_bytes, record_place, step_located}
+use Rattle.pdb_tpi.specs.{declared.open_table.RecordPlace.RecordPlace, Record.type_of, Table.Table}
+use Rattle.pdb_handles.specs.{Walked.AreNext, Walked.IsTypeRow, declared.walked.TypeRow.TypeRow, Tables.index_told}
 
 -- what is written of the record at a place, if a walk stands before it
 abbrev pub IsToldAt : WalkPosition → RecordPlace → TypeRow → Type 0
@@ -42,7 +35,7 @@ stays_by stand (Some item) rest step is = subst (Stays stand) (ok_is {A = Placed
 stays_by stand None [] step is = subst (Stays stand) (ok_is {A = Placed} (None, stand) step is) (refl, λ none. refl)
 stays_by stand None (byte ∷ rest) step is = absurd (ok_is_no_err step _ (sym is))
 
-stays : (stand : WalkPosition) (step : Placed) → step_located stand ≡ Ok step → Stays stand step
+pub stays : (stand : WalkPosition) (step : Placed) → step_located stand ≡ Ok step → Stays stand step
 unfolding step_of
 stays stand step is = stays_by stand (slice_get (walk stand.table) (steps_taken stand)) (walk_rest stand.table) step is
 
@@ -72,9 +65,6 @@ pub record IsWrittenTo (old now : List TypeRow) (first : WalkPosition) (count : 
   pub are : AreNext first (take count now) stand
   pub behind : drop count now ≡ drop count old
 
-pub written_none : (rows : List TypeRow) (first : WalkPosition) → IsWrittenTo rows rows first 0 first
-written_none rows first = record { are = refl; behind = refl }
-
 pub written_more : (old now next : List TypeRow) (first stand after : WalkPosition) (count : ℕ) (place : RecordPlace)
     (told : TypeRow) → count < length now
     → IsWrittenTo old now first count stand → step_located stand ≡ Ok (Some place, after) → IsToldAt stand place told
@@ -88,31 +78,3 @@ written_more old now next first stand after count place told more so_far step is
     ∙ ap (λ (rows : List TypeRow). drop 1 rows) so_far.behind ∙ drop-drop 1 count old in
     subst (λ (rows : List TypeRow). IsWrittenTo old rows first (count + 1) after) (sym put)
     (record { are = are; behind = behind })
-
--- what is written where the walk stops, or where the array is full
-pub written_to : (old now : List TypeRow) (first stand : WalkPosition) (count : ℕ) (fault : Fault) → count ≤ length old
-    → length now ≡ length old → IsWrittenTo old now first count stand
-    → EndsWith count (length old) stand fault → WritesNext old first
-    (record { fault = fault; length = count; room = now }) stand
-written_to old now first stand count fault fits same done ends =
-    let rows = take count now in
-    let as_many : length rows ≡ count = length-take-le count now (omega (arith, fits, same)) in
-    record {
-      rows = rows;
-      are = done.are;
-      count = sym as_many;
-      room = sym (ap (λ (n : ℕ). rows ++ drop n old) as_many
-          ∙ ap (λ (left : List TypeRow). rows ++ left) (sym done.behind) ∙ take-append-drop count now);
-      ends = subst (λ (n : ℕ). EndsWith n (length old) stand fault) (sym as_many) ends;
-    }
-
--- what is written where no record is left
-pub written_all : (old now : List TypeRow) (first stand next : WalkPosition) (count : ℕ) (fault : Fault)
-    → count < length old → length now ≡ length old → IsWrittenTo old now first count stand
-    → step_located stand ≡ Ok (None, next) → fault ≡ no_more
-    → WritesNext old first (record { fault = fault; length = count; room = now }) next
-written_all old now first stand next count fault more same done step is =
-    let there : next ≡ stand = (stays stand (None, next) step).1 refl in
-    subst (λ (s : WalkPosition). WritesNext old first (record { fault = fault; length = count; room = now }) s)
-    (sym there)
-    (written_to old now first stand count fault (omega arith) same done (inr (more, rw step is)))

@@ -1,7 +1,6 @@
--- How an answer is written into a caller's array.
+-- How an answer is written into a caller's array or variable.
 use Rattle.std.specs.Prelude.{◌≡◌, ◌⊎◌, ℕ, List, ◌++◌, length, drop, nat_lt, if◌then◌else◌, Option, Some, None, Ok, Err}
-use Rattle.pdb_base.specs.Answer.{Answer}
-use Rattle.pdb_base.specs.Refusal.{out_of_memory}
+use Rattle.pdb_base.specs.{Answer.Answer, Refusal.out_of_memory}
 use Rattle.pdb_handles.specs.declared.fault.Fault.{Fault}
 use Rattle.pdb_handles.specs.Fault.{fine, fault_of_refusal, no_text, not_open, too_small}
 
@@ -38,6 +37,23 @@ abbrev pub text_copied : List ℕ → Option (List ℕ) → Copied ℕ
 text_copied room (Some text) = items_copied room text
 text_copied room None = nothing_copied no_text room
 
--- What is meant was written; or memory was refused, and nothing was written.
+-- What is meant was written; or memory ran out, and nothing was written.
 abbrev pub CopiesOrLacks : {A : Type 0} → Copied A → List A → Copied A → Type 0
 CopiesOrLacks done room meant = (done ≡ meant) ⊎ (done ≡ nothing_copied (fault_of_refusal out_of_memory) room)
+
+-- The items of an answer were written to an array, which was `old` and is `new`; or the fault is that of its refusal;
+-- or memory ran out.
+abbrev pub CopiesAnswer : {A : Type 0} → Answer (List A) → List A → Fault → ℕ → List A → Type 0
+CopiesAnswer meant old fault count new =
+    CopiesOrLacks (record { fault = fault; length = count; room = new }) old (answer_copied old meant)
+
+-- Memory was refused, and the caller's value stays as it was.
+abbrev pub LacksValue : {B : Type 0} → B → Fault → B → Type 0
+LacksValue old fault new = (fault ≡ fault_of_refusal out_of_memory) × (new ≡ old)
+
+-- What is meant was written for the caller; or the fault is that of the refusal that is meant, and the
+-- caller's value stays as it was; or memory ran out.
+abbrev pub IsAnswerTold : {A B : Type 0} → (A → B) → Answer A → B → Fault → B → Type 0
+IsAnswerTold shown (Ok value) old fault new = ((fault ≡ fine) × (new ≡ shown value)) ⊎ LacksValue old fault new
+IsAnswerTold shown (Err refusal) old fault new =
+    ((fault ≡ fault_of_refusal refusal) × (new ≡ old)) ⊎ LacksValue old fault new

@@ -2,16 +2,8 @@
 use Rattle.std.specs.Prelude.{ℕ, ◌+◌, bytes_eq, if◌then◌else◌, List, [], ◌∷◌, codes}
 use Rattle.std.specs.declared.io.ErrorKind.{ErrorKind}
 use Rattle.std.specs.declared.io.ErrorKind.TheVariants as kinds
-use Rattle.pdb_base.specs.Refusal.{Refusal, unrecognized_file_format, stream_name_not_found, unexpected_eof}
-use Rattle.pdb_base.specs.Refusal.{global_symbols_not_found, symbol_too_short, type_too_short, address_map_not_found}
-use Rattle.pdb_base.specs.Refusal.{lines_not_found, invalid_compressed_annotation, out_of_memory}
-use Rattle.pdb_base.specs.Refusal.{page_reference_out_of_range, invalid_page_size, stream_not_found}
-use Rattle.pdb_base.specs.Refusal.{unimplemented_symbol_kind, type_not_found, unimplemented_type_kind}
-use Rattle.pdb_base.specs.Refusal.{not_a_cross_module_ref, cross_module_ref_not_found, unexpected_numeric_prefix}
-use Rattle.pdb_base.specs.Refusal.{unimplemented_debug_subsection, unimplemented_file_checksum_kind}
-use Rattle.pdb_base.specs.Refusal.{invalid_file_checksum_offset, unknown_binary_annotation, type_not_indexed}
-use Rattle.pdb_base.specs.Refusal.{invalid_stream_length, unimplemented_feature, invalid_type_information_header}
-use Rattle.pdb_base.specs.Refusal.{io_error}
+use Rattle.pdb_base.specs.Refusal as refusals
+use Rattle.pdb_base.specs.Refusal.{Refusal}
 use Rattle.pdb_handles.specs.declared.fault.Fault.{Fault}
 
 -- ---- misuse, and other faults that are no refusals
@@ -62,15 +54,13 @@ place_among n (known ∷ more) text = if bytes_eq text known then n else place_a
 -- the texts that the library's refusals have, in the order of their numbers from 1 on
 abbrev pub texts : List (List ℕ)
 texts =
-    codes "OMAP" ∷ codes "FPO" ∷ codes "FrameData"
-    ∷ codes "small MSF file format" ∷ codes "ancient DBI header" ∷ codes "invalid string table signature"
-    ∷ codes "unknown string table hash version" ∷ codes "u64 array sizes"
-    ∷ codes "field list continuation not below its list"
-    ∷ codes "header size is impossibly small" ∷ codes "header size is unreasonably large"
-    ∷ codes "minimum type index is < 4096"
-    ∷ codes "maximum type index is < minimum type index"
-    ∷ codes "OMAP table that is not sorted" ∷ codes "frames that are not sorted"
-    ∷ codes "directory that is larger than its file" ∷ codes "streams that are larger than their file" ∷ []
+    codes "OMAP" ∷ codes "FPO" ∷ codes "FrameData" ∷ codes "small MSF file format" ∷ codes "ancient DBI header"
+    ∷ codes "invalid string table signature" ∷ codes "unknown string table hash version" ∷ codes "u64 array sizes"
+    ∷ codes "field list continuation not below its list" ∷ codes "header size is impossibly small"
+    ∷ codes "header size is unreasonably large" ∷ codes "minimum type index is < 4096"
+    ∷ codes "maximum type index is < minimum type index" ∷ codes "OMAP table that is not sorted"
+    ∷ codes "frames that are not sorted" ∷ codes "directory that is larger than its file"
+    ∷ codes "streams that are larger than their file" ∷ []
 
 -- the number of a text
 abbrev pub text_number : List ℕ → ℕ
@@ -86,31 +76,33 @@ error_kind_number kind = 0
 
 -- the fault of a refusal: a status for each, and the refusal's own numbers, or the number of its text
 abbrev pub fault_of_refusal : Refusal → Fault
-fault_of_refusal unrecognized_file_format = record { status = 1; first = 0; second = 0 }
-fault_of_refusal (page_reference_out_of_range page) = record { status = 2; first = page; second = 0 }
-fault_of_refusal (invalid_page_size size) = record { status = 3; first = size; second = 0 }
-fault_of_refusal (stream_not_found number) = record { status = 4; first = number; second = 0 }
-fault_of_refusal stream_name_not_found = record { status = 5; first = 0; second = 0 }
-fault_of_refusal (invalid_stream_length stream) = record { status = 6; first = text_number stream; second = 0 }
-fault_of_refusal (io_error kind) = record { status = 7; first = error_kind_number kind; second = 0 }
-fault_of_refusal unexpected_eof = record { status = 8; first = 0; second = 0 }
-fault_of_refusal (unimplemented_feature feature) = record { status = 9; first = text_number feature; second = 0 }
-fault_of_refusal global_symbols_not_found = record { status = 10; first = 0; second = 0 }
-fault_of_refusal symbol_too_short = record { status = 11; first = 0; second = 0 }
-fault_of_refusal (unimplemented_symbol_kind kind) = record { status = 12; first = kind; second = 0 }
-fault_of_refusal (invalid_type_information_header rule) = record { status = 13; first = text_number rule; second = 0 }
-fault_of_refusal type_too_short = record { status = 14; first = 0; second = 0 }
-fault_of_refusal (type_not_found index) = record { status = 15; first = index; second = 0 }
-fault_of_refusal (type_not_indexed index covered) = record { status = 16; first = index; second = covered }
-fault_of_refusal (unimplemented_type_kind kind) = record { status = 17; first = kind; second = 0 }
-fault_of_refusal (not_a_cross_module_ref index) = record { status = 18; first = index; second = 0 }
-fault_of_refusal (cross_module_ref_not_found index) = record { status = 19; first = index; second = 0 }
-fault_of_refusal (unexpected_numeric_prefix prefix) = record { status = 20; first = prefix; second = 0 }
-fault_of_refusal address_map_not_found = record { status = 21; first = 0; second = 0 }
-fault_of_refusal (unimplemented_debug_subsection kind) = record { status = 22; first = kind; second = 0 }
-fault_of_refusal (unimplemented_file_checksum_kind kind) = record { status = 23; first = kind; second = 0 }
-fault_of_refusal (invalid_file_checksum_offset offset) = record { status = 24; first = offset; second = 0 }
-fault_of_refusal lines_not_found = record { status = 25; first = 0; second = 0 }
-fault_of_refusal invalid_compressed_annotation = record { status = 26; first = 0; second = 0 }
-fault_of_refusal (unknown_binary_annotation number) = record { status = 27; first = number; second = 0 }
-fault_of_refusal out_of_memory = record { status = 28; first = 0; second = 0 }
+fault_of_refusal refusals.unrecognized_file_format = record { status = 1; first = 0; second = 0 }
+fault_of_refusal (refusals.page_reference_out_of_range page) = record { status = 2; first = page; second = 0 }
+fault_of_refusal (refusals.invalid_page_size size) = record { status = 3; first = size; second = 0 }
+fault_of_refusal (refusals.stream_not_found number) = record { status = 4; first = number; second = 0 }
+fault_of_refusal refusals.stream_name_not_found = record { status = 5; first = 0; second = 0 }
+fault_of_refusal (refusals.invalid_stream_length stream) = record { status = 6; first = text_number stream; second = 0 }
+fault_of_refusal (refusals.io_error kind) = record { status = 7; first = error_kind_number kind; second = 0 }
+fault_of_refusal refusals.unexpected_eof = record { status = 8; first = 0; second = 0 }
+fault_of_refusal (refusals.unimplemented_feature feature) =
+    record { status = 9; first = text_number feature; second = 0 }
+fault_of_refusal refusals.global_symbols_not_found = record { status = 10; first = 0; second = 0 }
+fault_of_refusal refusals.symbol_too_short = record { status = 11; first = 0; second = 0 }
+fault_of_refusal (refusals.unimplemented_symbol_kind kind) = record { status = 12; first = kind; second = 0 }
+fault_of_refusal (refusals.invalid_type_information_header rule) =
+    record { status = 13; first = text_number rule; second = 0 }
+fault_of_refusal refusals.type_too_short = record { status = 14; first = 0; second = 0 }
+fault_of_refusal (refusals.type_not_found index) = record { status = 15; first = index; second = 0 }
+fault_of_refusal (refusals.type_not_indexed index covered) = record { status = 16; first = index; second = covered }
+fault_of_refusal (refusals.unimplemented_type_kind kind) = record { status = 17; first = kind; second = 0 }
+fault_of_refusal (refusals.not_a_cross_module_ref index) = record { status = 18; first = index; second = 0 }
+fault_of_refusal (refusals.cross_module_ref_not_found index) = record { status = 19; first = index; second = 0 }
+fault_of_refusal (refusals.unexpected_numeric_prefix prefix) = record { status = 20; first = prefix; second = 0 }
+fault_of_refusal refusals.address_map_not_found = record { status = 21; first = 0; second = 0 }
+fault_of_refusal (refusals.unimplemented_debug_subsection kind) = record { status = 22; first = kind; second = 0 }
+fault_of_refusal (refusals.unimplemented_file_checksum_kind kind) = record { status = 23; first = kind; second = 0 }
+fault_of_refusal (refusals.invalid_file_checksum_offset offset) = record { status = 24; first = offset; second = 0 }
+fault_of_refusal refusals.lines_not_found = record { status = 25; first = 0; second = 0 }
+fault_of_refusal refusals.invalid_compressed_annotation = record { status = 26; first = 0; second = 0 }
+fault_of_refusal (refusals.unknown_binary_annotation number) = record { status = 27; first = number; second = 0 }
+fault_of_refusal refusals.out_of_memory = record { status = 28; first = 0; second = 0 }

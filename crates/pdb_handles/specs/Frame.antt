@@ -1,12 +1,9 @@
 -- Frames, as a caller sees them.
 use Rattle.std.specs.Prelude.{◌≡◌, ℕ, Bool, true, false, is_some, unwrap_or, List, slice_get}
 use Rattle.std.specs.Option.{option_map}
-use Rattle.pdb_frames.specs.declared.frame_data.FrameData.{FrameData}
-use Rattle.pdb_frames.specs.FrameNumbers.{frame_type_number}
 use Rattle.pdb_frames.specs.Table.{BeginsSomewhere, Frames, StartsIncrease, merge_from}
-use Rattle.pdb_handles.specs.declared.frame.Frame.{Frame}
-use Rattle.pdb_handles.specs.Fault.{no_value}
-use Rattle.pdb_handles.specs.Found.{Found, value_or_fault}
+use Rattle.pdb_frames.specs.{declared.frame_data.FrameData.FrameData, FrameNumbers.frame_type_number}
+use Rattle.pdb_handles.specs.{declared.frames.Frame.Frame, Fault.no_value, Found.Found, Found.value_or_fault}
 
 -- a Boolean as a number
 abbrev pub flag : Bool → ℕ

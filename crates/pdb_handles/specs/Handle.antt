@@ -1,16 +1,13 @@
 -- What a handle holds, and what opening it results in.
-use Rattle.std.specs.Prelude.{◌≡◌, ◌⊎◌, ◌<◌, ◌≤◌, ℕ, List, length, Option, Some, None, Ok, Err}
+use Rattle.std.specs.Prelude.{◌≡◌, ◌<◌, ◌≤◌, ℕ, List, length, Option, Some, None, Ok, Err}
 use Rattle.pdb_base.specs.Answer.{Answer}
-use Rattle.pdb_base.specs.Refusal.{out_of_memory}
-use Rattle.pdb_frames.specs.Table.{Frames}
 use Rattle.pdb_msf.specs.Layout.{LayoutValue}
-use Rattle.pdb_space.specs.Conversions.{AddressMapValue}
-use Rattle.pdb_space.specs.Omap.{OmapValue}
+use Rattle.pdb_space.specs.{Conversions.AddressMapValue, Omap.OmapValue}
+use Rattle.pdb_frames.specs.Table.{Frames}
 use Rattle.pdb_tpi.specs.Steps.{WalkPosition}
 use Rattle.pdb_handles.specs.declared.content.Content.{Content}
+use Rattle.pdb_handles.specs.{declared.fault.Fault.Fault, Copied.IsAnswerTold, Fault.already_open, Fault.too_long}
 use Rattle.pdb_handles.specs.declared.content.Content.TheVariants as contents
-use Rattle.pdb_handles.specs.declared.fault.Fault.{Fault}
-use Rattle.pdb_handles.specs.Fault.{fine, fault_of_refusal, already_open, too_long}
 
 -- the number of the kind of a handle's contents; 0 if it holds nothing
 abbrev pub content_kind : Option Content → ℕ
@@ -28,15 +25,10 @@ abbrev pub held_as : {A : Type 0} → (A → Content) → Answer A → Answer Co
 held_as content (Ok value) = Ok (content value)
 held_as content (Err refusal) = Err refusal
 
--- Memory was refused, and nothing is held.
-abbrev pub HoldsNothing : Fault → Option Content → Type 0
-HoldsNothing fault now = (fault ≡ fault_of_refusal out_of_memory) × (now ≡ None)
-
--- The handle holds what is meant; or the fault is that of the refusal that is meant, and the handle holds
--- nothing; or memory was refused.
+-- The handle holds what is meant; or the fault is that of the refusal that is meant, and the handle holds nothing; or
+-- memory ran out.
 abbrev pub OpensTo : Answer Content → Fault → Option Content → Type 0
-OpensTo (Ok content) fault now = ((fault ≡ fine) × (now ≡ Some content)) ⊎ HoldsNothing fault now
-OpensTo (Err refusal) fault now = ((fault ≡ fault_of_refusal refusal) × (now ≡ None)) ⊎ HoldsNothing fault now
+OpensTo meant fault now = IsAnswerTold Some meant None fault now
 
 -- A handle that holds nothing is opened to what is meant. One that holds something is refused with
 -- `already_open`, and still holds it.
@@ -44,8 +36,7 @@ abbrev pub Opens : Option Content → Answer Content → Fault → Option Conten
 Opens None meant fault now = OpensTo meant fault now
 Opens (Some held) meant fault now = (fault ≡ already_open) × (now ≡ Some held)
 
--- The same for what a caller's stream holds; a stream of 0xffffffff bytes or more is refused with
--- `too_long`.
+-- The same for what a caller's stream holds; a stream of 0xffffffff bytes or more is refused with `too_long`.
 abbrev pub OpensStream : List ℕ → Option Content → Answer Content → Fault → Option Content → Type 0
 OpensStream stream None meant fault now =
     (length stream < 0xffffffff → OpensTo meant fault now)

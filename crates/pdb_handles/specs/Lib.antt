@@ -1,3 +1,4 @@
+pub mod Addresses
 pub mod Copied
 pub mod Fault
 pub mod File
@@ -5,17 +6,9 @@ pub mod Found
 pub mod Frame
 pub mod Handle
 pub mod Held
-pub mod Ids
-pub mod Information
-pub mod Lists
 pub mod Names
-pub mod Omap
-pub mod Ranges
 pub mod Records
-pub mod Roles
 pub mod Row
-pub mod Sections
 pub mod Tables
 pub mod Told
-pub mod Translation
 pub mod Walked

@@ -1,31 +1,32 @@
--- The contents of a type record, as a caller sees them: its row, its name and its lists.
+-- The contents of the record of a type or of an id, as a caller sees them: its row, its name and its lists.
 use Rattle.std.specs.Prelude.{◌≡◌, ◌⊎◌, ℕ, ◌||◌, nat_lt, if◌then◌else◌, is_some, unwrap_or, List, [], ◌++◌, length}
-use Rattle.std.specs.Prelude.{drop, map, Option, Some, None, Result, Ok, Err}
-use Rattle.std.specs.List.{flat_map}
-use Rattle.pdb_base.specs.Answer.{Answer, ◌>>=◌}
-use Rattle.pdb_base.specs.Refusal.{out_of_memory, refusal_of}
-use Rattle.pdb_base.specs.declared.error.Error.{Error}
-use Rattle.pdb_values.specs.TypeValue.{TypeValue, argument_list, field_list, name_of_type, values_in}
-use Rattle.pdb_tpi.specs.Record.{type_of}
-use Rattle.pdb_handles.specs.declared.fault.Fault.{Fault}
-use Rattle.pdb_handles.specs.declared.fields.FieldRow.{FieldRow}
-use Rattle.pdb_handles.specs.declared.listing.Listing.{Listing as Collected}
-use Rattle.pdb_handles.specs.Copied.{Copied, nothing_copied, items_copied}
+use Rattle.std.specs.Prelude.{drop, map, Option, Some, None, Ok, Err}
+use Rattle.std.specs.{List.flat_map, Option.option_map}
+use Rattle.pdb_base.specs.{Refusal.out_of_memory, Answer.Answer, Answer.◌>>=◌, declared.index.IdIndex.IdIndex}
+use Rattle.pdb_values.specs.TypeValue.{TypeValue, argument_list, field_list, name_of_type, values_in, plain}
+use Rattle.pdb_values.specs.declared.method.MethodListEntry.{MethodListEntry}
+use Rattle.pdb_values.specs.declared.source_id.UserDefinedTypeSourceFileRef.{UserDefinedTypeSourceFileRef}
+use Rattle.pdb_values.specs.IdValue.{IdValue, PlainIdValue, plain as plain_id}
+use Rattle.pdb_values.specs.TypeValue as values
+use Rattle.pdb_values.specs.declared.source_id.UserDefinedTypeSourceFileRef.TheVariants as files
+use Rattle.pdb_values.specs.IdValue as ids
+use Rattle.pdb_tpi.specs.Record.{type_of, id_of}
+use Rattle.pdb_handles.specs.Copied.{Copied, CopiesOrLacks, nothing_copied, items_copied}
 use Rattle.pdb_handles.specs.Fault.{fine, fault_of_refusal, no_value, too_small}
-use Rattle.pdb_handles.specs.Frame.{flag}
-use Rattle.pdb_handles.specs.Row.{type_info}
-use Rattle.pdb_handles.specs.declared.row.Row.{Row}
-
--- A row is written as what was read is shown; or the fault is that of the error, and the row stays as it was.
-abbrev pub IsRowTold : {A : Type 0} → (A → Row) → Result A Error → Row → Fault → Row → Type 0
-IsRowTold shown (Ok x) old fault new = (fault ≡ fine) × (new ≡ shown x)
-IsRowTold shown (Err e) old fault new = (fault ≡ fault_of_refusal (refusal_of e)) × (new ≡ old)
+use Rattle.pdb_handles.specs.{declared.fault.Fault.Fault, declared.fields.FieldRow.FieldRow}
+use Rattle.pdb_handles.specs.{declared.copied.Listing.Listing as Collected, Frame.flag, Row.type_info, Row.typed}
+use Rattle.pdb_handles.specs.{Row.zeroed_row, Row.no_numbers, declared.row.Row.Row, declared.row.Numbers.Numbers}
 
 -- what is written of a list that may be absent
 abbrev pub if_copied : {A : Type 0} → List A → Answer (Option (List A)) → Copied A
 if_copied room (Ok (Some items)) = items_copied room items
 if_copied room (Ok None) = nothing_copied no_value room
 if_copied room (Err refusal) = nothing_copied (fault_of_refusal refusal) room
+
+-- As `CopiesAnswer`, for a list that may be absent: the fault is then `no_value`.
+abbrev pub CopiesIf : {A : Type 0} → Answer (Option (List A)) → List A → Fault → ℕ → List A → Type 0
+CopiesIf meant old fault count new =
+    CopiesOrLacks (record { fault = fault; length = count; room = new }) old (if_copied old meant)
 
 -- what the type in a record of this index says
 abbrev pub of_type : {A : Type 0} → (TypeValue → A) → ℕ → List ℕ → Answer A
@@ -92,8 +93,7 @@ rows_copied rows names told bytes =
       fault = fine;
       rows = told ++ drop (length told) rows;
       count = length told;
-      names = bytes
-          ++ drop (length bytes) names;
+      names = bytes ++ drop (length bytes) names;
       size = length bytes;
     }
 
@@ -103,7 +103,67 @@ listing_told rows names (Ok (Some told)) = rows_copied rows names told.rows told
 listing_told rows names (Ok None) = no_rows_copied no_value rows names
 listing_told rows names (Err refusal) = no_rows_copied (fault_of_refusal refusal) rows names
 
--- What is meant was written; or memory was refused, and nothing was written.
+-- What is meant was written; or memory ran out, and nothing was written.
 abbrev pub FieldsOrLacks : {R : Type 0} → Fielded R → List R → List ℕ → Fielded R → Type 0
 FieldsOrLacks done rows names meant =
     (done ≡ meant) ⊎ (done ≡ no_rows_copied (fault_of_refusal out_of_memory) rows names)
+
+-- a method of a list for the caller: like a method that isn't in a list, but without a name
+abbrev pub method_info : MethodListEntry → Row
+method_info method =
+    zeroed_row 5 (record (typed method.attributes method.method_type) { extra = method.vtable_offset })
+
+-- the methods that a type lists, if it is a list of methods
+abbrev pub methods_in : TypeValue → Option (List Row)
+methods_in (values.method_list methods) = Some (map method_info methods)
+methods_in value = None
+
+-- the size of an array in bytes up to each dimension, the innermost first, each including those before it, if the type
+-- is an array
+abbrev pub dimensions_in : TypeValue → Option (List ℕ)
+dimensions_in (values.array v) = Some v.dimensions
+dimensions_in value = None
+
+-- the name that tells a class, a union or an enumeration from others of its name, if it has one
+abbrev pub unique_name_in : TypeValue → Option (List ℕ)
+unique_name_in (plain (values.class v)) = v.unique_name
+unique_name_in (plain (values.union v)) = v.unique_name
+unique_name_in (plain (values.enumeration v)) = v.unique_name
+unique_name_in value = None
+
+-- the number of an id's index, if there is one
+abbrev pub id_number : Option IdIndex → Option ℕ
+id_number index = option_map (λ index. index.0) index
+
+-- the numbers of the place where a type is declared: the id of a file's name, or a module and the offset
+-- of the name in the string table
+abbrev pub source_numbers : ℕ → ℕ → UserDefinedTypeSourceFileRef → Numbers
+source_numbers type line (files.Local file) =
+    record no_numbers { type_index = Some type; second_index = Some file.0; extra = Some line }
+source_numbers type line (files.Remote unit place) =
+    record no_numbers { type_index = Some type; third_index = Some unit; number = Some place; extra = Some line }
+
+-- the row of an id that is not a list
+abbrev pub plain_row : PlainIdValue → Row
+plain_row (ids.function v) =
+    zeroed_row 0 (record no_numbers { type_index = Some v.function_type.0; second_index = id_number v.scope })
+plain_row (ids.member_function v) =
+    zeroed_row 1 (record no_numbers { type_index = Some v.function_type.0; third_index = Some v.parent.0 })
+plain_row (ids.string v) = zeroed_row 4 (record no_numbers { list_index = id_number v.substrings })
+plain_row (ids.user_defined_type_source v) = zeroed_row 5 (source_numbers v.udt.0 v.line v.source_file)
+
+-- the row of an id
+abbrev pub id_info : IdValue → Row
+id_info (plain_id value) = plain_row value
+id_info (ids.build_info list) = zeroed_row 2 no_numbers
+id_info (ids.string_list list) = zeroed_row 3 no_numbers
+
+-- what the id in a record says
+abbrev pub of_id : {A : Type 0} → (IdValue → A) → List ℕ → Answer A
+of_id says bytes = id_of bytes >>= λ value. Ok (says value)
+
+-- the indexes in the list that an id is: of ids, or of the parts of a text
+abbrev pub id_list : IdValue → Option (List ℕ)
+id_list (ids.build_info list) = Some (map (λ index. index.0) list)
+id_list (ids.string_list list) = Some (map (λ index. index.0) list)
+id_list value = None

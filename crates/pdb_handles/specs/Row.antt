@@ -1,17 +1,13 @@
 -- The contents of a type record, as a caller sees them: a row of numbers, of which each shape has some.
 use Rattle.std.specs.Prelude.{ℕ, ◌+◌, ◌*◌, Bool, true, false, is_some, unwrap_or, Option, Some, None}
-use Rattle.std.specs.Int.{cast_unsigned, w64}
-use Rattle.std.specs.Option.{option_map}
-use Rattle.pdb_base.specs.declared.index.TypeIndex.{TypeIndex}
-use Rattle.pdb_base.specs.declared.variant.Variant.{Variant}
+use Rattle.std.specs.{Int.cast_unsigned, Int.w64, Option.option_map}
+use Rattle.pdb_base.specs.{declared.index.TypeIndex.TypeIndex, declared.variant.Variant.Variant}
 use Rattle.pdb_base.specs.declared.variant.Variant.TheVariants as variants
 use Rattle.pdb_values.specs.declared.class.ClassKind.{ClassKind}
+use Rattle.pdb_values.specs.TypeValue.{TypeValue, PlainValue, plain}
 use Rattle.pdb_values.specs.declared.class.ClassKind.TheVariants as kinds
 use Rattle.pdb_values.specs.TypeValue as values
-use Rattle.pdb_values.specs.TypeValue.{TypeValue, PlainValue, plain}
-use Rattle.pdb_handles.specs.declared.row.Row.{Row}
-use Rattle.pdb_handles.specs.declared.row.Numbers.{Numbers}
-use Rattle.pdb_handles.specs.Frame.{flag}
+use Rattle.pdb_handles.specs.{declared.row.Numbers.Numbers, declared.row.Row.Row, Frame.flag}
 
 -- the number of a kind of class
 abbrev pub class_kind : ClassKind → ℕ
@@ -19,34 +15,17 @@ class_kind kinds.Class = 0
 class_kind kinds.Struct = 1
 class_kind kinds.Interface = 2
 
--- whether a number of any width can be below 0
-abbrev pub is_signed : Variant → Bool
-is_signed (variants.U8 n) = false
-is_signed (variants.U16 n) = false
-is_signed (variants.U32 n) = false
-is_signed (variants.U64 n) = false
-is_signed value = true
-
--- its width in bytes
-abbrev pub width_of : Variant → ℕ
-width_of (variants.U8 n) = 1
-width_of (variants.I8 n) = 1
-width_of (variants.U16 n) = 2
-width_of (variants.I16 n) = 2
-width_of (variants.U32 n) = 4
-width_of (variants.I32 n) = 4
-width_of value = 8
-
--- the number in 64 bits, in two's complement if it is below 0
-abbrev pub in_64_bits : Variant → ℕ
-in_64_bits (variants.U8 n) = n
-in_64_bits (variants.U16 n) = n
-in_64_bits (variants.U32 n) = n
-in_64_bits (variants.U64 n) = n
-in_64_bits (variants.I8 n) = cast_unsigned w64 n
-in_64_bits (variants.I16 n) = cast_unsigned w64 n
-in_64_bits (variants.I32 n) = cast_unsigned w64 n
-in_64_bits (variants.I64 n) = cast_unsigned w64 n
+-- whether a number of any width can be below 0, its width in bytes, and the number in 64 bits, in two's complement if
+-- it is below 0
+abbrev pub value_numbers : Variant → Bool × ℕ × ℕ
+value_numbers (variants.U8 n) = (false, 1, n)
+value_numbers (variants.U16 n) = (false, 2, n)
+value_numbers (variants.U32 n) = (false, 4, n)
+value_numbers (variants.U64 n) = (false, 8, n)
+value_numbers (variants.I8 n) = (true, 1, cast_unsigned w64 n)
+value_numbers (variants.I16 n) = (true, 2, cast_unsigned w64 n)
+value_numbers (variants.I32 n) = (true, 4, cast_unsigned w64 n)
+value_numbers (variants.I64 n) = (true, 8, cast_unsigned w64 n)
 
 -- the number of a type's index, if there is one
 abbrev pub index_in : Option TypeIndex → Option ℕ
@@ -90,59 +69,41 @@ zeroed_row shape numbers = record {
       + bit 128 numbers.list_index + bit 256 numbers.extra + bit 512 numbers.number;
 }
 
+-- the numbers of what has attributes and a type
+abbrev pub typed : ℕ → TypeIndex → Numbers
+typed attributes index = record no_numbers { attributes = Some attributes; type_index = Some index.0 }
+
+-- the numbers of what has properties and counts its fields
+abbrev pub counted : ℕ → ℕ → Numbers
+counted properties count = record no_numbers { properties = Some properties; count = Some count }
+
 -- the row of a record without a list, or of a primitive type, which has no numbers
 abbrev pub plain_row : PlainValue → Row
 plain_row (values.primitive v) = zeroed_row 0 no_numbers
-plain_row (values.class v) = zeroed_row 1 (record no_numbers {
+plain_row (values.class v) = zeroed_row 1 (record (counted v.properties v.count) {
   kind = Some (class_kind v.kind);
-  properties = Some v.properties;
-  count = Some v.count;
   second_index = index_in v.derived_from;
   third_index = index_in v.vtable_shape;
   list_index = index_in v.fields;
   number = Some v.size;
 })
-plain_row (values.member v) = zeroed_row 2 (record no_numbers {
-  attributes = Some v.attributes;
-  type_index = Some v.field_type.0;
-  number = Some v.offset;
-})
-plain_row (values.member_function v) = zeroed_row 3 (record no_numbers {
-  attributes = Some v.attributes;
+plain_row (values.member v) = zeroed_row 2 (record (typed v.attributes v.field_type) { number = Some v.offset })
+plain_row (values.member_function v) = zeroed_row 3 (record (typed v.attributes v.return_type) {
   count = Some v.parameter_count;
-  type_index = Some v.return_type.0;
   second_index = Some v.class_type.0;
   third_index = index_in v.this_pointer_type;
   list_index = Some v.argument_list.0;
   extra = Some v.this_adjustment;
 })
-plain_row (values.overloaded_method v) = zeroed_row 4 (record no_numbers {
-  count = Some v.count;
-  list_index = Some v.method_list.0;
-})
-plain_row (values.method v) = zeroed_row 5 (record no_numbers {
-  attributes = Some v.attributes;
-  type_index = Some v.method_type.0;
-  extra = v.vtable_offset;
-})
-plain_row (values.static_member v) = zeroed_row 6 (record no_numbers {
-  attributes = Some v.attributes;
-  type_index = Some v.field_type.0;
-})
-plain_row (values.nested v) = zeroed_row 7 (record no_numbers {
-  attributes = Some v.attributes;
-  type_index = Some v.nested_type.0;
-})
-plain_row (values.base_class v) = zeroed_row 8 (record no_numbers {
-  kind = Some (class_kind v.kind);
-  attributes = Some v.attributes;
-  type_index = Some v.base_class.0;
-  number = Some v.offset;
-})
-plain_row (values.virtual_base_class v) = zeroed_row 9 (record no_numbers {
+plain_row (values.overloaded_method v) =
+    zeroed_row 4 (record no_numbers { count = Some v.count; list_index = Some v.method_list.0 })
+plain_row (values.method v) = zeroed_row 5 (record (typed v.attributes v.method_type) { extra = v.vtable_offset })
+plain_row (values.static_member v) = zeroed_row 6 (typed v.attributes v.field_type)
+plain_row (values.nested v) = zeroed_row 7 (typed v.attributes v.nested_type)
+plain_row (values.base_class v) = zeroed_row 8
+    (record (typed v.attributes v.base_class) { kind = Some (class_kind v.kind); number = Some v.offset })
+plain_row (values.virtual_base_class v) = zeroed_row 9 (record (typed v.attributes v.base_class) {
   kind = Some (flag v.direct);
-  attributes = Some v.attributes;
-  type_index = Some v.base_class.0;
   second_index = Some v.base_pointer.0;
   number = Some v.base_pointer_offset;
   extra = Some v.virtual_base_offset;
@@ -154,49 +115,31 @@ plain_row (values.procedure v) = zeroed_row 11 (record no_numbers {
   type_index = index_in v.return_type;
   list_index = Some v.argument_list.0;
 })
-plain_row (values.pointer v) = zeroed_row 12 (record no_numbers {
-  attributes = Some v.attributes;
-  type_index = Some v.underlying_type.0;
-  second_index = index_in v.containing_class;
-})
+plain_row (values.pointer v) =
+    zeroed_row 12 (record (typed v.attributes v.underlying_type) { second_index = index_in v.containing_class })
 plain_row (values.modifier v) = zeroed_row 13 (record no_numbers {
-  kind = Some
-      (flag v.constant + 2 * flag v.volatile + 4 * flag v.unaligned);
+  kind = Some (flag v.constant + 2 * flag v.volatile + 4 * flag v.unaligned);
   type_index = Some v.underlying_type.0;
 })
-plain_row (values.enumeration v) = zeroed_row 14 (record no_numbers {
-  properties = Some v.properties;
-  count = Some v.count;
-  type_index = Some v.underlying_type.0;
-  list_index = Some v.fields.0;
-})
+plain_row (values.enumeration v) = zeroed_row 14
+    (record (counted v.properties v.count) { type_index = Some v.underlying_type.0; list_index = Some v.fields.0 })
 plain_row (values.enumerate v) = zeroed_row 15 (record no_numbers {
-  kind = Some (flag (is_signed v.value));
+  kind = Some (flag (value_numbers v.value).0);
   attributes = Some v.attributes;
-  count = Some (width_of v.value);
-  number = Some (in_64_bits v.value);
+  count = Some (value_numbers v.value).1;
+  number = Some (value_numbers v.value).2;
 })
-plain_row (values.union v) = zeroed_row 17 (record no_numbers {
-  properties = Some v.properties;
-  count = Some v.count;
-  list_index = Some v.fields.0;
-  number = Some v.size;
-})
-plain_row (values.bitfield v) = zeroed_row 18 (record no_numbers {
-  count = Some v.length;
-  type_index = Some v.underlying_type.0;
-  extra = Some v.position;
-})
+plain_row (values.union v) =
+    zeroed_row 17 (record (counted v.properties v.count) { list_index = Some v.fields.0; number = Some v.size })
+plain_row (values.bitfield v) = zeroed_row 18
+    (record no_numbers { count = Some v.length; type_index = Some v.underlying_type.0; extra = Some v.position })
 plain_row (values.virtual_table_shape v) = zeroed_row 22 (record no_numbers { count = Some v.count })
 
 -- the row of a type
 abbrev pub type_info : TypeValue → Row
 type_info (plain value) = plain_row value
-type_info (values.array v) = zeroed_row 16 (record no_numbers {
-  type_index = Some v.element_type.0;
-  second_index = Some v.indexing_type.0;
-  extra = v.stride;
-})
+type_info (values.array v) = zeroed_row 16
+    (record no_numbers { type_index = Some v.element_type.0; second_index = Some v.indexing_type.0; extra = v.stride })
 type_info (values.field_list fields continuation) =
     zeroed_row 19 (record no_numbers { list_index = index_in continuation })
 type_info (values.argument_list arguments) = zeroed_row 20 no_numbers

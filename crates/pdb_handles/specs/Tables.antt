@@ -1,20 +1,14 @@
 -- What is returned about an open table of types or of ids.
 use Rattle.std.specs.Prelude.{ℕ, min, List, Option, Some, None, Ok, Err}
 use Rattle.pdb_base.specs.Answer.{Answer, ◌>>=◌}
-use Rattle.pdb_tpi.specs.declared.open_table.RecordPlace.{RecordPlace}
-use Rattle.pdb_tpi.specs.Chain.{fields_of}
-use Rattle.pdb_tpi.specs.Finder.{item_of}
-use Rattle.pdb_tpi.specs.OpenTable.{place_of_record, step_located}
-use Rattle.pdb_tpi.specs.StepLaws.{first_stand}
-use Rattle.pdb_tpi.specs.Steps.{WalkPosition}
-use Rattle.pdb_tpi.specs.Table.{table_of}
-use Rattle.pdb_handles.specs.declared.content.Content.{Content}
+use Rattle.pdb_tpi.specs.{declared.open_table.RecordPlace.RecordPlace, Chain.fields_of, Finder.item_of}
+use Rattle.pdb_tpi.specs.{OpenTable.place_of_record, OpenTable.step_located, StepLaws.first_stand, Steps.WalkPosition}
+use Rattle.pdb_tpi.specs.{Table.Table, Table.table_of}
+use Rattle.pdb_handles.specs.{declared.content.Content.Content, declared.fault.Fault.Fault}
+use Rattle.pdb_handles.specs.{declared.fields.FieldRow.FieldRow, declared.open_table.FoundRecord.FoundRecord}
+use Rattle.pdb_handles.specs.{declared.open_table.Located.Located, Found.Found, Found.not_held}
 use Rattle.pdb_handles.specs.declared.content.Content.TheVariants as contents
-use Rattle.pdb_handles.specs.declared.fault.Fault.{Fault}
-use Rattle.pdb_handles.specs.declared.fields.FieldRow.{FieldRow}
-use Rattle.pdb_handles.specs.declared.open_table.Located.{Located}
 use Rattle.pdb_handles.specs.Fault.{fault_of_refusal, fine, no_more, no_value, not_open}
-use Rattle.pdb_handles.specs.Found.{Found, not_held}
 use Rattle.pdb_handles.specs.Records.{Fielded, NamedRows, all_found, listing_told, no_rows_copied}
 
 -- the table in a stream, with its walk before the first item
@@ -35,6 +29,13 @@ located_told old index (Err refusal) = record { fault = fault_of_refusal refusal
 abbrev pub located_in : Located → ℕ → Option WalkPosition → Found Located
 located_in old index (Some stand) = located_told old index (place_of_record stand.table index)
 located_in old index None = not_held old
+
+-- what is found of the record of an index: its place; or the index alone, and why there is no record
+abbrev pub record_found : Table → ℕ → FoundRecord
+record_found table index =
+    let nothing : Located = record { index = index; offset = 0; length = 0 } in
+    let told : Found Located = located_told nothing index (place_of_record table index) in
+    record { place = told.value; fault = told.fault }
 
 -- an index, or 0xffffffff if it is above that
 abbrev pub index_told : ℕ → ℕ
@@ -68,10 +69,8 @@ step_told old held = record { fault = not_open; value = old; held = held }
 
 -- how a call ended that sets the walk back to the first item, and what the handle holds afterwards
 abbrev pub rewind_outcome : Option Content → Found (Option Content)
-rewind_outcome (Some (contents.Table stand)) = record {
-  fault = fine;
-  value = Some (contents.Table (first_stand stand.table));
-}
+rewind_outcome (Some (contents.Table stand)) =
+    record { fault = fine; value = Some (contents.Table (first_stand stand.table)) }
 rewind_outcome held = record { fault = not_open; value = held }
 
 -- the fields of a field list in a table, and of the lists that continue it

@@ -1,35 +1,21 @@
 -- The next records of a walk along a table of types, each with its row.
 use Rattle.std.specs.Prelude.{◌≡◌, ◌⊎◌, ◌<◌, List, [], ◌∷◌, ◌++◌, length, drop, ℕ, Option, Some, None, Ok, Err}
-use Rattle.pdb_base.specs.Answer.{Answer}
-use Rattle.pdb_base.specs.Refusal.{out_of_memory}
+use Rattle.pdb_base.specs.{Answer.Answer, Refusal.out_of_memory}
 use Rattle.pdb_values.specs.TypeValue.{TypeValue}
 use Rattle.pdb_tpi.specs.declared.open_table.RecordPlace.{RecordPlace}
-use Rattle.pdb_tpi.specs.OpenTable.{record_bytes, step_located}
-use Rattle.pdb_tpi.specs.Record.{type_of}
-use Rattle.pdb_tpi.specs.Steps.{WalkPosition}
-use Rattle.pdb_handles.specs.declared.content.Content.{Content}
-use Rattle.pdb_handles.specs.declared.content.Content.TheVariants as contents
-use Rattle.pdb_handles.specs.declared.fault.Fault.{Fault}
-use Rattle.pdb_handles.specs.declared.row.Row.{Row}
-use Rattle.pdb_handles.specs.declared.walked.TypeRow.{TypeRow}
-use Rattle.pdb_handles.specs.Copied.{Copied, nothing_copied}
+use Rattle.pdb_tpi.specs.{OpenTable.record_bytes, OpenTable.step_located, Record.type_of, Steps.WalkPosition}
 use Rattle.pdb_handles.specs.Fault.{fault_of_refusal, fine, not_open, no_more}
-use Rattle.pdb_handles.specs.Row.{no_numbers, zeroed_row, type_info}
-use Rattle.pdb_handles.specs.Tables.{index_told, located_at}
-
--- a row of zeros
-abbrev pub no_row : Row
-no_row = zeroed_row 0 no_numbers
+use Rattle.pdb_handles.specs.{declared.content.Content.Content, declared.fault.Fault.Fault}
+use Rattle.pdb_handles.specs.{declared.walked.TypeRow.TypeRow, Copied.Copied, Copied.nothing_copied, Row.no_numbers}
+use Rattle.pdb_handles.specs.{Row.zeroed_row, Row.type_info, Tables.index_told, Tables.located_at}
+use Rattle.pdb_handles.specs.declared.content.Content.TheVariants as contents
 
 -- a record for the caller: its place and its row; or its place, the fault with which parsing refuses it, and
 -- a row of zeros
 abbrev pub type_told : ℕ → RecordPlace → Answer TypeValue → TypeRow
 type_told index place (Ok value) = record { place = located_at index place; fault = fine; info = type_info value }
-type_told index place (Err refusal) = record {
-  place = located_at index place;
-  fault = fault_of_refusal refusal;
-  info = no_row;
-}
+type_told index place (Err refusal) =
+    record { place = located_at index place; fault = fault_of_refusal refusal; info = zeroed_row 0 no_numbers }
 
 -- A record is written as it is meant; or memory to parse it was refused.
 abbrev pub IsTypeRow : ℕ → RecordPlace → Answer TypeValue → TypeRow → Type 0

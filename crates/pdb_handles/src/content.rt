@@ -12,23 +12,17 @@ use pdb_types::OpenDefinitions;
 pub enum Content {
     /// The names of a string table.
     Names(StringTable),
-
     /// The records of an OMAP table.
     Omap(OMAPTable),
-
     /// The sections of an image before and after a tool rearranged it, and the tables that lead
     /// from one to the other.
     Addresses(AddressMap),
-
     /// The frames of a program.
     Frames(FrameTable),
-
     /// The header and the directory of a file.
     File(Layout),
-
     /// The items of a table of types or of ids.
     Table(OpenTable<TypeIndex>),
-
     /// The definitions of a table of types.
     Definitions(OpenDefinitions),
 }

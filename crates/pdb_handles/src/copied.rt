@@ -1,11 +1,11 @@
-//! Answers that are copied into a caller's array.
+//! Answers that are copied into a caller's arrays.
 
-ghost use Rattle.std.specs.Prelude.{◌≡◌, ℕ, List, Option};
-ghost use Rattle.std.specs.Option.{option_map};
+ghost use Rattle.std.specs.{Prelude.◌≡◌, Prelude.ℕ, Prelude.List, Prelude.Option, Option.option_map};
 ghost use Rattle.pdb_base.specs.Answer.{Answer, Answers};
 ghost use Rattle.pdb_values.specs.Text.{text_bytes};
-ghost use Rattle.pdb_handles.specs.Copied.{CopiesOrLacks, answer_copied, items_copied};
-ghost use Rattle.pdb_handles.specs.Records.{rows_copied, if_copied};
+ghost use Rattle.pdb_handles.specs.Copied.{CopiesAnswer, items_copied};
+ghost use Rattle.pdb_handles.specs.Records.{CopiesIf, rows_copied, FieldsOrLacks, NamedRows, listing_told};
+ghost use Rattle.pdb_handles.specs.Records.{listing_view};
 
 use crate::fault::{FINE, Fault, NONE, TOO_SMALL};
 use pdb_base::{RawString, Result, Stream};
@@ -58,8 +58,7 @@ pub fn copy_nothing(fault: Fault, length: &mut usize) -> Fault
 /// Copies the bytes of a stream to the caller's array, or returns the fault of the error.
 pub fn copy_stream(answer: Result<Stream>, room: &mut [u8], length: &mut usize) -> Fault
     ensures { (meant : Answer (List ℕ)) → Answers (λ stream. stream) answer meant
-        → CopiesOrLacks (record { fault = result; length = length.new; room = room.new }) room.old
-        (answer_copied room.old meant) }
+        → CopiesAnswer meant room.old result length.new room.new }
 {
     match answer {
         Ok(stream) => copy_out(stream.as_slice(), room, length),
@@ -70,8 +69,7 @@ pub fn copy_stream(answer: Result<Stream>, room: &mut [u8], length: &mut usize) 
 /// Copies the items of a list to the caller's array, or returns the fault of the error.
 pub fn copy_list<T: Copy>(answer: Result<Vec<T>>, room: &mut [T], length: &mut usize) -> Fault
     ensures { (meant : Answer (List T)) → Answers (λ list. list.items) answer meant
-        → CopiesOrLacks (record { fault = result; length = length.new; room = room.new }) room.old
-        (answer_copied room.old meant) }
+        → CopiesAnswer meant room.old result length.new room.new }
 {
     match answer {
         Ok(items) => copy_out(&items, room, length),
@@ -83,8 +81,7 @@ pub fn copy_list<T: Copy>(answer: Result<Vec<T>>, room: &mut [T], length: &mut u
 /// `NONE` if there is none, or the fault of the error.
 pub fn copy_if<T: Copy>(answer: Result<Option<Vec<T>>>, room: &mut [T], length: &mut usize) -> Fault
     ensures { (meant : Answer (Option (List T))) → Answers (option_map (λ list. list.items)) answer meant
-        → CopiesOrLacks (record { fault = result; length = length.new; room = room.new }) room.old
-        (if_copied room.old meant) }
+        → CopiesIf meant room.old result length.new room.new }
 {
     match answer {
         Ok(Some(items)) => copy_out(&items, room, length),
@@ -101,12 +98,49 @@ pub fn copy_name(
     length: &mut usize,
 ) -> Fault
     ensures { (meant : Answer (Option (List ℕ))) → Answers (option_map text_bytes) answer.entry meant
-        → CopiesOrLacks (record { fault = result; length = length.new; room = room.new }) room.old
-        (if_copied room.old meant) }
+        → CopiesIf meant room.old result length.new room.new }
 {
     match answer {
         Ok(Some(name)) => copy_out(name.as_bytes(), room, length),
         Ok(None) => copy_nothing(Fault::status(NONE), length),
         Err(error) => copy_nothing(Fault::of(&error), length),
+    }
+}
+
+/// Entries and the bytes of their names.
+#[derive(Drop)]
+pub struct Listing<R> {
+    pub(crate) rows: Vec<R>,
+    pub(crate) names: Vec<u8>,
+}
+
+/// Sets `count` and `size` to 0 and returns the fault.
+pub fn write_nothing(fault: Fault, count: &mut usize, size: &mut usize) -> Fault
+    ensures fault { result ≡ fault }
+    ensures count { count.new ≡ 0 }
+    ensures size { size.new ≡ 0 }
+{
+    *count = 0;
+    *size = 0;
+    fault
+}
+
+/// Writes a listing and the bytes of its names if there is one, or returns a fault of status `NONE`
+/// if there is none, or the fault of the error.
+pub fn write_listing<R: Copy>(
+    found: Result<Option<Listing<R>>>,
+    rows: &mut [R],
+    count: &mut usize,
+    names: &mut [u8],
+    size: &mut usize,
+) -> Fault
+    ensures { (meant : Answer (Option (NamedRows R))) → Answers (option_map listing_view) found meant → FieldsOrLacks
+        (record { fault = result; rows = rows.new; count = count.new; names = names.new; size = size.new })
+        rows.old names.old (listing_told rows.old names.old meant) }
+{
+    match found {
+        Ok(Some(listing)) => copy_both(&listing.rows, &listing.names, rows, count, names, size),
+        Ok(None) => write_nothing(Fault::status(NONE), count, size),
+        Err(error) => write_nothing(Fault::of(&error), count, size),
     }
 }

@@ -1,15 +1,13 @@
 //! Lists of fields.
 
-ghost use Rattle.std.specs.Prelude.{◌≡◌, List, map, Ok};
-ghost use Rattle.std.specs.Option.{option_map};
+ghost use Rattle.std.specs.{Prelude.◌≡◌, Prelude.List, Prelude.map, Prelude.Ok, Option.option_map};
 ghost use Rattle.pdb_base.specs.Answer.{Answer, Answers};
-ghost use Rattle.pdb_values.specs.TypeValue.{TypeValue};
-ghost use Rattle.pdb_values.specs.TypeView.{type_value};
-ghost use Rattle.pdb_handles.specs.Records.{all_found, field_info, fields_told, listing, listing_view};
-ghost use Rattle.pdb_handles.specs.Records.{name_bytes, of_type};
+ghost use Rattle.pdb_values.specs.{TypeValue.TypeValue, TypeView.type_value};
+ghost use Rattle.pdb_handles.specs.Records.{all_found, field_info, fields_told, listing, listing_view, name_bytes};
+ghost use Rattle.pdb_handles.specs.Records.{of_type};
 
-use crate::frame::flag;
-use crate::listing::Listing;
+use crate::copied::Listing;
+use crate::frames::flag;
 use crate::records::type_in;
 use crate::row::Row;
 use pdb_base::Result;

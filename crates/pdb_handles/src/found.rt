@@ -2,9 +2,7 @@
 
 ghost use Rattle.std.specs.Prelude.{◌≡◌};
 ghost use Rattle.pdb_base.specs.Answer.{Answer, Answers, Gives};
-ghost use Rattle.pdb_handles.specs.Fault.{fine};
-ghost use Rattle.pdb_handles.specs.Found.{answer_or_fault, value_or_fault};
-ghost use Rattle.pdb_handles.specs.Roles.{IsAnswerTold};
+ghost use Rattle.pdb_handles.specs.{Fault.fine, Found.answer_or_fault, Found.value_or_fault, Copied.IsAnswerTold};
 
 use crate::fault::{FINE, Fault};
 use pdb_base::Result;

@@ -1,14 +1,13 @@
 //! Handles, which a caller in another language keeps.
 
-ghost use Rattle.std.specs.Prelude.{◌≡◌, None, Some, is_some};
-ghost use Rattle.std.specs.Option.{option_map};
+ghost use Rattle.std.specs.{Prelude.◌≡◌, Prelude.None, Prelude.Some, Prelude.is_some, Option.option_map};
 ghost use Rattle.pdb_base.specs.Answer.{Answer, Answers};
-ghost use Rattle.pdb_handles.specs.declared.content.Content.{Content};
-ghost use Rattle.pdb_handles.specs.Handle.{content_kind, OpensTo};
+ghost use Rattle.pdb_handles.specs.{declared.content.Content.Content, Handle.content_kind, Handle.OpensTo};
 
 use crate::content::Content;
 use crate::fault::{FINE, Fault};
 use crate::held::Held;
+use crate::parts::Parts;
 use pdb_base::{Error, Result};
 use std::alloc::Global;
 use std::mem::replace;
@@ -58,7 +57,7 @@ impl Handle {
             return None;
         }
         let Handle { held, kind: _ } = replace(self, Handle::empty(alloc));
-        Some(held.into_content())
+        Some(held.into_parts().into_box())
     }
 
     /// Puts a content into a handle that holds nothing.
@@ -67,7 +66,7 @@ impl Handle {
         ensures { self.new.held.content ≡ Some content.value }
     {
         let kind = kind_of(&content);
-        let held = Held::of(content);
+        let held = Held::of_parts(Parts::of(content));
         let Handle { held, kind: _ } = replace(self, Handle { held, kind });
         held.end();
     }

@@ -1,8 +1,7 @@
 //! What a handle points to.
 
 ghost use Rattle.std.specs.Prelude.{◌≡◌, Option, None, Some, IsSome};
-ghost use Rattle.pdb_handles.specs.Held.{owns_block};
-ghost use Rattle.pdb_handles.specs.declared.content.Content.{Content};
+ghost use Rattle.pdb_handles.specs.{Held.owns_block, declared.content.Content.Content};
 
 use crate::content::Content;
 use crate::parts::Parts;
@@ -46,7 +45,7 @@ impl Held {
     }
 
     /// Returns a pointer that owns the content of a box, from the parts of the box.
-    fn of_parts(parts: Parts<Content, Global>) -> Held
+    pub(crate) fn of_parts(parts: Parts<Content, Global>) -> Held
         ensures { result.content ≡ Some parts.value }
     {
         let Parts { ptr, alloc } = parts;
@@ -57,7 +56,7 @@ impl Held {
     }
 
     /// Returns the parts of the box of the content.
-    fn into_parts(self) -> Parts<Content, Global>
+    pub(crate) fn into_parts(self) -> Parts<Content, Global>
         requires { IsSome self.content }
         ensures { self.content ≡ Some result.value }
     {
@@ -66,20 +65,5 @@ impl Held {
             ptr: ptr as *mut Content,
             alloc,
         }
-    }
-
-    /// Returns a pointer that owns this content.
-    pub fn of(content: Box<Content>) -> Held
-        ensures { result.content ≡ Some content.value }
-    {
-        Held::of_parts(Parts::of(content))
-    }
-
-    /// Returns the content that the pointer owns.
-    pub fn into_content(self) -> Box<Content>
-        requires { IsSome self.content }
-        ensures { self.content ≡ Some result.value }
-    {
-        self.into_parts().into_box()
     }
 }

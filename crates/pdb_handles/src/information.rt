@@ -1,15 +1,14 @@
 //! The information in stream 1 of a file: the numbers that identify it, and the streams that it
 //! names.
 
-ghost use Rattle.std.specs.Prelude.{◌≡◌, Ok};
-ghost use Rattle.std.specs.Option.{option_map};
+ghost use Rattle.std.specs.{Prelude.◌≡◌, Prelude.Ok, Option.option_map};
 ghost use Rattle.pdb_base.specs.Answer.{Answers};
 ghost use Rattle.pdb_file.specs.StreamNames.{named_view};
-ghost use Rattle.pdb_handles.specs.Information.{information_said, named_listing, named_row, names_said};
+ghost use Rattle.pdb_handles.specs.File.{information_said, named_listing, named_row, names_said};
 ghost use Rattle.pdb_handles.specs.Records.{listing_view};
 
+use crate::copied::Listing;
 use crate::file::open_file;
-use crate::listing::Listing;
 use pdb_base::Result;
 use pdb_file::{StreamName, StreamNames};
 use std::alloc::Global;

@@ -4,18 +4,17 @@
 ghost use Rattle.std.specs.Prelude.{◌≡◌, ℕ, List, Ok, Some};
 ghost use Rattle.pdb_base.specs.Refusal.{Refusal};
 ghost use Rattle.pdb_msf.specs.Layout.{LayoutValue, layout_of, stream_by};
-ghost use Rattle.pdb_handles.specs.declared.fault.Fault.{Fault};
-ghost use Rattle.pdb_handles.specs.File.{stream_said};
-ghost use Rattle.pdb_handles.specs.Names.{StandsAtItsPlace};
-ghost use Rattle.pdb_handles.specs.Told.{IsTold, TellsBack};
+ghost use Rattle.pdb_handles.specs.{declared.fault.Fault.Fault, Fault.fault_of_refusal, File.stream_said};
+ghost use Rattle.pdb_handles.specs.{Names.StandsAtItsPlace, Told.IsOurs, Told.refusal_told};
 
 use pdb_space::laws::{names, string_tables};
 
 /// Errors of the library and the faults that report one correspond one to one.
 #[tactic(auto, using(crate::proofs::StatusLaws::forth, crate::proofs::StatusLaws::back_of))]
 pub fn statuses()
-    ensures forth { (refusal : Refusal) → IsTold refusal }
-    ensures back { (fault : Fault) (refusal : Refusal) → TellsBack fault refusal }
+    ensures forth { (refusal : Refusal) → IsOurs refusal → refusal_told (fault_of_refusal refusal) ≡ Some refusal }
+    ensures back { (fault : Fault) (refusal : Refusal) → refusal_told fault ≡ Some refusal
+        → fault_of_refusal refusal ≡ fault }
 {}
 
 /// If the layout of a file is kept, each stream read by it from the file's bytes is the one that is

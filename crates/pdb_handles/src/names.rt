@@ -1,13 +1,13 @@
 //! String tables.
 
-ghost use Rattle.std.specs.Prelude.{◌<◌, length};
+ghost use Rattle.std.specs.Prelude.{◌≡◌, ◌<◌, length, map};
 ghost use Rattle.pdb_base.specs.Answer.{Answers, Gives};
 ghost use Rattle.pdb_space.specs.StringTable.{names_of};
-ghost use Rattle.pdb_handles.specs.declared.content.Content.TheVariants.{Names};
-ghost use Rattle.pdb_handles.specs.Handle.{held_as};
-ghost use Rattle.pdb_handles.specs.Names.{name_place};
+ghost use Rattle.pdb_handles.specs.{declared.content.Content.TheVariants.Names, Copied.items_copied, Handle.held_as};
+ghost use Rattle.pdb_handles.specs.Names.{name_place, place_or_zeros};
 
 use crate::content::Content;
+use crate::fault::{FINE, Fault, TOO_SMALL};
 use pdb_base::{Result, Stream};
 use pdb_space::{StringRef, StringTable};
 use std::alloc::Global;
@@ -49,4 +49,32 @@ pub fn place_in(names: &StringTable, offset: u32) -> Result<NamePlace>
         offset: NAMES_START + offset as usize,
         length: name.as_bytes().len(),
     })
+}
+
+/// Writes where the name at each of some offsets of a table is to the start of the caller's array,
+/// or zeros where there is no name, and sets `length` to their number. If the array has no room for
+/// all of them, none is written.
+pub fn find_names(
+    names: &StringTable,
+    offsets: &[u32],
+    room: &mut [NamePlace],
+    length: &mut usize,
+) -> Fault
+    ensures { record { fault = result; length = length.new; room = room.new }
+        ≡ items_copied room.old (map (λ offset. place_or_zeros (name_place names.now offset)) offsets.now) }
+{
+    *length = offsets.len();
+    if room.len() < offsets.len() {
+        return Fault::status(TOO_SMALL);
+    }
+    for at in 0..offsets.len() {
+        room[at] = match place_in(names, offsets[at]) {
+            Ok(place) => place,
+            Err(_) => NamePlace {
+                offset: 0,
+                length: 0,
+            },
+        };
+    }
+    Fault::status(FINE)
 }

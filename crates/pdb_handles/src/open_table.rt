@@ -1,20 +1,18 @@
 //! Tables of types and of ids, which are read alike, and where their records are.
 
-ghost use Rattle.std.specs.Prelude.{◌≡◌, ◌<◌, length, Some};
+ghost use Rattle.std.specs.Prelude.{◌≡◌, ◌<◌, length, map, Some};
 ghost use Rattle.std.specs.Option.{option_map};
 ghost use Rattle.pdb_base.specs.Answer.{Answers};
-ghost use Rattle.pdb_tpi.specs.OpenTable.{place_of_record, step_located};
-ghost use Rattle.pdb_tpi.specs.Table.{count_in_header};
-ghost use Rattle.pdb_handles.specs.declared.content.Content.TheVariants.{Table};
-ghost use Rattle.pdb_handles.specs.Handle.{held_as};
-ghost use Rattle.pdb_handles.specs.Records.{listing_view};
-ghost use Rattle.pdb_handles.specs.Tables.{fields_in_table, located_at, located_told, step_outcome, table_opened};
+ghost use Rattle.pdb_tpi.specs.{OpenTable.place_of_record, OpenTable.step_located, Table.count_in_header};
+ghost use Rattle.pdb_handles.specs.{declared.content.Content.TheVariants.Table, Copied.items_copied, Handle.held_as};
+ghost use Rattle.pdb_handles.specs.{Records.listing_view, Tables.table_opened};
+ghost use Rattle.pdb_handles.specs.Tables.{fields_in_table, located_at, located_told, record_found, step_outcome};
 
 use crate::content::Content;
-use crate::fault::{END, Fault, NONE};
+use crate::copied::Listing;
+use crate::fault::{END, FINE, Fault, NONE, TOO_SMALL};
 use crate::fields::{FieldRow, listing_found};
 use crate::found::tell_value;
-use crate::listing::Listing;
 use pdb_base::{Result, Stream, TypeIndex};
 use pdb_tpi::{OpenTable, RecordPlace, TypeInformation};
 use std::alloc::Global;
@@ -42,6 +40,16 @@ impl Located {
             length: place.length,
         }
     }
+}
+
+/// What was found of a record.
+#[repr(C)]
+#[derive(Clone, Copy)]
+pub struct FoundRecord {
+    /// Its index, and where the record is, or zeros if it isn't found.
+    pub place: Located,
+    /// How the search ended.
+    pub fault: Fault,
 }
 
 /// Opens the table in a stream, which is copied.
@@ -76,6 +84,34 @@ pub fn find_record(kept: &mut OpenTable<TypeIndex>, index: u32, place: &mut Loca
         Ok(None) => Fault::status(NONE),
         Err(error) => Fault::of(&error),
     }
+}
+
+/// Writes what is found for each of some indexes to the start of the caller's array, and sets
+/// `length` to their number. If the array has no room for all of them, none is written.
+pub fn find_records(
+    kept: &mut OpenTable<TypeIndex>,
+    indexes: &[u32],
+    room: &mut [FoundRecord],
+    length: &mut usize,
+) -> Fault
+    ensures found { record { fault = result; length = length.new; room = room.new }
+        ≡ items_copied room.old (map (record_found kept.old.table) indexes.now) }
+    ensures kept { kept.new ≡ kept.old }
+{
+    *length = indexes.len();
+    if room.len() < indexes.len() {
+        return Fault::status(TOO_SMALL);
+    }
+    for at in 0..indexes.len() {
+        let mut place = Located {
+            index: indexes[at],
+            offset: 0,
+            length: 0,
+        };
+        let fault = find_record(kept, indexes[at], &mut place);
+        room[at] = FoundRecord { place, fault };
+    }
+    Fault::status(FINE)
 }
 
 /// Writes where the next record is, or the index at which the walk ends or fails.

@@ -1,8 +1,7 @@
 //! A box as its pointer and its allocator. This is the one place where raw memory is released and
 //! taken back.
 
-ghost use Rattle.std.specs.Prelude.{◌≡◌};
-ghost use Rattle.std.specs.Box.Ownership.{box_owns};
+ghost use Rattle.std.specs.{Prelude.◌≡◌, Box.Ownership.box_owns};
 
 use std::alloc::Allocator;
 use std::marker::Model;

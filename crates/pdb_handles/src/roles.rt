@@ -1,7 +1,7 @@
 //! The roles of streams.
 
 ghost use Rattle.pdb_base.specs.Answer.{Answers};
-ghost use Rattle.pdb_handles.specs.Roles.{roles_said};
+ghost use Rattle.pdb_handles.specs.File.{roles_said};
 
 use crate::file::open_file;
 use pdb_base::Result;

@@ -1,12 +1,10 @@
 //! The numbers in a record, as a `Row`.
 
-ghost use Rattle.std.specs.Prelude.{◌≡◌, ◌+◌, ◌*◌, ◌≤◌};
+ghost use Rattle.std.specs.Prelude.{◌≡◌, ◌*◌, ◌≤◌};
 ghost use Rattle.pdb_values.specs.TypeView.{type_value};
-ghost use Rattle.pdb_handles.specs.Frame.{flag};
-ghost use Rattle.pdb_handles.specs.Row.{bit, in_64_bits, index_in, is_signed, no_numbers, zeroed_row, type_info};
-ghost use Rattle.pdb_handles.specs.Row.{width_of};
+ghost use Rattle.pdb_handles.specs.{Frame.flag, Row.index_in, Row.type_info, Row.value_numbers, Row.zeroed_row};
 
-use crate::frame::flag;
+use crate::frames::flag;
 use pdb_base::{TypeIndex, Variant};
 use pdb_values::TypeData;
 
@@ -89,41 +87,20 @@ pub(crate) fn index_in(index: Option<TypeIndex>) -> Option<u32>
     index.map(|index| index.0)
 }
 
-/// Returns whether a number can be below 0.
-fn is_signed(value: Variant) -> bool
-    ensures { result ≡ is_signed value }
+/// Returns whether a number can be below 0, its width in bytes, and the number in 64 bits, in two's
+/// complement if it is below 0.
+fn value_numbers(value: Variant) -> (bool, u32, u64)
+    ensures { result ≡ value_numbers value }
 {
     match value {
-        Variant::I8(_) | Variant::I16(_) | Variant::I32(_) | Variant::I64(_) => true,
-        _ => false,
-    }
-}
-
-/// Returns the width of a number in bytes.
-fn width_of(value: Variant) -> u32
-    ensures { result ≡ width_of value }
-{
-    match value {
-        Variant::U8(_) | Variant::I8(_) => 1,
-        Variant::U16(_) | Variant::I16(_) => 2,
-        Variant::U32(_) | Variant::I32(_) => 4,
-        Variant::U64(_) | Variant::I64(_) => 8,
-    }
-}
-
-/// Returns a number in 64 bits, in two's complement if it is below 0.
-fn in_64_bits(value: Variant) -> u64
-    ensures { result ≡ in_64_bits value }
-{
-    match value {
-        Variant::U8(n) => n as u64,
-        Variant::U16(n) => n as u64,
-        Variant::U32(n) => n as u64,
-        Variant::U64(n) => n,
-        Variant::I8(n) => i64::from(n).cast_unsigned(),
-        Variant::I16(n) => i64::from(n).cast_unsigned(),
-        Variant::I32(n) => i64::from(n).cast_unsigned(),
-        Variant::I64(n) => n.cast_unsigned(),
+        Variant::U8(n) => (false, 1, n as u64),
+        Variant::U16(n) => (false, 2, n as u64),
+        Variant::U32(n) => (false, 4, n as u64),
+        Variant::U64(n) => (false, 8, n),
+        Variant::I8(n) => (true, 1, i64::from(n).cast_unsigned()),
+        Variant::I16(n) => (true, 2, i64::from(n).cast_unsigned()),
+        Variant::I32(n) => (true, 4, i64::from(n).cast_unsigned()),
+        Variant::I64(n) => (true, 8, n.cast_unsigned()),
     }
 }
 
@@ -136,26 +113,6 @@ fn bit(weight: u32, is_there: bool) -> u32
     weight * flag(is_there)
 }
 
-/// Returns the bits of the numbers that are present.
-#[inline(always)]
-fn bits_of_numbers(numbers: &Numbers) -> u32
-    ensures { result ≡ bit 1 numbers.now.kind + bit 2 numbers.now.attributes + bit 4 numbers.now.properties +
-        bit 8 numbers.now.count + bit 16 numbers.now.type_index + bit 32 numbers.now.second_index +
-        bit 64 numbers.now.third_index + bit 128 numbers.now.list_index + bit 256 numbers.now.extra +
-        bit 512 numbers.now.number }
-{
-    bit(1, numbers.kind.is_some())
-        + bit(2, numbers.attributes.is_some())
-        + bit(4, numbers.properties.is_some())
-        + bit(8, numbers.count.is_some())
-        + bit(16, numbers.type_index.is_some())
-        + bit(32, numbers.second_index.is_some())
-        + bit(64, numbers.third_index.is_some())
-        + bit(128, numbers.list_index.is_some())
-        + bit(256, numbers.extra.is_some())
-        + bit(512, numbers.number.is_some())
-}
-
 impl Row {
     /// Returns the `Row` of a shape and its numbers.
     #[inline(always)]
@@ -165,7 +122,16 @@ impl Row {
     {
         Row {
             shape,
-            has: bits_of_numbers(numbers),
+            has: bit(1, numbers.kind.is_some())
+                + bit(2, numbers.attributes.is_some())
+                + bit(4, numbers.properties.is_some())
+                + bit(8, numbers.count.is_some())
+                + bit(16, numbers.type_index.is_some())
+                + bit(32, numbers.second_index.is_some())
+                + bit(64, numbers.third_index.is_some())
+                + bit(128, numbers.list_index.is_some())
+                + bit(256, numbers.extra.is_some())
+                + bit(512, numbers.number.is_some()),
             number: numbers.number.unwrap_or(0),
             kind: numbers.kind.unwrap_or(0),
             attributes: numbers.attributes.unwrap_or(0),
@@ -229,10 +195,12 @@ impl Row {
             TypeData::Enumeration(v) => *self = row!(14;
                 properties: Some(v.properties.bits() as u32), count: Some(v.count as u32),
                 type_index: Some(v.underlying_type.0), list_index: Some(v.fields.0)),
-            TypeData::Enumerate(v) => *self = row!(15;
-                kind: Some(flag(is_signed(v.value))),
-                attributes: Some(v.attributes.bits() as u32), count: Some(width_of(v.value)),
-                number: Some(in_64_bits(v.value))),
+            TypeData::Enumerate(v) => {
+                let (is_signed, width, number) = value_numbers(v.value);
+                *self = row!(15;
+                    kind: Some(flag(is_signed)), attributes: Some(v.attributes.bits() as u32),
+                    count: Some(width), number: Some(number));
+            }
             TypeData::Array(v) => *self = row!(16;
                 type_index: Some(v.element_type.0), second_index: Some(v.indexing_type.0),
                 extra: v.stride),

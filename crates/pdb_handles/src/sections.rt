@@ -2,7 +2,7 @@
 
 ghost use Rattle.std.specs.Prelude.{◌≡◌, ◌<◌, length};
 ghost use Rattle.pdb_base.specs.Answer.{Answers};
-ghost use Rattle.pdb_handles.specs.Sections.{section_info, sections_told};
+ghost use Rattle.pdb_handles.specs.File.{section_info, sections_told};
 
 use pdb_base::{Result, Stream};
 use pdb_file::section_headers::section_headers;

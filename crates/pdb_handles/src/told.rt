@@ -1,7 +1,6 @@
 //! The error that a fault reports, and its text.
 
-ghost use Rattle.std.specs.Prelude.{◌≡◌};
-ghost use Rattle.std.specs.Option.{option_map};
+ghost use Rattle.std.specs.{Prelude.◌≡◌, Option.option_map};
 ghost use Rattle.pdb_base.specs.Refusal.{refusal_of};
 ghost use Rattle.pdb_handles.specs.Copied.{CopiesOrLacks, text_copied};
 ghost use Rattle.pdb_handles.specs.Told.{candidate, kind_numbered, refusal_told, text_if, text_numbered};

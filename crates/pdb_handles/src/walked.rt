@@ -1,7 +1,6 @@
 //! Walks along tables of types, with the numbers in their records.
 
-ghost use Rattle.pdb_tpi.specs.OpenTable.{record_bytes};
-ghost use Rattle.pdb_tpi.specs.Record.{type_of};
+ghost use Rattle.pdb_tpi.specs.{OpenTable.record_bytes, Record.type_of};
 ghost use Rattle.pdb_handles.specs.Walked.{IsTypeRow, WritesNext};
 
 use crate::fault::{END, FINE, Fault};

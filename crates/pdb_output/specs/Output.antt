@@ -36,11 +36,11 @@ pub record IsWritten (old now : OutputState) (all rest : List ℕ) : Type 0 wher
 abbrev pub IsFailed : OutputState → Error → Type 0
 IsFailed new e = (cause : io.Error) × (e ≡ IoError cause) × (new.has_failed ≡ true)
 
--- Why output may be cut short: the output failed, or memory was refused and the output did not fail.
+-- Why output may be cut short: the output failed, or memory ran out and the output did not fail.
 abbrev pub IsOutputFailure : OutputState → OutputState → Error → Type 0
 IsOutputFailure old new e = IsFailed new e ⊎ ((e ≡ OutOfMemory) × (new.has_failed ≡ old.has_failed))
 
--- An output received a prefix of the bytes, since it failed or memory was refused.
+-- An output received a prefix of the bytes, since it failed or memory ran out.
 pub record IsCutShort (all : List ℕ) (old new : OutputState) (e : Error) : Type 0 where
   pub cause : IsOutputFailure old new e
   pub prefix : IsPrefix all old.contents new.contents

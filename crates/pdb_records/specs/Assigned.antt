@@ -12,12 +12,12 @@ abbrev pub SaysAssigned : {X Y : Type 0} → (X → Y) → (Y → List ℕ → T
 SaysAssigned view Is No (Ok x) = (rest : List ℕ) × Is (view x) rest
 SaysAssigned view Is No (Err e) = No (refusal_of e) ⊎ (e ≡ OutOfMemory)
 
--- the call returns a value that `view` maps to this one, or fails because memory was refused
+-- the call returns a value that `view` maps to this one, or fails because memory ran out
 abbrev pub ShowsOrLacks : {X Y : Type 0} → (X → Y) → Y → Result X Error → Type 0
 ShowsOrLacks view value (Ok x) = view x ≡ value
 ShowsOrLacks view value (Err e) = e ≡ OutOfMemory
 
--- the call fails with this refusal, or because memory was refused
+-- the call fails with this refusal, or because memory ran out
 abbrev pub RefusesOrLacks : {X : Type 0} → Refusal → Result X Error → Type 0
 RefusesOrLacks refusal (Ok x) = ⊥
 RefusesOrLacks refusal (Err e) = (refusal_of e ≡ refusal) ⊎ (e ≡ OutOfMemory)

@@ -36,7 +36,7 @@ abbrev pub found_in : {A B : Type 0} → B → (A → Answer (Option B)) → Opt
 found_in old answer (Some held) = found_told old (answer held)
 found_in old answer None = record { fault = not_open; value = old }
 
--- What is meant was found; or memory was refused, and the variable stays as it was.
+-- What is meant was found; or memory ran out, and the variable stays as it was.
 abbrev pub FindsOrLacks : {A : Type 0} → Found A → A → Found A → Type 0
 FindsOrLacks done old meant = (done ≡ meant) ⊎ (done ≡ record { fault = fault_of_refusal out_of_memory; value = old })
 

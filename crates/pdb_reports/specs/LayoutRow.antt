@@ -117,7 +117,7 @@ LaysOut rows names (Ok (Some layout)) told = WritesLayout rows names layout told
 LaysOut rows names (Ok None) told = told ≡ no_rows_copied no_value rows names
 LaysOut rows names (Err refusal) told = told ≡ no_rows_copied (fault_of_refusal refusal) rows names
 
--- The same; or memory was refused, and nothing was written.
+-- The same; or memory ran out, and nothing was written.
 abbrev pub LaysOutOrLacks : List LayoutRow → List ℕ → Answer (Option ClassLayout) → Fielded LayoutRow → Type 0
 LaysOutOrLacks rows names meant told =
     LaysOut rows names meant told ⊎ (told ≡ no_rows_copied (fault_of_refusal out_of_memory) rows names)

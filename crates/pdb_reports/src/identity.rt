@@ -6,11 +6,11 @@ ghost use Rattle.uuid.specs.Text.{hyphenated_text, upper};
 ghost use Rattle.pdb_base.specs.Answer.{Answer, Answers};
 ghost use Rattle.pdb_identity.specs.Identity.{file_identity};
 ghost use Rattle.pdb_identity.specs.Key.{lower_key, upper_key};
-ghost use Rattle.pdb_handles.specs.Copied.{CopiesOrLacks, answer_copied, items_copied};
+ghost use Rattle.pdb_handles.specs.Copied.{CopiesAnswer, items_copied};
 ghost use Rattle.pdb_reports.specs.Identity.{feature_bits, format_number, identity_of, identity_said, key_text};
 ghost use Rattle.pdb_handles.specs.File.{read_of_file};
-ghost use Rattle.pdb_handles.specs.Records.{if_copied};
-ghost use Rattle.pdb_handles.specs.Roles.{IsAnswerTold};
+ghost use Rattle.pdb_handles.specs.Records.{CopiesIf};
+ghost use Rattle.pdb_handles.specs.Copied.{IsAnswerTold};
 
 use pdb_base::Result;
 use pdb_file::Features;
@@ -157,8 +157,7 @@ fn lower_text(alloc: Global, guid: Uuid, age: u32) -> Result<String>
 /// Copies a text that was made to the caller's array, or returns the fault of the error.
 fn copy_made(made: Result<String>, room: &mut [u8], length: &mut usize) -> Fault
     ensures { (meant : Answer (List ℕ)) → Answers string_bytes made meant
-        → CopiesOrLacks (record { fault = result; length = length.new; room = room.new }) room.old
-        (answer_copied room.old meant) }
+        → CopiesAnswer meant room.old result length.new room.new }
 {
     match made {
         Ok(text) => copy_out(text.as_bytes(), room, length),
@@ -186,8 +185,7 @@ pub fn copy_key(
     room: &mut [u8],
     length: &mut usize,
 ) -> Fault
-    ensures { CopiesOrLacks (record { fault = result; length = length.new; room = room.new }) room.old
-        (if_copied room.old (Ok (key_text form identity.now))) }
+    ensures { CopiesIf (Ok (key_text form identity.now)) room.old result length.new room.new }
 {
     let guid = Uuid::from_bytes_le(identity.guid);
     let age = identity.age;

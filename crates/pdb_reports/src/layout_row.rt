@@ -9,8 +9,7 @@ ghost use Rattle.pdb_reports.specs.LayoutRow.{LaysOutOrLacks, bytes_row, field_n
 ghost use Rattle.pdb_reports.specs.LayoutRow.{with_extent, entry_of_role};
 
 use pdb_base::{Result, TypeIndex};
-use pdb_handles::copied::copy_both;
-use pdb_handles::listing::write_nothing;
+use pdb_handles::copied::{copy_both, write_nothing};
 use pdb_handles::{Fault, NONE, flag};
 use pdb_types::{Extent, FieldKind, Gap, GapKind, Layout, LayoutField, OpenDefinitions, Span};
 use std::alloc::Global;

@@ -9,7 +9,7 @@ use Rattle.pdb_base.specs.Refusal.{refusal_of}
 use Rattle.pdb_output.specs.Output.{OutputState, Flushes}
 use Rattle.pdbdump_cli.specs.Served.{EndsProgram, IsEnded}
 
--- the refusal that is meant, or memory was refused: a file in memory meets no other fault
+-- the refusal that is meant, or memory ran out: a file in memory meets no other fault
 pub refused_or_lacking : {A : Type 0} (meant : Answer A) (e : Error) → RefusesUnless (¬ IsTrue true) e meant
     → (meant ≡ Err (refusal_of e)) ⊎ (e ≡ OutOfMemory)
 refused_or_lacking meant e (inl is) = inl is

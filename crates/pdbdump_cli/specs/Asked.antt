@@ -45,7 +45,7 @@ pub record AreAnswerLines (form : Form) (file questions : List ℕ) (lines : Lis
   pub are_answered : AreAnswered form file head (questions_in questions) lines all
 
 -- A file was asked the questions in a text: the lines of all answers were written, and the result is
--- whether all are answered. Or the file is refused, or memory was refused before the first line, and
+-- whether all are answered. Or the file is refused, or memory ran out before the first line, and
 -- nothing was written; or the lines were cut short.
 abbrev pub IsAsked : Form → List ℕ → List ℕ → OutputState → OutputState → Result Bool Error → Type 0
 IsAsked form file questions old new (Ok all) = (lines : List ℕ) × AreAnswerLines form file questions lines all

@@ -66,22 +66,22 @@ end_bytes line = if line.is_full then [] else (if line.is_empty then line_openin
 unfoldable pub line_bytes : LineState → List ℕ
 line_bytes line = line.bytes ++ end_bytes line
 
--- Fields were added to a line; or memory was refused.
+-- Fields were added to a line; or memory ran out.
 abbrev pub ShowsFields : ShownRow → LineState → LineState → Result (Unit {0}) Error → Type 0
 ShowsFields row old new (Ok done) = new ≡ all_shown old row
 ShowsFields row old new (Err e) = e ≡ OutOfMemory
 
--- A line has ended with this text; or memory was refused.
+-- A line has ended with this text; or memory ran out.
 abbrev pub EndsLine : List ℕ → LineState → Result (Unit {0}) Error → Type 0
 EndsLine text new (Ok done) = new.bytes ≡ text
 EndsLine text new (Err e) = e ≡ OutOfMemory
 
--- Bytes were added to others; or memory was refused.
+-- Bytes were added to others; or memory ran out.
 abbrev pub Adds : List ℕ → List ℕ → List ℕ → Result (Unit {0}) Error → Type 0
 Adds text old new (Ok done) = new ≡ old ++ text
 Adds text old new (Err e) = e ≡ OutOfMemory
 
--- The line of the fields that were added has ended, as one line or in full, whichever they are; or memory was refused.
+-- The line of the fields that were added has ended, as one line or in full, whichever they are; or memory ran out.
 pub record IsLineEnded (old : LineState) (added : Result (Unit {0}) Error) (new : LineState)
     (result : Result (Unit {0}) Error) : Type 0 where
   pub row : (form : Form) (start : LineState) (row : ShownRow) → ShowsFields row start old added → start ≡ begun form
@@ -96,7 +96,7 @@ pub record IsLineWritten (line : LineState) (added : Result (Unit {0}) Error) (o
   pub row : (form : Form) (start : LineState) (row : ShownRow) → ShowsFields row start line added → start ≡ begun form
       → Writes (row_text form row) old new result
 
--- The line of the fields that were added was appended to a text, whichever they are; or memory was refused.
+-- The line of the fields that were added was appended to a text, whichever they are; or memory ran out.
 pub record IsLineAppended (line : LineState) (added : Result (Unit {0}) Error) (old new : List ℕ)
     (result : Result (Unit {0}) Error) : Type 0 where
   pub row : (form : Form) (start : LineState) (row : ShownRow) → ShowsFields row start line added → start ≡ begun form

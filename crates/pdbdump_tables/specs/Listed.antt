@@ -19,7 +19,7 @@ abbrev pub all_lines : (ℕ → List ℕ → List ℕ) → Table → List ℕ
 all_lines line table = lines_from line table.header.minimum_index (walk table)
 
 -- The lines that are meant are added to others; or the call fails with the refusal that is meant, or
--- because memory was refused.
+-- because memory ran out.
 abbrev pub Pushes : Result (Unit {0}) Error → List ℕ → List ℕ → Answer (List ℕ) → Type 0
 Pushes (Ok done) old new meant = (added : List ℕ) × (meant ≡ Ok added) × (new ≡ old ++ added)
 Pushes (Err fault) old new meant = (meant ≡ Err (refusal_of fault)) ⊎ (fault ≡ OutOfMemory)
@@ -28,7 +28,7 @@ Pushes (Err fault) old new meant = (meant ≡ Err (refusal_of fault)) ⊎ (fault
 --   whole    the lines of all items were written, and no byte is left behind the items
 --   stopped  the lines of all items were written, and the fault is the one at which the walk stops, before bytes
 --            that are left
---   lacking  memory was refused after the lines of some first items were written
+--   lacking  memory ran out after the lines of some first items were written
 --   cut      the output failed, and a prefix of the lines was written
 pub data IsWalked (line : ℕ → List ℕ → List ℕ) (table : Table) (out out' : OutputState) : Result (Unit {0}) Error
     → Type 0 where
@@ -57,8 +57,8 @@ members_text (Err fault) = []
 --   whole_shown    both were written
 --   stopped_shown  the record was written, and the fault is that of its members
 --   refused_shown  the table, the look-up or the record is refused, and nothing was written
---   unread_shown   memory was refused, and nothing was written
---   lacking_shown  memory was refused after the record was written
+--   unread_shown   memory ran out, and nothing was written
+--   lacking_shown  memory ran out after the record was written
 --   cut_shown      the output failed, and a prefix of the record and its members was written
 pub data IsShown (meant : Answer (List ℕ × Answer (List ℕ))) (out out' : OutputState) : Result (Unit {0}) Error
     → Type 0 where

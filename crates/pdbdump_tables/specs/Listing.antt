@@ -40,7 +40,7 @@ followed_by first next = record {
 }
 
 -- An output received the lines of a listing, and the result is how the listing ends; or the output failed
--- or memory was refused, and the output received a prefix of the lines.
+-- or memory ran out, and the output received a prefix of the lines.
 abbrev pub IsListed : Listing → OutputState → OutputState → Result (Unit {0}) Error → Type 0
 IsListed listing old new (Ok done) = (listing.end ≡ Ok tt) × Gets old new listing.lines
 IsListed listing old new (Err e) = ((listing.end ≡ Err (refusal_of e)) × Gets old new listing.lines)

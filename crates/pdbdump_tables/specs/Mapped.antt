@@ -63,9 +63,9 @@ pub record AreLinesOf (form : Form) (map : AddressMapValue) (address : ℕ) (lin
   pub are_lines : lines ≡ loaded_text form loaded ++ internal_text form internal
 
 -- What was done with an address and the map that is meant:
---   mapped   the lines for the address were written, or cut short because the output failed or memory was refused
+--   mapped   the lines for the address were written, or cut short because the output failed or memory ran out
 --   refused  the map is refused, and nothing was written
---   lacking  memory was refused for the map, and nothing was written
+--   lacking  memory ran out for the map, and nothing was written
 pub data IsMapped (form : Form) (meant : Answer AddressMapValue) (address : ℕ) (old new : OutputState)
     (result : Result (Unit {0}) Error) : Type 0 where
   mapped : (map : AddressMapValue) (lines : List ℕ) → meant ≡ Ok map → AreLinesOf form map address lines

@@ -507,6 +507,11 @@ typedef struct pdb_name {
  * is PDB_UNEXPECTED_EOF if no name is there. */
 uint32_t pdb_names_place(pdb_names *names, uint32_t offset, pdb_name *place, pdb_fault *fault);
 
+/* Writes where the name at each of some offsets is, in their order: what pdb_names_place writes, or
+ * zeros if no name is there. For many names one such call takes less time than a call for each. */
+uint32_t pdb_names_places(pdb_names *names, const uint32_t *offsets, size_t offsets_length,
+                          pdb_name *room, size_t room_length, size_t *length, pdb_fault *fault);
+
 /* ---- addresses */
 
 /* Opens the OMAP table in a stream, which is copied. */
@@ -691,6 +696,18 @@ typedef struct pdb_record {
  * that of a primitive type, which has no record in the stream, so the status is PDB_NONE. */
 uint32_t pdb_types_find(pdb_types *table, uint32_t index, pdb_record *record, pdb_fault *fault);
 
+/* What was found of the record of an index. */
+typedef struct pdb_found_record {
+    pdb_record place; /* the index, and where the record is, or zeros if it isn't found */
+    pdb_fault fault;  /* PDB_OK, or why it isn't found */
+} pdb_found_record;
+
+/* Writes what pdb_types_find finds for each of some indexes, in their order. For many records one
+ * such call takes less time than a call for each. */
+uint32_t pdb_types_find_all(pdb_types *table, const uint32_t *indexes, size_t indexes_length,
+                            pdb_found_record *room, size_t room_length, size_t *length,
+                            pdb_fault *fault);
+
 /* Writes the index of the next record of the walk along the table, and where it is. The status is
  * PDB_END after the last record, and the error if the walk stops before. In both cases the index is
  * the one at which the walk stopped, and the offset and the length are 0. */
@@ -713,6 +730,12 @@ static inline uint32_t pdb_ids_count(pdb_ids *ids, uint32_t *count, pdb_fault *f
 static inline uint32_t pdb_ids_find(pdb_ids *ids, uint32_t index, pdb_record *record,
                                     pdb_fault *fault) {
     return pdb_types_find(&ids->table, index, record, fault);
+}
+static inline uint32_t pdb_ids_find_all(pdb_ids *ids, const uint32_t *indexes,
+                                        size_t indexes_length, pdb_found_record *room,
+                                        size_t room_length, size_t *length, pdb_fault *fault) {
+    return pdb_types_find_all(&ids->table, indexes, indexes_length, room, room_length, length,
+                              fault);
 }
 static inline uint32_t pdb_ids_next(pdb_ids *ids, pdb_record *record, pdb_fault *fault) {
     return pdb_types_next(&ids->table, record, fault);

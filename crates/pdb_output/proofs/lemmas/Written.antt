@@ -75,7 +75,7 @@ pub written_as : (old now : OutputState) (all rest other : List ℕ) → rest �
     → IsWritten old now all other
 written_as old now all rest other same before = subst (IsWritten old now all) same before
 
--- memory was refused after what was written
+-- memory ran out after what was written
 pub lacks_more : (old now : OutputState) (all left : List ℕ) (e : Error) → IsWritten old now all left → e ≡ OutOfMemory
     → IsCutShort all old now e
 lacks_more old now all left e before want =
@@ -100,7 +100,7 @@ fails_again state all e failing = record { cause = inl failing; prefix = (all, r
 
 -- ---- two writes
 
--- memory was refused before the first line
+-- memory ran out before the first line
 pub lacks_all : (old : OutputState) (all : List ℕ) (e : Error) → e ≡ OutOfMemory → IsCutShort all old old e
 lacks_all old all e want = lacks_more old old all all e (written_none old all) want
 

@@ -86,13 +86,18 @@ fn file_with(alloc: Global, age: u32, debug: Debug) -> Result<Vec<u8>> {
     let mut file = Vec::new(alloc);
     push_page(&mut file, HEADER)?;
     push_page(&mut file, b"")?;
-    push_page(&mut file, &directory)?;
-    push_page(&mut file, b"\x02\0\0\0")?;
+    push_page(&mut file, b"")?;
+    push_page(&mut file, b"\x06\0\0\0")?;
     push_page(&mut file, &bytes_around(alloc, FRONT, age, BACK)?)?;
     push_page(&mut file, &debug_stream(alloc, debug)?)?;
-    push_page(&mut file, b"")?;
+    push_page(&mut file, &directory)?;
     push_page(&mut file, b"")?;
     Ok(file)
+}
+
+/// Returns such a file with the age 1, which is whole.
+pub(crate) fn whole_file(alloc: Global) -> Result<Vec<u8>> {
+    file_with(alloc, 1, Debug::Aged(1))
 }
 
 /// A case: the age in stream 1, stream 3, the words behind `id`, and what is written, with the

@@ -1,5 +1,6 @@
 //! The programs on the channels of a process in memory.
 
+use super::identities::whole_file;
 use super::printed::{ABSENT_2, USAGE};
 use super::uses::file::build_file;
 use pdb_vectors::s1_with;
@@ -420,6 +421,28 @@ fn missing_files(rt: HostRuntime) {
         process.err_fails = true;
         assert!(rt; has_failed(&process), "{words:?}");
     }
+}
+
+/// Commands for several files, of which the first is missing and the last is in standard input; and
+/// what is written of that one.
+const SEVERAL: &[(&[&str], &str)] = &[
+    (
+        &["pdbdump", "id", "missing.pdb", "-"],
+        "-/00112233445566778899AABBCCDDEEFF1/-\n",
+    ),
+    (&["pdbdump", "validate", "missing.pdb", "-"], "-: whole\n"),
+];
+
+#[test]
+fn files_behind_a_missing_one(rt: HostRuntime) -> Result<(), Fail> {
+    let file = whole_file(rt.alloc())?;
+    for (words, out) in SEVERAL {
+        let process = Process::new(rt.alloc(), words, &file, false);
+        assert!(rt; run(&process) == 1, "status of {words:?}");
+        assert!(rt; holds(&process.out, out.as_bytes()), "output of {words:?}");
+        assert!(rt; begins(&process.err, IO_ERROR), "errors of {words:?}");
+    }
+    Ok(())
 }
 
 /// Words that ask how the program, or one command, is called.

@@ -1,6 +1,6 @@
 //! Tables that stay open.
 
-use super::tables::{Fields, has_fields, is_long};
+use super::tables::{Fields, has_bytes, has_fields, is_long};
 use pdb_base::{Error, Result as Answer, TypeIndex};
 use pdb_tpi::{OpenTable, RecordPlace, TypeInformation};
 use std::alloc::Global;
@@ -22,6 +22,8 @@ pub(super) enum OpenAsk {
     NotFound(u32),
     /// An index: how many bytes its item has.
     Len(u32, usize),
+    /// An index: the bytes of its item.
+    Bytes(u32, &'static [u8]),
     /// The index of a list: its fields, or an error.
     Fields(u32, Fields),
 }
@@ -43,6 +45,7 @@ fn open_answers(alloc: Global, open: &OpenTable<TypeIndex>, ask: &OpenAsk) -> Re
             Ok(matches!(found, Err(Error::TypeNotFound(bad)) if bad == *index))
         }
         OpenAsk::Len(index, len) => Ok(is_long(open.item(TypeIndex(*index)), *len)),
+        OpenAsk::Bytes(index, bytes) => Ok(has_bytes(open.item(TypeIndex(*index)), bytes)),
         OpenAsk::Fields(index, want) => {
             Ok(has_fields(&open.fields(alloc, TypeIndex(*index)), want))
         }

@@ -82,6 +82,8 @@ enum FinderAsk {
     Integer(u32),
     /// An index: how many bytes its item has.
     Len(u32, usize),
+    /// An index: the bytes of its item.
+    Bytes(u32, &'static [u8]),
     /// The index of a list: its fields, or an error.
     Fields(u32, Fields),
 }
@@ -301,6 +303,7 @@ const TABLES: &[(&str, Source, Ask)] = &[
             FinderAsk::Find(0x1008, NOT_INDEXED, 0),
             FinderAsk::Find(0x1009, Step::Error(Error::TypeNotFound(0x1009)), 0),
             FinderAsk::Find(0x74, Item(0x74, 0xffff), 0),
+            FinderAsk::Bytes(0x74, b"\xff\xff"),
             FinderAsk::Shown(&[1, 2, 3, 4, 5, 6, 7, 8]),
             FinderAsk::Last(0x1008),
             FinderAsk::Find(0x1007, Item(0x1007, 0x1007), 8),
@@ -421,6 +424,7 @@ const TABLES: &[(&str, Source, Ask)] = &[
             OpenAsk::Find(0x1001, Some(LIST_OF_A)),
             OpenAsk::NotFound(0x1002),
             OpenAsk::Len(0x1001, 18),
+            OpenAsk::Bytes(0x74, b"\xff\xff"),
             OpenAsk::Fields(0x1001, Fields::AAndB),
         ]),
     ),
@@ -557,6 +561,11 @@ pub(super) fn is_long(answer: Answer<Type<'_>>, len: usize) -> bool {
     item.len() == len && item.is_empty() == (len == 0) && item == copy
 }
 
+/// Whether an item has these bytes.
+pub(super) fn has_bytes(answer: Answer<Type<'_>>, bytes: &[u8]) -> bool {
+    matches!(answer, Ok(item) if item.as_bytes() == bytes)
+}
+
 /// Whether a field is a value of an enumeration with this name and number.
 fn is_enumerate(field: &TypeData<'_>, name: &[u8], number: u16) -> bool {
     matches!(
@@ -593,6 +602,7 @@ fn finder_answers(
         FinderAsk::Count(reads) => count.get() == *reads,
         FinderAsk::Integer(index) => is_integer(alloc, finder.find(TypeIndex(*index))),
         FinderAsk::Len(index, len) => is_long(finder.find(TypeIndex(*index)), *len),
+        FinderAsk::Bytes(index, bytes) => has_bytes(finder.find(TypeIndex(*index)), bytes),
         FinderAsk::Fields(index, want) => {
             has_fields(&finder.fields(alloc, TypeIndex(*index)), want)
         }

@@ -10,16 +10,16 @@ returns-in-Err c =
 pub returns-then-kind-eq-LF_FIELDLIST : goal.returns-then-kind-eq-LF_FIELDLIST
 returns-then-kind-eq-LF_FIELDLIST c =
     let leaf = rw c.from-buffer.ensures at c.in-Ok.ensures.read in
-    list_record c.args.bytes.now (left c.parse_u16.new.self) (left c.skip_field_list.new.buffer) c.in-Ok.kind
-    c.skip_field_list.result c.args.row.now _ c.write_list_row.result leaf c.if-kind-eq-LF_FIELDLIST.true
-    c.skip_field_list.ensures.read c.write_list_row.ensures
+    list_record c.args.bytes.now (left c.parse_u16.new.self) c.in-Ok.kind _ c.args.row.now _ c.write_list_row.result
+    leaf c.if-kind-eq-LF_FIELDLIST.true refl
+    (c.write_list_row.ensures (left c.skip_field_list.new.buffer) _ c.skip_field_list.ensures.read)
 
 pub returns-then-kind-eq-LF_ARGLIST : goal.returns-then-kind-eq-LF_ARGLIST
 returns-then-kind-eq-LF_ARGLIST c =
     let leaf = rw c.from-buffer.ensures at c.in-Ok.ensures.read in
-    arguments_record c.args.bytes.now (left c.parse_u16.new.self) (left c.skip_arguments.new.buffer) c.in-Ok.kind
-    c.skip_arguments.result c.args.row.now _ c.write_arguments_row.result leaf c.if-kind-eq-LF_ARGLIST.true
-    c.skip_arguments.ensures c.write_arguments_row.ensures
+    arguments_record c.args.bytes.now (left c.parse_u16.new.self) c.in-Ok.kind _ c.args.row.now _
+    c.write_arguments_row.result leaf c.if-kind-eq-LF_ARGLIST.true refl
+    (c.write_arguments_row.ensures (left c.skip_arguments.new.buffer) _ c.skip_arguments.ensures)
 
 pub returns : goal.returns
 returns c =

@@ -1,13 +1,9 @@
 -- Past the last status no refusal is told.
-use Rattle.std.proofs.Common.{ap, sym, arith, ℕ, Option, None}
+use Rattle.std.proofs.Common.{ap, sym, arith, Option, None}
 use Rattle.std.specs.Option.{option_map_or}
-use Rattle.pdb_handles.specs.Told.{RefusalByNumbers, candidate, tellings}
 use Rattle.std.proofs.lemmas.Option.{slice_get_past}
+use Rattle.pdb_handles.specs.Told.{RefusalByNumbers, tellings}
 use Rattle.pdb_handles.proofs.told.candidate.Goals as goal
-
-pub returns-in-2 : goal.returns-in-2
-returns-in-2 c = ap (λ (s : ℕ). candidate (record { status = s; first = c.args.first; second = c.args.second }))
-    (sym c.in-2.is)
 
 pub returns-then-status-gt28 : goal.returns-then-status-gt28
 returns-then-status-gt28 c =

@@ -1,12 +1,13 @@
-use Rattle.std.proofs.Common.{arith, refl}
-use Rattle.pdb_handles.proofs.WalkedLemmas.{told_behind, written_all, written_more}
+use Rattle.std.proofs.Common.{◌≡◌, arith, refl, None}
+use Rattle.std.proofs.lemmas.Grind.{common_steps}
+use Rattle.pdb_handles.proofs.WalkedLemmas.{stays, told_behind, written_more}
 use Rattle.pdb_handles.proofs.walked.write_next.Goals as goal
 
 pub returns-in-Ok-None : goal.returns-in-Ok-None
 returns-in-Ok-None c =
-    written_all c.args.rows.now c.loop-at.rows c.args.kept.now c.loop-at.kept c.step.new.self c.loop-at.at _
-    (omega arith) c.loop-at.auto.rows c.loop-at.invariant
-    (rw c.in-Ok-None.field-0-is at c.in-Ok-None.ensures.place) c.status.ensures
+    let step = rw c.in-Ok-None.field-0-is at c.in-Ok-None.ensures.place in
+    let there : c.step.new.self ≡ c.loop-at.kept = (stays c.loop-at.kept (None, c.step.new.self) step).1 refl in
+    rw there (grind (arith, common_steps, step))
 
 pub loop-at-preserved : goal.loop-at-preserved
 loop-at-preserved c =

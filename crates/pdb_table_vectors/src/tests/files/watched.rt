@@ -176,15 +176,20 @@ const ROWS: &[Row] = &[
     ),
 ];
 
-/// Whether an error is that of the source, with its kind and its text unchanged.
-pub(crate) fn is_gone(alloc: Global, error: &Error) -> bool {
+/// Whether an error is that of the source, with this kind and its text unchanged.
+fn is_fault(alloc: Global, error: &Error, kind: ErrorKind) -> bool {
     match error {
         Error::IoError(fault) => {
-            fault.kind() == ErrorKind::PermissionDenied
+            fault.kind() == kind
                 && matches!(fault.to_string(alloc), Ok(text) if text.as_str() == GONE)
         }
         _ => false,
     }
+}
+
+/// Whether an error is that of the source, with its kind and its text unchanged.
+pub(crate) fn is_gone(alloc: Global, error: &Error) -> bool {
+    is_fault(alloc, error, ErrorKind::PermissionDenied)
 }
 
 /// Whether a call answers so many bytes, or the error of the source.
@@ -289,6 +294,111 @@ fn is_consumed_by(alloc: Global, n: u64, want: &[&[(u64, usize)]]) -> pdb_base::
 fn watched_to_the_end(rt: HostRuntime) -> Result<(), Fail> {
     for (n, views) in CONSUMED {
         assert!(rt; is_consumed_by(rt.alloc(), *n, views)?, "view {n}");
+    }
+    Ok(())
+}
+
+/// A watched source of which one view is interrupted.
+#[derive(Drop)]
+struct InterruptedSource<'n>(Watched<'n>);
+
+impl<'n> Source for InterruptedSource<'n> {
+    ghost use Rattle.std.specs.Prelude.{Some};
+    ghost use Rattle.std.specs.declared.io.ErrorKind.TheVariants.{Interrupted};
+
+    ghost state = { λ source. record (state_of source.0.source) { last_fault = Some Interrupted } };
+
+    fn view(&mut self, alloc: Global, slices: &[SourceSlice]) -> io::Result<ReadView> {
+        match self.0.view(alloc, slices) {
+            Ok(view) => Ok(view),
+            Err(error) => match error.kind() {
+                ErrorKind::UnexpectedEof | ErrorKind::OutOfMemory => Err(error),
+                _ => Err(io::Error::new(ErrorKind::Interrupted, GONE)),
+            },
+        }
+    }
+}
+
+/// The view that is interrupted, and the views of a call for all of stream 2, of which none is
+/// repeated.
+const INTERRUPTED: &[(u64, &[&[(u64, usize)]])] = &[
+    (1, &[OPENING]),
+    (2, &[OPENING, LOCATION]),
+    (3, &[OPENING, LOCATION, OF_DIRECTORY]),
+    (4, &[OPENING, LOCATION, OF_DIRECTORY, OF_STREAM_2]),
+];
+
+/// The views of such a call where the source ends in page 12.
+const ENDED: &[&[(u64, usize)]] = &[OPENING, LOCATION, OF_DIRECTORY, OF_STREAM_2];
+
+/// Returns the error at which a call for stream 2 fails, which consumes the file or not.
+fn error_of<S: Source + Drop>(alloc: Global, source: S, is_consumed: bool) -> Option<Error> {
+    match open_msf(alloc, source) {
+        Ok(file) if is_consumed => file.into_stream(alloc, 2, None).err(),
+        Ok(mut file) => file.get(alloc, 2, None).err(),
+        Err(error) => Some(error),
+    }
+}
+
+/// Whether such a call fails with the error of the source if this view is interrupted.
+fn is_interrupted(
+    alloc: Global,
+    n: u64,
+    is_consumed: bool,
+    notes: &mut Vec<Note>,
+) -> pdb_base::Result<bool> {
+    let source = InterruptedSource(Watched::new(file(alloc)?, n, notes));
+    let error = error_of(alloc, source, is_consumed);
+    Ok(matches!(error, Some(error) if is_fault(alloc, &error, ErrorKind::Interrupted)))
+}
+
+/// Whether it does, by these views alone.
+fn is_interrupted_at(
+    alloc: Global,
+    n: u64,
+    is_consumed: bool,
+    want: &[&[(u64, usize)]],
+) -> pdb_base::Result<bool> {
+    let mut notes = Vec::new(alloc);
+    let is_interrupted = is_interrupted(alloc, n, is_consumed, &mut notes)?;
+    Ok(is_interrupted && are_views(&notes, want))
+}
+
+#[test]
+fn interrupted_views(rt: HostRuntime) -> Result<(), Fail> {
+    for (n, views) in INTERRUPTED {
+        for is_consumed in [false, true] {
+            assert!(rt;
+                is_interrupted_at(rt.alloc(), *n, is_consumed, views)?,
+                "view {n}, consumed: {is_consumed}"
+            );
+        }
+    }
+    Ok(())
+}
+
+/// Whether such a call fails with the error of a source that ends in page 12.
+fn is_ended(alloc: Global, is_consumed: bool, notes: &mut Vec<Note>) -> pdb_base::Result<bool> {
+    let mut bytes = file(alloc)?;
+    bytes.truncate(12 * PAGE_SIZE + 1);
+    let error = error_of(alloc, Watched::new(bytes, 0, notes), is_consumed);
+    Ok(matches!(error, Some(error) if is_fault(alloc, &error, ErrorKind::UnexpectedEof)))
+}
+
+/// Whether it does, by the views that lead there alone.
+fn is_ended_at(alloc: Global, is_consumed: bool) -> pdb_base::Result<bool> {
+    let mut notes = Vec::new(alloc);
+    let is_ended = is_ended(alloc, is_consumed, &mut notes)?;
+    Ok(is_ended && are_views(&notes, ENDED))
+}
+
+#[test]
+fn ended_views(rt: HostRuntime) -> Result<(), Fail> {
+    for is_consumed in [false, true] {
+        assert!(rt;
+            is_ended_at(rt.alloc(), is_consumed)?,
+            "consumed: {is_consumed}"
+        );
     }
     Ok(())
 }

@@ -12,11 +12,9 @@ use Rattle.pdb_handles.proofs.held.Held.into_parts.Code as code
 use Rattle.pdb_handles.proofs.HeldSteps.{inside, inside_is, PartsRow, pair, held_tells, ptr_typed, alloc_typed}
 use Rattle.pdb_handles.proofs.HeldSteps.{pair_typed}
 
-abbrev stayed : Stays f.ended.signature.params f.ended.kept
-stayed = (stay_dropped _ yes, tt)
-
 pub into_parts_spec : {M : Type 1} → statement M
 into_parts_spec 𝓤 𝓛 𝓜 𝓡 wired =
+    let stayed : Stays f.ended.signature.params f.ended.kept = (stay_dropped _ yes, tt) in
     let c = f.clauses 𝓛 𝓜.mem 𝓡.returns in let W = walk_of 𝓛 f.ended stayed c in
     proved 𝓛 f.ended stayed c 𝓜 𝓡 (Goes-dropped 𝓛 0 (plain (λ _. held.the_row)) yes (λ κs x w. refl), tt)
     f.Key.name code.function (code.unfolded 𝓤 𝓛.H 𝓜 𝓡 wired)

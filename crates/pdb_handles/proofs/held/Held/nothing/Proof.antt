@@ -12,11 +12,9 @@ use Rattle.pdb_handles.proofs.held.Held.nothing.Statement.{statement}
 use Rattle.pdb_handles.proofs.held.Held.nothing.Code as code
 use Rattle.pdb_handles.proofs.HeldSteps.{pair, alloc_typed, pair_typed}
 
-abbrev stayed : Stays f.ended.signature.params f.ended.kept
-stayed = (stay_dropped _ yes, tt)
-
 pub nothing_spec : {M : Type 1} → statement M
 nothing_spec 𝓤 𝓛 𝓜 𝓡 wired =
+    let stayed : Stays f.ended.signature.params f.ended.kept = (stay_dropped _ yes, tt) in
     let c = f.clauses 𝓛 𝓜.mem 𝓡.returns in let W = walk_of 𝓛 f.ended stayed c in
     proved 𝓛 f.ended stayed c 𝓜 𝓡 (Goes-dropped 𝓛 0 (plain (λ _. global.the_row)) yes (λ κs x w. refl), tt)
     f.Key.name code.function (code.unfolded 𝓤 𝓛.H 𝓜 𝓡 wired)
