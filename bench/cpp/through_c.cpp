@@ -19,7 +19,7 @@ template <class Handle> struct Opened {
 
 // What a call sums up over numbers, as many at a time as fit in its array.
 template <class Found, class Call> uint64_t for_each_batch(const Numbers &numbers, uint32_t turns, Call call) {
-  Found found[64];
+  Found found[256];
   uint64_t sum = 0;
   for (uint32_t turn = 0; turn < turns; turn++)
     for (size_t at = 0; at < numbers.size(); at += std::size(found))
@@ -78,9 +78,11 @@ uint64_t border_names(const Bytes &stream, const Numbers &offsets, uint32_t turn
   Opened<pdb_names> names(pdb_names_open, stream);
   return for_each_batch<pdb_name>(offsets, turns, [&](const uint32_t *some, size_t length, pdb_name *found) {
     pdb_names_places(&names.handle, some, length, found, length, &length, &names.fault);
-    uint64_t sum = 0;
-    for (size_t at = 0; at < length; at++)
-      sum += found[at].length + (found[at].offset > 0);
-    return sum;
+    uint64_t lengths = 0, count = 0;
+    for (size_t at = 0; at < length; at++) {
+      lengths += found[at].length;
+      count += found[at].offset > 0;
+    }
+    return lengths + count;
   });
 }
