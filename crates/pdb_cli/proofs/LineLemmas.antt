@@ -1,7 +1,7 @@
 -- Lines of hexadecimal digits, one after another.
 use Rattle.std.specs.Int.{div_ceil}
 use Rattle.std.proofs.Common.{◌≡◌, ℕ, ◌+◌, ◌-◌, ◌*◌, ◌^◌, ◌<◌, ◌≤◌, List, [], ◌∷◌, ◌++◌, length, map, replicate, take}
-use Rattle.std.proofs.Common.{drop, get_or, false, sym, ap, ◌∙◌, arith, min, Option, Bor}
+use Rattle.std.proofs.Common.{drop, false, sym, ap, ◌∙◌, arith, min, Option}
 use Rattle.std.specs.Global.{Vec}
 use Rattle.std.specs.Option.{option_map}
 use Rattle.std.specs.Fmt.{padded_integral, format_spec}
@@ -9,10 +9,10 @@ use Rattle.std.specs.List.{flat_map, range_with_len}
 use Rattle.std.proofs.lemmas.Grind.{flat_map-append}
 use Rattle.std.proofs.lemmas.List.Folds.{flat_map-map}
 use Rattle.std.proofs.Math.Seq.{take-append_seam, drop-append_seam}
-use Rattle.std.proofs.lemmas.List.{append-nil, take_more, take_all, map-id, take_min, drop_min, drop-drop, length-drop}
+use Rattle.std.proofs.lemmas.List.{append-nil, take_all, map-id, take_min, drop_min, drop-drop, length-drop}
 use Rattle.std.proofs.lemmas.List.FromFn.{map-range_with_len_more}
 use Rattle.pdb_base.proofs.lemmas.Padding.{padded_with_zeros}
-use Rattle.pdb_cli.specs.Lines.{line, hex_line, hex_lines, line_of, name_text, name_lines}
+use Rattle.pdb_cli.specs.Lines.{line, hex_line, line_of, name_text, name_lines}
 
 range_more : (n : ℕ) → range_with_len 0 (n + 1) ≡ range_with_len 0 n ++ n ∷ []
 range_more n =
@@ -47,14 +47,6 @@ pub line_left : (all : List ℕ) (n : ℕ) → 0 < length (drop (32 * n) all) �
     → n + 1 ≤ div_ceil (length all) 32
 line_left all n some most = omega (arith, some, most, length-drop (32 * n) all)
 
--- and where nothing is left, those are all
-pub no_line_left : (all : List ℕ) (n : ℕ) → length (drop (32 * n) all) ≡ 0 → n ≤ div_ceil (length all) 32
-    → lines_to all n ≡ hex_lines all
-unfolding hex_lines
-no_line_left all n none most =
-    let same : n ≡ div_ceil (length all) 32 = omega (arith, none, most, length-drop (32 * n) all) in
-    ap (lines_to all) same
-
 -- what `{:04x}` writes
 pub four_digits : (digits : List ℕ) → padded_integral (format_spec 32 0 4 4 (2 ^ 64 - 1)) false [] digits
     ≡ replicate (4 - length digits) 48 ++ digits
@@ -63,20 +55,6 @@ four_digits digits = padded_with_zeros digits
 -- the line of a name that a reply holds
 abbrev pub held_line : Option (Vec ℕ) → List ℕ
 held_line name = line (name_text (option_map (λ copy. copy.items) name))
-
--- one line more
-pub name_line_more : (names : List (Option (Vec ℕ))) (i : ℕ) (d : Option (Vec ℕ)) (so_far out : List ℕ)
-    (shown : Option (Bor (List ℕ))) → i < length names → so_far ≡ flat_map held_line (take i names)
-    → option_map (λ text. text.now) shown ≡ option_map (λ copy. copy.items) (get_or names i d) → out ≡ so_far
-    ++ line (name_text (option_map (λ text. text.now) shown)) → out ≡ flat_map held_line (take (i + 1) names)
-name_line_more names i d so_far out shown within is same more =
-    more
-    ∙ ap (λ (front : List ℕ). front ++ line (name_text (option_map (λ text. text.now) shown))) is
-    ∙ ap (λ (name : Option (List ℕ)). flat_map held_line (take i names) ++ line (name_text name)) same
-    ∙ ap (λ (last : List ℕ). flat_map held_line (take i names) ++ last)
-    (sym (append-nil (held_line (get_or names i d))))
-    ∙ sym (flat_map-append held_line (take i names) (get_or names i d ∷ []))
-    ∙ ap (flat_map held_line) (sym (take_more names i d within))
 
 -- and the lines of all names
 pub name_lines_whole : (names : List (Option (Vec ℕ))) (i : ℕ) (out : List ℕ) → length names ≤ i

@@ -3,10 +3,9 @@ use Rattle.std.proofs.Common.{◌≡◌, ℕ, ◌+◌, ◌*◌, ◌<◌, ◌≤�
 use Rattle.std.proofs.Common.{length, get_or, take, refl, sym, ap, ◌∙◌, arith, Some, None}
 use Rattle.std.specs.Char.{digit_value}
 use Rattle.std.specs.Str.Parse.{digits_value}
-use Rattle.std.proofs.lemmas.Bool.{lt-ltb, le-ltb, le-leb, lt-leb}
-use Rattle.std.proofs.lemmas.List.{take_more, take_all}
+use Rattle.std.proofs.lemmas.Bool.{lt-ltb, lt-leb}
+use Rattle.std.proofs.lemmas.List.{take_more}
 use Rattle.std.proofs.lemmas.List.Folds.{list_all-append}
-use Rattle.std.proofs.lemmas.List.Recursion.{and_fails_at}
 use Rattle.std.proofs.lemmas.Int.Digits.{digits_value_more}
 use Rattle.std.proofs.lemmas.Str.Parse.{digits_value-take-le}
 use Rattle.pdb_cli.specs.Words.{are_digits, number_in_digits}
@@ -29,18 +28,10 @@ read_more base digits i value within read digit =
           ∙ rw (read.all, here) refl;
     }
 
-after_and : (b : Bool) (x : ℕ) → cond (b && false) (Some x) None ≡ None
-after_and true x = refl
-after_and false x = refl
-
 after_and2 : (b c : Bool) (x : ℕ) → cond (b && (c && false)) (Some x) None ≡ None
 after_and2 true true x = refl
 after_and2 true false x = refl
 after_and2 false c x = refl
-
-not_all : (base most : ℕ) (digits : List ℕ) → are_digits base digits ≡ false → number_in_digits base most digits ≡ None
-unfolding number_in_digits
-not_all base most digits none = rw none (after_and (ltb 0 (length digits) && leb (length digits) most) _)
 
 not_small : (base most : ℕ) (digits : List ℕ) → leb (digits_value base digits) 0xffffffff ≡ false
     → number_in_digits base most digits ≡ None
@@ -48,32 +39,9 @@ unfolding number_in_digits
 not_small base most digits none = rw none
     (after_and2 (ltb 0 (length digits) && leb (length digits) most) (are_digits base digits) _)
 
--- a byte that is no digit spells no number
-pub no_digit : (base most : ℕ) (digits : List ℕ) (i : ℕ) → i < length digits → base ≤ digit_value (get_or digits i 0)
-    → number_in_digits base most digits ≡ None
-no_digit base most digits i within above =
-    let here : ltb (digit_value (get_or digits i 0)) base ≡ false = le-ltb _ _ above in
-    let none : are_digits base digits ≡ false =
-    and_fails_at (are_digits base) (λ c. ltb (digit_value c) base) refl (λ _ _. refl) digits i 0 within here in
-    not_all base most digits none
-
 -- nor do digits whose number is too large already
 pub too_large : (base most : ℕ) (digits : List ℕ) (i : ℕ) → 1 ≤ base → 0xffffffff < digits_value base (take i digits)
     → number_in_digits base most digits ≡ None
 too_large base most digits i positive large =
     let le = digits_value-take-le base digits i positive in
     not_small base most digits (lt-leb (digits_value base digits) 0xffffffff (omega arith))
-
--- digits that were all read, and whose number fits, spell it
-pub is_number : (base most : ℕ) (digits : List ℕ) (i value : ℕ) → 0 < length digits → length digits ≤ most
-    → length digits ≤ i → HasRead base digits i value → value ≤ 0xffffffff → number_in_digits base most digits
-    ≡ Some value
-unfolding number_in_digits
-is_number base most digits i value some few whole read fits =
-    let end = take_all i digits whole in
-    let all : are_digits base digits ≡ true = ap (are_digits base) (sym end) ∙ read.all in
-    let number : digits_value base digits ≡ value = ap (digits_value base) (sym end) ∙ sym read.value_is in
-    let a = lt-ltb 0 (length digits) some in
-    let b = le-leb (length digits) most few in
-    let c = le-leb value 0xffffffff fits in
-    rw (all, a, b, number, c) refl

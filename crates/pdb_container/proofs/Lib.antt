@@ -1,3 +1,2 @@
 pub mod lemmas
 pub mod RunLemmas
-pub mod TableLemmas

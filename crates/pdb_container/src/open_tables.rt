@@ -121,6 +121,7 @@ pub struct OpenTables {
 
 impl OpenTables {
     /// Answers a query from the table that it is about, which is opened if it is not open yet.
+    #[tactic(auto, unfolding(crate::specs::Reply::type_within, crate::specs::Reply::id_within, crate::specs::Reply::fields_within, crate::specs::Reply::name_within, crate::specs::Reply::moved_within, crate::specs::OpenTables::items_in))]
     fn attempt<F: ReadStreams>(
         &mut self,
         alloc: Global,

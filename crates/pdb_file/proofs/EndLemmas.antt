@@ -1,9 +1,9 @@
 -- What is refused only since the bytes end too soon.
-use Rattle.std.proofs.Common.{◌≡◌, ℕ, Bool, true, false, ◌*◌, ◌/◌, List, [], ◌∷◌, length, take, drop, map, refl, sym}
+use Rattle.std.proofs.Common.{◌≡◌, ℕ, ◌*◌, ◌/◌, List, [], ◌∷◌, length, take, drop, map, refl, sym}
 use Rattle.std.proofs.Common.{ap, ◌∙◌, inl, inr, Ok, Err, Result}
 use Rattle.std.proofs.lemmas.Bool.{cases_lt}
 use Rattle.std.specs.List.{range_with_len}
-use Rattle.pdb_base.specs.Answer.{Answer, ◌>>=◌, values_of_all, ok_if}
+use Rattle.pdb_base.specs.Answer.{Answer, ◌>>=◌, values_of_all}
 use Rattle.pdb_base.specs.Endian.{little_number}
 use Rattle.pdb_base.specs.Reading.{front_at, number_at}
 use Rattle.pdb_base.specs.Refusal.{refusal_of, unexpected_eof}
@@ -13,7 +13,6 @@ use Rattle.pdb_base.proofs.lemmas.Collected.{err_is, ok_is_no_err}
 use Rattle.pdb_base.proofs.lemmas.Reading.{front_whole, front_cut, number_whole, number_cut}
 use Rattle.pdb_space.specs.StringTable.{name_of}
 use Rattle.pdb_space.proofs.NameLemmas.{finds_name}
-use Rattle.pdb_file.specs.Information.{information_of}
 use Rattle.pdb_file.specs.StreamNames.{Map, behind_set, entries_at, map_of, named_at, named_in, stream_names_of}
 use Rattle.pdb_file.specs.declared.information.PDBInformation.{PDBInformation}
 use Rattle.pdb_file.specs.Laws.{EndsTooSoon}
@@ -38,10 +37,6 @@ number_ends width bytes e h = elim (cases_lt (length bytes) width) [
   | inr long ↦ absurd (ok_is_no_err (little_number width (take width bytes), drop width bytes) e
       (sym (number_whole width bytes long) ∙ h))
 ]
-
-pub required_ends : (test : Bool) → EndsTooSoon (ok_if test unexpected_eof)
-required_ends true e h = absurd (ok_is_no_err tt e h)
-required_ends false e h = sym (err_is {A = Unit {0}} unexpected_eof e h)
 
 name_ends : (names : List ℕ) (offset : ℕ) → EndsTooSoon (name_of names offset)
 name_ends names offset e h = ((finds_name names offset).missing e h).0
@@ -92,10 +87,6 @@ all_named_end table = collected_ends (named_at table) (range_with_len 0 (length 
 pub names_end : (information : PDBInformation) → EndsTooSoon (stream_names_of information)
 unfolding stream_names_of
 names_end information = then_ends (map_of information) named_in (map_ends information) all_named_end
-
-pub information_ends : (stream : List ℕ) → EndsTooSoon (information_of stream)
-unfolding information_of
-information_ends stream = then_ends (ok_if _ unexpected_eof) _ (required_ends _) (λ whole. ok_ends _)
 
 -- no want of memory comes before the names are there
 pub no_want_before : (information : PDBInformation) (e : Error) → e ≡ OutOfMemory

@@ -85,9 +85,6 @@ features_in_more bytes long other = features_in_first bytes false long (ne_eqb (
 abbrev pub ToldFrom : List ℕ → ℕ → Features → Type 0
 ToldFrom bytes place told = features_in bytes ≡ both told (features_in (drop (4 * place) bytes))
 
-pub told_from_start : (bytes : List ℕ) → ToldFrom bytes 0 none
-told_from_start bytes = refl
-
 behind_number : (bytes : List ℕ) (place : ℕ) → drop 4 (drop (4 * place) bytes) ≡ drop (4 * (place + 1)) bytes
 behind_number bytes place =
     let next : 4 * place + 4 ≡ 4 * (place + 1) = omega arith in

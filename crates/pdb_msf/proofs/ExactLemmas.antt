@@ -4,30 +4,10 @@ use Rattle.std.proofs.lemmas.Bool.{cases_lt}
 use Rattle.std.specs.List.{range_with_len}
 use Rattle.pdb_base.specs.declared.error.Error.{Error}
 use Rattle.pdb_base.specs.Refusal.{refusal_of}
-use Rattle.pdb_base.specs.Answer.{Answer, ◌>>=◌, values_of_all}
+use Rattle.pdb_base.specs.Answer.{Answer, values_of_all}
 use Rattle.pdb_base.proofs.lemmas.Collected.{bind_ok}
 use Rattle.pdb_msf.specs.Exactly.{RefusesExactly}
 use Rattle.pdb_msf.specs.Pages.{page_number, page_numbers}
-
--- where a value is meant, nothing has to be refused
-pub exactly_ok : {X A : Type 0} (result : Result X Error) (meant : Answer A) (x : A) → meant ≡ Ok x
-    → RefusesExactly result meant
-exactly_ok result meant x is = rw is tt
-
-pub exactly_err : (X : Type 0) {A : Type 0} (e : Error) (meant : Answer A) → meant ≡ Err (refusal_of e)
-    → RefusesExactly (let r : Result X Error = Err e in r) meant
-exactly_err X e meant is = rw is refl
-
--- what was answered refused nothing before, whatever the whole call then answers
-pub exactly_passed : {X Y A : Type 0} (part : X) (result : Result Y Error) (meant : Answer A)
-    → RefusesExactly (let r : Result X Error = Ok part in r) meant → RefusesExactly result meant
-exactly_passed part result (Ok x) exact = tt
-exactly_passed part result (Err e) exact = absurd exact
-
--- the refusal of a first step is that of all
-pub exactly_then : {X A B : Type 0} (result : Result X Error) (first : Answer A) (x : A) (more : A → Answer B)
-    → first ≡ Ok x → RefusesExactly result (more x) → RefusesExactly result (first >>= more)
-exactly_then result first x more is exact = rw is exact
 
 first_of_all : {A : Type 0} (f : ℕ → Answer A) (i : ℕ) (xs : List A) → 0 < i
     → values_of_all (map f (range_with_len 0 i)) ≡ Ok xs → (x : A) × (f 0 ≡ Ok x)

@@ -1,20 +1,18 @@
 -- The positions of whole pages, by the index of each byte.
-use Rattle.std.proofs.Common.{◌≡◌, ℕ, ◌+◌, ◌*◌, ◌/◌, ◌%◌, ◌<◌, ◌≤◌, List, [], ◌∷◌, ◌++◌, length, get_or, take, map, sym}
-use Rattle.std.proofs.Common.{ap, ◌∙◌, arith, slice_index, length-append, ◌^◌, inl, inr, Result, Ok, Err, Some, None}
+use Rattle.std.proofs.Common.{◌≡◌, ℕ, ◌+◌, ◌*◌, ◌/◌, ◌%◌, ◌<◌, ◌≤◌, List, [], ◌∷◌, length, get_or, take, map, sym}
+use Rattle.std.proofs.Common.{ap, ◌∙◌, arith, slice_index, length-append, ◌^◌, inl, inr, Ok, Some, None}
 use Rattle.std.proofs.Common.{Bool, cond, ltb, subst}
 use Rattle.std.specs.List.{flat_map, list_all, range_with_len}
 use Rattle.std.proofs.Math.Nat.{mod-lt}
 use Rattle.std.proofs.lemmas.Bool.{cases_Bool, cases_lt}
 use Rattle.std.proofs.lemmas.Nat.{div-add-mod', div_below, mul-le}
-use Rattle.std.proofs.lemmas.Grind.{flat_map-append, div_ceil_times}
-use Rattle.std.proofs.lemmas.List.{append-nil, get_or-take, length-take, take_more, length-take-le, ext_get_or}
+use Rattle.std.proofs.lemmas.Grind.{div_ceil_times}
+use Rattle.std.proofs.lemmas.List.{get_or-take, length-take, length-take-le, ext_get_or}
 use Rattle.std.proofs.lemmas.List.{length-map}
 use Rattle.std.proofs.lemmas.List.FromFn.{length-range_with_len, get_or-map-range_with_len, get_or-range_with_len}
 use Rattle.std.proofs.lemmas.List.FromFn.{length-map-range_with_len}
 use Rattle.std.proofs.lemmas.List.Concat.{get_or-flat_map}
-use Rattle.std.specs.Prelude.{IsTrue, IfOk}
-use Rattle.pdb_base.specs.declared.error.Error.{Error}
-use Rattle.pdb_base.specs.Answer.{AnswersUnless}
+use Rattle.std.specs.Prelude.{IsTrue}
 use Rattle.std.proofs.lemmas.Bool.Decides.{nat_tests}
 use Rattle.pdb_msf.specs.Header.{is_page_size}
 use Rattle.pdb_msf.specs.PageList.{page_positions}
@@ -34,16 +32,6 @@ length-all_positions page_size (number ∷ numbers) =
     let rest = length-all_positions page_size numbers in
     length-append (page_positions page_size number) (all_positions page_size numbers)
     ∙ omega (arith, rest, length-range_with_len (number * page_size) page_size)
-
--- one page more
-pub all_positions_more : (page_size : ℕ) (numbers : List ℕ) (i : ℕ) (d : ℕ) → i < length numbers
-    → all_positions page_size (take (i + 1) numbers) ≡ all_positions page_size (take i numbers)
-    ++ page_positions page_size (get_or numbers i d)
-all_positions_more page_size numbers i d within =
-    ap (all_positions page_size) (take_more numbers i d within)
-    ∙ flat_map-append (page_positions page_size) (take i numbers) (get_or numbers i d ∷ [])
-    ∙ ap (λ (r : List ℕ). all_positions page_size (take i numbers) ++ r)
-    (append-nil (page_positions page_size (get_or numbers i d)))
 
 -- byte i lies in page i / page_size, at i % page_size
 position_by_index : (page_size : ℕ) (numbers : List ℕ) (i : ℕ) → 0 < page_size → i < length numbers * page_size
@@ -135,8 +123,3 @@ length_found file at bytes e = elim (cases_Bool (list_all (λ place. ltb place (
   | inr none ↦ absurd (let shown : bytes_or_eof None ≡ Ok bytes =
       subst (λ (b : Bool). bytes_or_eof (cond b (Some (map (slice_index file) at)) None) ≡ Ok bytes) none e in cc)
 ]
-
-pub length_viewed : (failed : Type 0) (file at : List ℕ) (size : ℕ) (result : Result (List ℕ) Error) → length at ≡ size
-    → AnswersUnless failed (λ v. v) result (bytes_or_eof (bytes_at file at)) → IfOk result (λ v. length v ≡ size)
-length_viewed failed file at size (Ok bytes) sized answered = length_found file at bytes answered ∙ sized
-length_viewed failed file at size (Err e) sized answered = tt

@@ -1,16 +1,15 @@
 -- Reading numbers from bytes, and the words that bytes spell.
 use Rattle.std.proofs.Common.{◌≡◌, ℕ, zero, suc, ◌+◌, ◌*◌, ◌<◌, ◌≤◌, List, [], ◌∷◌, length, take, drop, refl, sym, ap}
-use Rattle.std.proofs.Common.{◌∙◌, arith, Some, None, Ok, Err, inl, inr}
-use Rattle.std.proofs.lemmas.Bool.{cases_lt}
+use Rattle.std.proofs.Common.{◌∙◌, arith, Some, None, Ok, Err}
 use Rattle.std.specs.List.{slice_get, sum_by}
 use Rattle.std.proofs.lemmas.List.{drop-drop}
 use Rattle.std.proofs.lemmas.Option.{slice_get_within, get_or_from_slice_get}
 use Rattle.std.proofs.lemmas.List.Sums.{sum_by_more}
 use Rattle.pdb_base.specs.Endian.{little_number}
 use Rattle.pdb_base.specs.Refusal.{Refusal, unexpected_eof}
-use Rattle.pdb_base.proofs.lemmas.Collected.{ok_is, err_is, ok_is_no_err}
+use Rattle.pdb_base.proofs.lemmas.Collected.{ok_is, ok_is_no_err}
 use Rattle.pdb_base.specs.Reading.{front_at, number_at}
-use Rattle.pdb_base.proofs.lemmas.Reading.{front_whole, front_cut, number_whole}
+use Rattle.pdb_base.proofs.lemmas.Reading.{number_whole}
 use Rattle.pdb_msf.specs.Pages.{words}
 
 -- ---- one word
@@ -72,34 +71,6 @@ length-words (a ∷ b ∷ []) = (omega arith, omega arith)
 length-words (a ∷ b ∷ c ∷ []) = (omega arith, omega arith)
 length-words (a ∷ b ∷ c ∷ d ∷ rest) = let more = length-words rest in (omega (arith, more.0), omega (arith, more.1))
 
--- so many words are skipped just where there are so many
-pub words_skipped : (count : ℕ) (bytes : List ℕ) (x : List ℕ × List ℕ) → front_at (4 * count) bytes ≡ Ok x
-    → (count ≤ length (words bytes)) × (words x.1 ≡ drop count (words bytes))
-words_skipped count bytes x e =
-    let bounds = length-words bytes in
-    elim (cases_lt (length bytes) (4 * count)) [
-      | inl short ↦ absurd (ok_is_no_err x unexpected_eof (sym e ∙ front_cut (4 * count) bytes short))
-      | inr long ↦ (
-        omega (arith, bounds.0, bounds.1),
-        sym (ap (λ (p : List ℕ × List ℕ). words p.1)
-            (ok_is (take (4 * count) bytes, drop (4 * count) bytes) x (sym (front_whole (4 * count) bytes long) ∙ e)))
-            ∙ words-drop count bytes,
-      )
-    ]
-
-pub words_short : (count : ℕ) (bytes : List ℕ) (e : Refusal) → front_at (4 * count) bytes ≡ Err e
-    → (length (words bytes) < count) × (e ≡ unexpected_eof)
-words_short count bytes e h =
-    let bounds = length-words bytes in
-    elim (cases_lt (length bytes) (4 * count)) [
-      | inl short ↦ (
-        omega (arith, bounds.0, bounds.1),
-        err_is e unexpected_eof (sym h ∙ front_cut (4 * count) bytes short),
-      )
-      | inr long ↦ absurd (ok_is_no_err (take (4 * count) bytes, drop (4 * count) bytes) e
-          (sym (front_whole (4 * count) bytes long) ∙ h))
-    ]
-
 -- ---- in turn
 
 slice_get-drop : {X : Type 0} (i : ℕ) (xs : List X) → slice_get (drop i xs) 0 ≡ slice_get xs i
@@ -119,9 +90,6 @@ pub no_word : (all : List ℕ) (i : ℕ) (bytes : List ℕ) (e : Refusal) → wo
 no_word all i bytes e here h =
     let missing = word_missing bytes e h in
     (sym (slice_get-drop i all) ∙ ap (λ (ws : List ℕ). slice_get ws 0) (sym here ∙ missing.0), missing.1)
-
-pub word_within : (all : List ℕ) (i word : ℕ) → slice_get all i ≡ Some word → i < length all
-word_within all i word is = slice_get_within all i word is
 
 pub word_past : (all : List ℕ) (i : ℕ) → slice_get all i ≡ None → length all ≤ i
 word_past [] i is = omega arith

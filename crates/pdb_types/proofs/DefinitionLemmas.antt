@@ -131,14 +131,6 @@ pub record AreNamed (table : Table) (name : TypeName) (entries : List Entry) (k 
   pub are : found ≡ filter (is_definition table name)
       (range_with_len table.header.minimum_index (next - table.header.minimum_index))
 
-pub named_begin : (table : Table) (name : TypeName) (entries : List Entry)
-    → AreNamed table name entries 0 [] table.header.minimum_index
-named_begin table name entries = record {
-  least = omega arith;
-  seen = λ i d below. absurd (omega (arith, below));
-  are = let none : table.header.minimum_index - table.header.minimum_index ≡ 0 = omega arith in rw none refl;
-}
-
 -- an index that has no entry from the next one on is none
 unnamed : (table : Table) (name : TypeName) (entries : List Entry) (k : ℕ) (found : List ℕ) (next : ℕ)
     → AreCandidates table (name_hash name) entries → AreNamed table name entries k found next
@@ -197,22 +189,6 @@ named_none table name entries k x found next are named within here order is =
     let P : Bool → Type 0 = λ b. AreNamed table name entries (k + 1) (found ++ cond b (x ∷ []) []) (x + 1) in
     let Q : List ℕ → Type 0 = λ l. AreNamed table name entries (k + 1) l (x + 1) in
     subst Q (append-nil found) (subst P is (named_more table name entries k x found next are named within here order))
-
--- an index that was seen already
-pub named_seen : (table : Table) (name : TypeName) (entries : List Entry) (k x : ℕ) (found : List ℕ) (next : ℕ)
-    → AreNamed table name entries k found next
-    → ((d : Entry) → (get_or entries k d).index.0 ≡ x) → x < next → AreNamed table name entries (k + 1) found next
-named_seen table name entries k x found next named here order = record {
-  least = named.least;
-  seen = λ i d below. elim (cases_lt i k) as (λ _. (get_or entries i d).index.0 < next) [
-    | inl earlier ↦ named.seen i d earlier
-    | inr last ↦
-        let same : i ≡ k = omega (arith, last, below) in
-        let its = here d in
-        rw same (omega (arith, its, order))
-  ];
-  are = named.are;
-}
 
 -- behind all entries, all were found
 pub named_all : (table : Table) (name : TypeName) (entries : List Entry) (k : ℕ) (found : List ℕ) (next : ℕ)

@@ -1,10 +1,9 @@
 -- The fields of a class, one after another.
-use Rattle.std.proofs.Common.{◌≡◌, ◌⊎◌, inl, inr, ℕ, suc, ◌+◌, ◌<◌, ◌≤◌, List, [], ◌∷◌, ◌++◌, length, get_or, drop, map}
+use Rattle.std.proofs.Common.{◌≡◌, ◌⊎◌, inl, inr, ℕ, suc, ◌+◌, ◌<◌, List, [], ◌∷◌, ◌++◌, length, get_or, drop, map}
 use Rattle.std.proofs.Common.{refl, sym, ap, subst, ◌∙◌, Bool, Option, Some, None, Ok, Err, append_assoc, add-one}
 use Rattle.std.specs.Option.{option_to_list}
 use Rattle.std.specs.List.{cons_option, list_any}
 use Rattle.std.proofs.Math.Seq.{drop-cons}
-use Rattle.std.proofs.Math.ListN.{drop_of_length-le}
 use Rattle.std.proofs.lemmas.List.{append-nil, map-append}
 use Rattle.pdb_base.proofs.lemmas.Collected.{bind_ok, ok, ok_is}
 use Rattle.pdb_base.specs.Answer.{Answer, ◌>>=◌}
@@ -37,10 +36,6 @@ pub record AreFieldsTo (table : Table) (records rest : List TypeValue) (found : 
 behind_none : (fields : Answer (List FieldValue)) → fields ≡ behind [] fields
 behind_none (Ok fields) = refl
 behind_none (Err refusal) = refl
-
-pub fields_begin : (table : Table) (items : List TypeData)
-    → AreFieldsTo table (map type_value items) (map type_value (drop 0 items)) []
-fields_begin table items = record { is = behind_none (field_values_in table (map type_value items)) }
 
 -- the fields from an item on
 items_from : (items : List TypeData) (i : ℕ) (item : TypeData) → i < length items → get_or items i item ≡ item
@@ -112,15 +107,6 @@ fields_refused table records items i item found e so_far within here (inl is) =
     inl (next_is table records items i item found (Err (refusal_of e)) so_far within here
     (refused_one found (field_of table (type_value item)) (refusal_of e) is))
 fields_refused table records items i item found e so_far within here (inr memory) = inr memory
-
--- behind all records
-pub fields_all : (table : Table) (records : List TypeValue) (items : List TypeData) (i : ℕ) (found : List FieldValue)
-    → AreFieldsTo table records (map type_value (drop i items)) found → length items ≤ i
-    → field_values_in table records ≡ Ok found
-fields_all table records items i found so_far past =
-    so_far.is
-    ∙ ap (λ (l : List TypeData). behind found (field_values_in table (map type_value l))) (drop_of_length-le items past)
-    ∙ ap (λ (l : List FieldValue). Ok l) (append-nil found)
 
 -- ---- one field
 

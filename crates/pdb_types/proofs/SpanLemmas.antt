@@ -80,18 +80,6 @@ pub record AreGapsTo (spans : List Span) (end k at : ℕ) (gaps : List Span) : T
   pub some : All (λ gap. gap.start < gap.end) gaps
   pub within : All (λ gap. gap.end ≤ end) gaps
 
-pub gaps_begin : (spans : List Span) (end : ℕ) → AreGapsTo spans end 0 0 []
-gaps_begin spans end = record {
-  free = λ place before within none. absurd (omega (arith, before));
-  taken = λ place before some. absurd (omega (arith, before));
-  beyond = λ place past. refl;
-  ahead = λ place from. refl;
-  over = λ place from. refl;
-  later = λ place i d before none from within. absurd (omega (arith, before));
-  some = All-nil (λ (gap : Span). gap.start < gap.end);
-  within = All-nil (λ (gap : Span). gap.end ≤ end);
-}
-
 abbrev pub next_at : ℕ → ℕ → ℕ → ℕ
 next_at at start end = max (max at start) end
 

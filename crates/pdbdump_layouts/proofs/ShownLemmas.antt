@@ -1,10 +1,8 @@
 -- Steps of showing layouts.
-use Rattle.std.proofs.Common.{◌≡◌, ◌≢◌, ◌⊎◌, ◌∙◌, ap, sym, subst, refl, inl, inr, ℕ, ◌<◌, Bool, true, false, List, []}
-use Rattle.std.proofs.Common.{◌++◌, map, arith, length, ◌∷◌, IfSome, Option, Some, None, Ok, Err, Result, Vec, Global}
-use Rattle.std.proofs.Common.{IfOk, OnOk, IfErr}
+use Rattle.std.proofs.Common.{◌≡◌, ◌≢◌, ◌⊎◌, subst, refl, inl, inr, ℕ, ◌<◌, true, List, []}
+use Rattle.std.proofs.Common.{◌++◌, map, arith, length, ◌∷◌, Some, Ok, Err, Result, Vec, Global}
+use Rattle.std.proofs.Common.{IfOk, OnOk}
 use Rattle.std.specs.List.{list_any}
-use Rattle.std.specs.Io.KnownBytes.{Appends}
-use Rattle.std.proofs.KnownBytes.{Appends-trans}
 use Rattle.std.proofs.lemmas.List.{length-map, map-append}
 use Rattle.std.proofs.lemmas.List.Sorted.{IsPermutation-map}
 use Rattle.std.specs.List.Sorted.{IsPermutation}
@@ -21,13 +19,13 @@ use Rattle.pdb_types.specs.Definition.{all_definitions}
 use Rattle.pdb_base.specs.Refusal.{refusal_of}
 use Rattle.pdbdump_layouts.specs.Classes.{AreClasses, class_layout}
 use Rattle.pdbdump_layouts.specs.Pattern.{is_sign}
-use Rattle.pdbdump_layouts.specs.Shown.{Accounts, AreLayoutsShown, AreNamesMeant, AreTypesNamed, AreTypesShown}
+use Rattle.pdbdump_layouts.specs.Shown.{AreNamesMeant, AreTypesNamed, AreTypesShown}
 use Rattle.pdbdump_layouts.specs.Shown.{HasLayout}
-use Rattle.pdbdump_layouts.specs.Shown.{IsNameMeant, IsStopped, IsMessageTold, IsTypeShown, IsTextWritten, ShowState}
-use Rattle.pdbdump_layouts.specs.Shown.{TellsMessages, by_name}
-use Rattle.pdbdump_layouts.specs.Shown.{by_pattern, is_wanted, member, no_class, nothing, one, refused}
+use Rattle.pdbdump_layouts.specs.Shown.{IsNameMeant, IsStopped, IsMessageTold, IsTypeShown, ShowState}
+use Rattle.pdbdump_layouts.specs.Shown.{by_name}
+use Rattle.pdbdump_layouts.specs.Shown.{by_pattern, is_wanted, member, nothing, refused}
 use Rattle.pdbdump_layouts.specs.Shown.{layout_separator, types}
-use Rattle.pdbdump_layouts.specs.Shown.{unwanted, unwritten, written}
+use Rattle.pdbdump_layouts.specs.Shown.{written}
 use Rattle.pdbdump_layouts.specs.declared.options.Options.{Options}
 use Rattle.pdbdump_layouts.specs.declared.show.Progress.{Progress}
 use Rattle.pdbdump_layouts.specs.declared.show.Rank.{Rank}
@@ -48,14 +46,6 @@ pub named_by : (table : Table) (name : List ℕ) (result : Result (Vec TypeIndex
     → IfOk result (λ types. AreTypesNamed table name (map (λ index. index.0) types.items))
 named_by table name (Ok found) is = subst (AreTypesNamed table name) (ok_is _ _ is) by_name
 named_by table name (Err e) is = tt
-
--- two texts that are written one behind the other
-pub gets_both : (old mid new : OutputState) (first second : List ℕ) → Gets old mid first → Gets mid new second
-    → Gets old new (first ++ second)
-gets_both old mid new first second before other = record {
-  holds = other.holds ∙ before.holds;
-  added = Appends-trans old.contents mid.contents new.contents first second before.added other.added;
-}
 
 -- a call that fails only for memory is stopped only so
 pub stopped_for_memory : {A : Type 0} (out : OutputState) (result : Result A Error) → FailsOnlyForMemory result

@@ -1,7 +1,6 @@
 -- The lines of kinds from a place on.
-use Rattle.std.proofs.Common.{◌≡◌, ℕ, ◌+◌, ◌<◌, ◌≤◌, List, [], ◌++◌, length, drop, get_or, refl, ap, ◌∙◌, add-one}
+use Rattle.std.proofs.Common.{◌≡◌, ℕ, ◌+◌, ◌<◌, List, ◌++◌, length, drop, get_or, refl, ap, ◌∙◌, add-one}
 use Rattle.std.proofs.Common.{drop-cons}
-use Rattle.std.proofs.Math.ListN.{drop_of_length-le}
 use Rattle.pdbdump_rows.specs.declared.form.Form.{Form}
 use Rattle.pdbdump_rows.specs.Lines.{row_text}
 use Rattle.pdbdump_tables.specs.Kinds.{kind_lines, kind_shown}
@@ -13,7 +12,3 @@ pub kind_next : (form : Form) (n : ℕ) (kinds : List KindCount) (at : ℕ) (kin
     ++ kind_lines form n (drop (at + 1) kinds)
 kind_next form n kinds at kind within =
     ap (kind_lines form n) (drop-cons kinds at kind within) ∙ rw add-one refl
-
-pub kinds_end : (form : Form) (n : ℕ) (kinds : List KindCount) (at : ℕ) → length kinds ≤ at
-    → kind_lines form n (drop at kinds) ≡ []
-kinds_end form n kinds at past = ap (kind_lines form n) (drop_of_length-le kinds {i = at} past)

@@ -1,8 +1,7 @@
 -- What stands on a writer after each step of a walk.
 use Rattle.std.proofs.Common.{◌≡◌, ℕ, suc, ◌+◌, ◌-◌, ◌≤◌, ◌<◌, List, [], ◌∷◌, ◌++◌, length, take, drop, get_or}
-use Rattle.std.proofs.Common.{Some, None, Result, Ok, Err, refl, sym, ap, subst, ◌∙◌, arith, append_assoc, drop-cons}
+use Rattle.std.proofs.Common.{Some, None, Result, Ok, Err, sym, ap, subst, ◌∙◌, arith, append_assoc, drop-cons}
 use Rattle.std.proofs.Common.{take-append-drop}
-use Rattle.std.proofs.KnownBytes.{Appends-nil}
 use Rattle.std.proofs.lemmas.List.{append-nil, take_all, take_more, length-take}
 use Rattle.std.proofs.lemmas.Option.{get_or_from_slice_get}
 use Rattle.pdbdump_tables.specs.Lines.{lines_from, placed_line}
@@ -39,20 +38,6 @@ pub record IsSoFar (line : Line) (table : Table) (stand : WalkPosition) (out out
   pub same : stand.table ≡ table
   pub least : table.header.minimum_index ≤ stand.index
   pub lines : Gets out out' (item_lines line table (stand.index - table.header.minimum_index))
-
--- before the first item nothing was written
-pub so_far_first : (line : Line) (table : Table) (stand : WalkPosition) (out : OutputState)
-    → stand ≡ record { table = table; index = table.header.minimum_index } → IsSoFar line table stand out out
-so_far_first line table stand out is =
-    let first : WalkPosition = record { table = table; index = table.header.minimum_index } in
-    let none : 0 ≡ table.header.minimum_index - table.header.minimum_index = omega arith in
-    let here : IsSoFar line table first out out = record {
-      same = refl;
-      least = omega arith;
-      lines = subst (λ (count : ℕ). Gets out out (item_lines line table count)) none
-          (record { holds = refl; added = Appends-nil out.contents });
-    } in
-    subst (λ (s : WalkPosition). IsSoFar line table s out out) (sym is) here
 
 -- one item more stands there
 more_here : {X : Type 0} (seen : X → ℕ × List ℕ) (line : Line) (old new : WalkPosition) (x : X)

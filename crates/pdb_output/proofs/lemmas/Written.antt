@@ -1,12 +1,11 @@
 -- How far bytes were written.
-use Rattle.std.specs.Prelude.{IfErr}
 use Rattle.std.proofs.Common.{◌≡◌, ℕ, List, [], ◌++◌, Option, Ok, Err, Result, inl, inr, refl, sym, subst, ◌∙◌}
 use Rattle.std.proofs.lemmas.List.{append_assoc, append-nil}
 use Rattle.std.specs.Io.KnownBytes.{Appends, Keeps}
 use Rattle.std.proofs.KnownBytes.{Appends-nil, Appends-trans, Appends-kept}
 use Rattle.pdb_base.specs.declared.error.Error.{Error}
 use Rattle.pdb_base.specs.declared.error.Error.TheVariants.{OutOfMemory}
-use Rattle.pdb_output.specs.Output.{OutputState, Flushes, Gets, GetsUnlessFailed, IsCutShort, IsFailed, IsOutputFailure}
+use Rattle.pdb_output.specs.Output.{OutputState, Gets, IsCutShort, IsFailed, IsOutputFailure}
 use Rattle.pdb_output.specs.Output.{IsPrefix, IsReceived, IsWritten, Writes}
 
 -- ---- bytes that are received
@@ -130,16 +129,6 @@ pub flushed_after : (old now new : OutputState) (all : List ℕ) (e : Error) →
 flushed_after old now new all e got cut =
     subst (λ (bytes : List ℕ). IsCutShort bytes old new e) (append-nil all)
     (second_writes old now new all [] (Err e) got cut)
-
-pub gets_flushed : (old now new : OutputState) (all : List ℕ) → Gets old now all → Gets now new [] → Gets old new all
-gets_flushed old now new all got flushed =
-    subst (Gets old new) (append-nil all) (second_writes old now new all [] (Ok tt) got flushed)
-
--- a write whose result is not looked at
-pub gets_unless_failed : (old new : OutputState) (all : List ℕ) (result : Result (Unit {0}) Error)
-    → Writes all old new result → IfErr result (IsFailed new) → GetsUnlessFailed old new all
-gets_unless_failed old new all (Ok done) got failing = inl got
-gets_unless_failed old new all (Err e) cut failing = inr (failing.2, cut.prefix)
 
 -- what a function that writes one line, or two parts, is proved of
 pub ruleset writing = (lacks_all, first_cut, second_writes)

@@ -2,7 +2,7 @@
 
 use pdb_base::{Stream, TypeIndex};
 use pdb_consistency::{
-    Extent, Inconsistency, check_buckets, check_debug_sizes, check_hashes, check_pages,
+    Extent, Inconsistency, Mismatch, check_buckets, check_debug_sizes, check_hashes, check_pages,
     check_section_order, check_type_records,
 };
 use pdb_file::section_headers::section_headers;
@@ -70,11 +70,12 @@ const RECORDS: [(usize, u8, u64, u64, Inconsistency); 4] = [
 ];
 
 /// Offsets in the hash stream, the byte that is written there, and what is then inconsistent first,
-/// with the byte of the hash stream.
-const HASH_DAMAGES: [(usize, u8, u64, Inconsistency); 3] = [
-    (4, 4, 4, Inconsistency::HashTooLarge(4)),
-    (12, 12, 8, Inconsistency::IndexOffset(0x1000)),
-    (8, 2, 8, Inconsistency::IndexOffset(0x1002)),
+/// with the index that has the hash value or that the offset is for, and the byte of the hash
+/// stream.
+const HASH_DAMAGES: [(usize, u8, u64, u64, Inconsistency); 3] = [
+    (4, 4, 0x1001, 4, Inconsistency::HashTooLarge(4)),
+    (12, 12, 0x1000, 8, Inconsistency::IndexOffset(0x1000)),
+    (8, 2, 0x1002, 8, Inconsistency::IndexOffset(0x1002)),
 ];
 
 /// A string table with the names `a` and `bc`, in two of three buckets.
@@ -115,11 +116,16 @@ fn stream(alloc: Global, bytes: &[u8]) -> Result<Stream, Fail> {
     Ok(Stream::new(Vec::from_slice(alloc, bytes)?))
 }
 
-/// Returns a stream of these bytes, of which one is replaced.
-fn stream_with(alloc: Global, bytes: &[u8], offset: usize, byte: u8) -> Result<Stream, Fail> {
+/// Returns these bytes, of which one is replaced.
+fn bytes_with(alloc: Global, bytes: &[u8], offset: usize, byte: u8) -> Result<Vec<u8>, Fail> {
     let mut copy = Vec::from_slice(alloc, bytes)?;
     write_at(&mut copy, offset, byte);
-    stream(alloc, &copy)
+    Ok(copy)
+}
+
+/// Returns a stream of these bytes, of which one is replaced.
+fn stream_with(alloc: Global, bytes: &[u8], offset: usize, byte: u8) -> Result<Stream, Fail> {
+    stream(alloc, &bytes_with(alloc, bytes, offset, byte)?)
 }
 
 /// Returns the small file.
@@ -135,77 +141,123 @@ fn small_file(alloc: Global) -> Result<Vec<u8>, Fail> {
     Ok(file)
 }
 
+/// Whether there is one mismatch, which is this one, at these places.
+fn is_lone(
+    found: &[Mismatch],
+    stream: u32,
+    index: Option<u64>,
+    byte: u64,
+    what: Inconsistency,
+) -> bool {
+    let wanted = Mismatch {
+        stream: Some(stream),
+        index,
+        byte: Some(byte),
+        what,
+    };
+    matches!(found, [mismatch] if *mismatch == wanted)
+}
+
+/// Whether a file of which a byte is replaced has this mismatch alone.
+fn is_page_damage(alloc: Global, row: &(usize, u8, u32, u64, Inconsistency)) -> Result<bool, Fail> {
+    let (offset, byte, stream, place, what) = *row;
+    let mut file = small_file(alloc)?;
+    write_at(&mut file, offset, byte);
+    let found = check_pages(alloc, &file, Extent::First)?;
+    Ok(is_lone(&found, stream, None, place, what))
+}
+
 #[test]
 fn pages(rt: HostRuntime) -> Result<(), Fail> {
     let file = small_file(rt.alloc())?;
     assert!(rt; check_pages(rt.alloc(), &file, Extent::All)?.is_empty());
-    for (offset, byte, stream, place, what) in PAGES.iter() {
-        let mut file = small_file(rt.alloc())?;
-        write_at(&mut file, *offset, *byte);
-        let found = check_pages(rt.alloc(), &file, Extent::First)?;
-        assert_eq!(rt; found.len(), 1, "{offset:#x}");
-        for mismatch in found.iter() {
-            assert_eq!(rt; mismatch.what, *what, "{offset:#x}");
-            assert_eq!(rt; mismatch.stream, Some(*stream), "{offset:#x}");
-            assert_eq!(rt; mismatch.byte, Some(*place), "{offset:#x}");
-        }
+    for row in PAGES.iter() {
+        assert!(rt; is_page_damage(rt.alloc(), row)?, "{:#x}", row.0);
     }
     Ok(())
+}
+
+/// Returns the table of types.
+fn types(alloc: Global, bytes: &[u8]) -> Result<TypeInformation, Fail> {
+    Ok(TypeInformation::parse(stream(alloc, bytes)?)?)
+}
+
+/// Returns what is inconsistent between the records of a table of types.
+fn record_mismatches(alloc: Global, bytes: &[u8], extent: Extent) -> Result<Vec<Mismatch>, Fail> {
+    let types = types(alloc, bytes)?;
+    Ok(check_type_records(alloc, &types, 2, extent)?)
+}
+
+/// Whether a table of which a byte is replaced has this mismatch alone.
+fn is_record_damage(
+    alloc: Global,
+    row: &(usize, u8, u64, u64, Inconsistency),
+) -> Result<bool, Fail> {
+    let (offset, byte, index, place, what) = *row;
+    let bytes = bytes_with(alloc, TYPES, offset, byte)?;
+    let found = record_mismatches(alloc, &bytes, Extent::First)?;
+    Ok(is_lone(&found, 2, Some(index), place, what))
 }
 
 #[test]
 fn records(rt: HostRuntime) -> Result<(), Fail> {
-    let types = TypeInformation::parse(stream(rt.alloc(), TYPES)?)?;
-    assert!(rt; check_type_records(rt.alloc(), &types, 2, Extent::All)?.is_empty());
-    for (offset, byte, index, place, what) in RECORDS.iter() {
-        let types = TypeInformation::parse(stream_with(rt.alloc(), TYPES, *offset, *byte)?)?;
-        let found = check_type_records(rt.alloc(), &types, 2, Extent::First)?;
-        assert_eq!(rt; found.len(), 1, "{offset:#x}");
-        for mismatch in found.iter() {
-            assert_eq!(rt; mismatch.what, *what, "{offset:#x}");
-            assert_eq!(rt; mismatch.index, Some(*index), "{offset:#x}");
-            assert_eq!(rt; mismatch.byte, Some(*place), "{offset:#x}");
-        }
+    assert!(rt; record_mismatches(rt.alloc(), TYPES, Extent::All)?.is_empty());
+    for row in RECORDS.iter() {
+        assert!(rt; is_record_damage(rt.alloc(), row)?, "{:#x}", row.0);
     }
     Ok(())
 }
 
+/// Returns the table of types with the hash stream, open up to its last record.
+fn hashed_types(alloc: Global) -> Result<OpenTable<TypeIndex>, Fail> {
+    let mut table = OpenTable::new(alloc, types(alloc, TYPES)?)?;
+    table.learn(TypeIndex(0x1001));
+    Ok(table)
+}
+
+/// Returns what is inconsistent between the table of types and a hash stream.
+fn hash_mismatches(alloc: Global, hashes: &[u8], extent: Extent) -> Result<Vec<Mismatch>, Fail> {
+    let table = hashed_types(alloc)?;
+    Ok(check_hashes(alloc, 7, &table, hashes, extent)?)
+}
+
+/// Whether a hash stream of which a byte is replaced has this mismatch alone.
+fn is_hash_damage(alloc: Global, row: &(usize, u8, u64, u64, Inconsistency)) -> Result<bool, Fail> {
+    let (offset, byte, index, place, what) = *row;
+    let bytes = bytes_with(alloc, HASHES, offset, byte)?;
+    let found = hash_mismatches(alloc, &bytes, Extent::First)?;
+    Ok(is_lone(&found, 7, Some(index), place, what))
+}
+
+/// Whether a hash stream that ends after its first hash has too few of them.
+fn has_few_hashes(alloc: Global) -> Result<bool, Fail> {
+    let found = hash_mismatches(alloc, &HASHES[..4], Extent::First)?;
+    Ok(matches!(found.as_slice(), [mismatch] if mismatch.what == Inconsistency::HashCount(1)))
+}
+
 #[test]
 fn hashes(rt: HostRuntime) -> Result<(), Fail> {
-    let types = TypeInformation::parse(stream(rt.alloc(), TYPES)?)?;
-    let mut table = OpenTable::new(rt.alloc(), types)?;
-    table.learn(TypeIndex(0x1001));
-    assert!(rt; check_hashes(rt.alloc(), 7, &table, HASHES, Extent::All)?.is_empty());
-    let found = check_hashes(rt.alloc(), 7, &table, &HASHES[..4], Extent::First)?;
-    for mismatch in found.iter() {
-        assert_eq!(rt; mismatch.what, Inconsistency::HashCount(1));
-    }
-    assert_eq!(rt; found.len(), 1);
-    for (offset, byte, place, what) in HASH_DAMAGES.iter() {
-        let mut bytes = Vec::from_slice(rt.alloc(), HASHES)?;
-        write_at(&mut bytes, *offset, *byte);
-        let found = check_hashes(rt.alloc(), 7, &table, &bytes, Extent::First)?;
-        assert_eq!(rt; found.len(), 1, "{offset}");
-        for mismatch in found.iter() {
-            assert_eq!(rt; mismatch.what, *what, "{offset}");
-            assert_eq!(rt; mismatch.byte, Some(*place), "{offset}");
-        }
+    assert!(rt; hash_mismatches(rt.alloc(), HASHES, Extent::All)?.is_empty());
+    assert!(rt; has_few_hashes(rt.alloc())?);
+    for row in HASH_DAMAGES.iter() {
+        assert!(rt; is_hash_damage(rt.alloc(), row)?, "{}", row.0);
     }
     Ok(())
+}
+
+/// Whether a string table of which a byte is replaced has this mismatch alone.
+fn is_bucket_damage(alloc: Global, row: &(usize, u8, u64, Inconsistency)) -> Result<bool, Fail> {
+    let (offset, byte, place, what) = *row;
+    let bytes = bytes_with(alloc, NAMES, offset, byte)?;
+    let found = check_buckets(alloc, 5, &bytes, Extent::First)?;
+    Ok(is_lone(&found, 5, None, place, what))
 }
 
 #[test]
 fn buckets(rt: HostRuntime) -> Result<(), Fail> {
     assert!(rt; check_buckets(rt.alloc(), 5, NAMES, Extent::All)?.is_empty());
-    for (offset, byte, place, what) in BUCKETS.iter() {
-        let mut bytes = Vec::from_slice(rt.alloc(), NAMES)?;
-        write_at(&mut bytes, *offset, *byte);
-        let found = check_buckets(rt.alloc(), 5, &bytes, Extent::First)?;
-        assert_eq!(rt; found.len(), 1, "{offset:#x}");
-        for mismatch in found.iter() {
-            assert_eq!(rt; mismatch.what, *what, "{offset:#x}");
-            assert_eq!(rt; mismatch.byte, Some(*place), "{offset:#x}");
-        }
+    for row in BUCKETS.iter() {
+        assert!(rt; is_bucket_damage(rt.alloc(), row)?, "{:#x}", row.0);
     }
     Ok(())
 }
@@ -215,24 +267,29 @@ fn debug_sizes(rt: HostRuntime) -> Result<(), Fail> {
     let header = stream(rt.alloc(), DEBUG)?;
     assert!(rt; check_debug_sizes(&header).is_none());
     // The size of the section contributions.
-    match check_debug_sizes(&stream_with(rt.alloc(), DEBUG, 28, 1)?) {
-        Some(mismatch) => assert_eq!(rt; mismatch.what, Inconsistency::DebugSizes),
-        None => assert!(rt; false),
-    }
+    let found = check_debug_sizes(&stream_with(rt.alloc(), DEBUG, 28, 1)?);
+    assert!(rt; matches!(found, Some(mismatch) if mismatch.what == Inconsistency::DebugSizes));
     Ok(())
+}
+
+/// Returns what is inconsistent in the order of some sections.
+fn section_mismatches(alloc: Global, stream: &Stream) -> Result<Vec<Mismatch>, Fail> {
+    let headers = section_headers(alloc, stream)?;
+    Ok(check_section_order(alloc, &headers, 9, Extent::All)?)
+}
+
+/// Whether the sections overlap once the first one is a byte longer.
+fn is_overlap_found(alloc: Global) -> Result<bool, Fail> {
+    let found = section_mismatches(alloc, &stream_with(alloc, SECTIONS, 8, 1)?)?;
+    let overlap = Inconsistency::SectionsOverlap;
+    Ok(
+        matches!(found.as_slice(), [mismatch] if mismatch.what == overlap && mismatch.index == Some(1)),
+    )
 }
 
 #[test]
 fn sections(rt: HostRuntime) -> Result<(), Fail> {
-    let headers = section_headers(rt.alloc(), &stream(rt.alloc(), SECTIONS)?)?;
-    assert!(rt; check_section_order(rt.alloc(), &headers, 9, Extent::All)?.is_empty());
-    // The first one becomes a byte longer.
-    let headers = section_headers(rt.alloc(), &stream_with(rt.alloc(), SECTIONS, 8, 1)?)?;
-    let found = check_section_order(rt.alloc(), &headers, 9, Extent::All)?;
-    assert_eq!(rt; found.len(), 1);
-    for mismatch in found.iter() {
-        assert_eq!(rt; mismatch.what, Inconsistency::SectionsOverlap);
-        assert_eq!(rt; mismatch.index, Some(1));
-    }
+    assert!(rt; section_mismatches(rt.alloc(), &stream(rt.alloc(), SECTIONS)?)?.is_empty());
+    assert!(rt; is_overlap_found(rt.alloc())?);
     Ok(())
 }

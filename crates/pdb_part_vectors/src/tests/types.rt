@@ -3,7 +3,7 @@
 
 use pdb_base::{Stream, TypeIndex};
 use pdb_tpi::{OpenTable, TypeInformation};
-use pdb_types::{Definitions, Gap, GapKind, Span};
+use pdb_types::{Definitions, Gap, GapKind, Layout, LayoutField, Span};
 use std::alloc::Global;
 use std::test::Fail;
 
@@ -228,46 +228,58 @@ fn open_table(alloc: Global, bytes: &[u8]) -> Result<OpenTable<TypeIndex>, Fail>
     Ok(types)
 }
 
+/// Returns the first index of `TYPES` whose type has another size.
+fn wrong_size(alloc: Global, definitions: &Definitions<'_>) -> Result<Option<u32>, Fail> {
+    for (index, size, _) in TYPES.iter() {
+        if definitions.size_of(alloc, TypeIndex(*index))? != *size {
+            return Ok(Some(*index));
+        }
+    }
+    Ok(None)
+}
+
 #[test]
 fn sizes(rt: HostRuntime) -> Result<(), Fail> {
     let types = open_table(rt.alloc(), &TABLE)?;
     let definitions = Definitions::new(rt.alloc(), &types)?;
-    for (index, size, _) in TYPES.iter() {
-        assert_eq!(rt;
-            definitions.size_of(rt.alloc(), TypeIndex(*index))?,
-            *size,
-            "{index:#x}"
-        );
-    }
+    let wrong = wrong_size(rt.alloc(), &definitions)?;
+    assert!(rt; wrong.is_none(), "{wrong:?}");
     assert!(rt; definitions.size_of(rt.alloc(), TypeIndex(0x100d)).is_err());
     Ok(())
+}
+
+/// Returns the first index of `TYPES` whose type has another definition.
+fn wrong_definition(alloc: Global, definitions: &Definitions<'_>) -> Result<Option<u32>, Fail> {
+    for (index, _, definition) in TYPES.iter() {
+        let found = definitions.definition_of(alloc, TypeIndex(*index))?;
+        if found.map(u32::from) != *definition {
+            return Ok(Some(*index));
+        }
+    }
+    Ok(None)
 }
 
 #[test]
 fn definitions(rt: HostRuntime) -> Result<(), Fail> {
     let types = open_table(rt.alloc(), &TABLE)?;
     let definitions = Definitions::new(rt.alloc(), &types)?;
-    for (index, _, definition) in TYPES.iter() {
-        let found = definitions.definition_of(rt.alloc(), TypeIndex(*index))?;
-        assert_eq!(rt; found.map(u32::from), *definition, "{index:#x}");
-    }
+    let wrong = wrong_definition(rt.alloc(), &definitions)?;
+    assert!(rt; wrong.is_none(), "{wrong:?}");
     Ok(())
+}
+
+/// Returns the indexes of the definitions of a name.
+fn indexes_of(alloc: Global, name: &[u8]) -> Result<Vec<TypeIndex>, Fail> {
+    let types = open_table(alloc, &TABLE)?;
+    let definitions = Definitions::new(alloc, &types)?;
+    Ok(definitions.all_definitions(alloc, name)?)
 }
 
 #[test]
 fn names(rt: HostRuntime) -> Result<(), Fail> {
-    let types = open_table(rt.alloc(), &TABLE)?;
-    let definitions = Definitions::new(rt.alloc(), &types)?;
-    let named = definitions.all_definitions(rt.alloc(), b"S")?;
-    assert_eq!(rt;
-        named.as_slice(),
-        [TypeIndex(0x1006), TypeIndex(0x100b)].as_slice()
-    );
-    assert!(rt;
-        definitions
-            .all_definitions(rt.alloc(), b".?AUS@@")?
-            .is_empty()
-    );
+    let both = [TypeIndex(0x1006), TypeIndex(0x100b)];
+    assert!(rt; indexes_of(rt.alloc(), b"S")?.as_slice() == both.as_slice());
+    assert!(rt; indexes_of(rt.alloc(), b".?AUS@@")?.is_empty());
     Ok(())
 }
 
@@ -284,105 +296,111 @@ fn gap(kind: GapKind, start: u128, end: u128) -> Gap {
     }
 }
 
-/// Looks up a layout, and returns its size, the bits of its fields and its gaps.
-fn layout(alloc: Global, index: u32) -> Result<Option<(u64, Vec<Span>, Vec<Gap>)>, Fail> {
+/// Whether these are the bits of some fields, in order.
+fn are_bits(fields: &[LayoutField<'_>], bits: &[Span]) -> bool {
+    for (field, bits) in fields.iter().zip(bits.iter()) {
+        if field.bits() != *bits {
+            return false;
+        }
+    }
+    fields.len() == bits.len()
+}
+
+/// Whether a layout has this size, these bits of fields and these gaps.
+fn is_laid_out(layout: &Layout<'_>, size: u64, fields: &[Span], gaps: &[Gap]) -> bool {
+    layout.size == size && are_bits(&layout.fields, fields) && layout.gaps.as_slice() == gaps
+}
+
+/// Whether a class has a layout of this size, with these bits of fields and these gaps.
+fn has_layout(
+    alloc: Global,
+    index: u32,
+    size: u64,
+    fields: &[Span],
+    gaps: &[Gap],
+) -> Result<bool, Fail> {
     let types = open_table(alloc, &CLASSES)?;
     let definitions = Definitions::new(alloc, &types)?;
-    let Some(layout) = definitions.layout_of(alloc, TypeIndex(index))? else {
-        return Ok(None);
-    };
-    let mut fields = Vec::new(alloc);
-    for field in &layout.fields {
-        fields.push(field.bits())?;
-    }
-    Ok(Some((layout.size, fields, layout.gaps)))
+    let found = definitions.layout_of(alloc, TypeIndex(index))?;
+    Ok(matches!(found, Some(layout) if is_laid_out(&layout, size, fields, gaps)))
+}
+
+/// Whether a type has no layout.
+fn has_no_layout(alloc: Global, index: u32) -> Result<bool, Fail> {
+    let types = open_table(alloc, &CLASSES)?;
+    let definitions = Definitions::new(alloc, &types)?;
+    Ok(definitions.layout_of(alloc, TypeIndex(index))?.is_none())
 }
 
 #[test]
 fn layout_of_a_class(rt: HostRuntime) -> Result<(), Fail> {
-    for index in [0x1006, 0x100b] {
-        let found = layout(rt.alloc(), index)?;
-        assert!(rt; found.is_some());
-        if let Some((size, fields, gaps)) = found {
-            assert_eq!(rt; size, 56);
-            let spans = [
-                span(0, 64),
-                span(64, 96),
-                span(128, 192),
-                span(192, 200),
-                span(256, 320),
-                span(320, 323),
-                span(323, 335),
-            ];
-            assert_eq!(rt; fields.as_slice(), spans.as_slice());
-            let left = [
-                gap(GapKind::Hole, 96, 128),
-                gap(GapKind::Hole, 200, 256),
-                gap(GapKind::VirtualBases, 336, 448),
-                gap(GapKind::UnusedBits, 335, 336),
-            ];
-            assert_eq!(rt; gaps.as_slice(), left.as_slice());
-        }
-    }
+    let fields = [
+        span(0, 64),
+        span(64, 96),
+        span(128, 192),
+        span(192, 200),
+        span(256, 320),
+        span(320, 323),
+        span(323, 335),
+    ];
+    let gaps = [
+        gap(GapKind::Hole, 96, 128),
+        gap(GapKind::Hole, 200, 256),
+        gap(GapKind::VirtualBases, 336, 448),
+        gap(GapKind::UnusedBits, 335, 336),
+    ];
+    assert!(rt; has_layout(rt.alloc(), 0x1006, 56, &fields, &gaps)?);
+    assert!(rt; has_layout(rt.alloc(), 0x100b, 56, &fields, &gaps)?);
     Ok(())
 }
 
 #[test]
 fn layout_of_a_union(rt: HostRuntime) -> Result<(), Fail> {
-    let found = layout(rt.alloc(), 0x100a)?;
-    assert!(rt; found.is_some());
-    if let Some((size, fields, gaps)) = found {
-        assert_eq!(rt; size, 8);
-        let spans = [span(0, 32), span(0, 8), span(35, 47)];
-        assert_eq!(rt; fields.as_slice(), spans.as_slice());
-        let left = [
-            gap(GapKind::Hole, 48, 64),
-            gap(GapKind::UnusedBits, 32, 35),
-            gap(GapKind::UnusedBits, 47, 48),
-        ];
-        assert_eq!(rt; gaps.as_slice(), left.as_slice());
-    }
+    let fields = [span(0, 32), span(0, 8), span(35, 47)];
+    let gaps = [
+        gap(GapKind::Hole, 48, 64),
+        gap(GapKind::UnusedBits, 32, 35),
+        gap(GapKind::UnusedBits, 47, 48),
+    ];
+    assert!(rt; has_layout(rt.alloc(), 0x100a, 8, &fields, &gaps)?);
     Ok(())
 }
 
 #[test]
 fn layout_without_fields(rt: HostRuntime) -> Result<(), Fail> {
-    let found = layout(rt.alloc(), 0x100c)?;
-    assert!(rt; found.is_some());
-    if let Some((size, fields, gaps)) = found {
-        assert_eq!(rt; size, 1);
-        assert!(rt; fields.is_empty());
-        let left = [gap(GapKind::Hole, 0, 8)];
-        assert_eq!(rt; gaps.as_slice(), left.as_slice());
-    }
-    assert!(rt; layout(rt.alloc(), 0x1002)?.is_none());
-    assert!(rt; layout(rt.alloc(), 0x0074)?.is_none());
+    let gaps = [gap(GapKind::Hole, 0, 8)];
+    assert!(rt; has_layout(rt.alloc(), 0x100c, 1, &[], &gaps)?);
+    assert!(rt; has_no_layout(rt.alloc(), 0x1002)?);
+    assert!(rt; has_no_layout(rt.alloc(), 0x0074)?);
     Ok(())
 }
 
 #[test]
 fn layout_beyond_the_size(rt: HostRuntime) -> Result<(), Fail> {
-    let found = layout(rt.alloc(), 0x1008)?;
-    assert!(rt; found.is_some());
-    if let Some((size, fields, gaps)) = found {
-        assert_eq!(rt; size, 3);
-        let start = 0x7_ffff_ffff_ffff_fff8;
-        let spans = [span(start, start + 24), span(8, 8)];
-        assert_eq!(rt; fields.as_slice(), spans.as_slice());
-        let left = [gap(GapKind::Hole, 0, 24)];
-        assert_eq!(rt; gaps.as_slice(), left.as_slice());
-    }
+    let start = 0x7_ffff_ffff_ffff_fff8;
+    let fields = [span(start, start + 24), span(8, 8)];
+    let gaps = [gap(GapKind::Hole, 0, 24)];
+    assert!(rt; has_layout(rt.alloc(), 0x1008, 3, &fields, &gaps)?);
     Ok(())
+}
+
+/// Returns the first index of `TEXTS` whose type declares the name by another text.
+fn wrong_text(alloc: Global, definitions: &Definitions<'_>) -> Result<Option<u32>, Fail> {
+    for (index, name, text) in TEXTS.iter() {
+        let found = definitions.text_of(alloc, TypeIndex(*index), name.as_bytes())?;
+        if found.as_slice() != text.as_bytes() {
+            return Ok(Some(*index));
+        }
+    }
+    Ok(None)
 }
 
 #[test]
 fn texts(rt: HostRuntime) -> Result<(), Fail> {
     let types = open_table(rt.alloc(), &DECLARATIONS)?;
     let definitions = Definitions::new(rt.alloc(), &types)?;
-    for (index, name, text) in TEXTS.iter() {
-        let found = definitions.text_of(rt.alloc(), TypeIndex(*index), name.as_bytes())?;
-        assert!(rt; found.as_slice() == text.as_bytes(), "{index:#x}");
-    }
+    let wrong = wrong_text(rt.alloc(), &definitions)?;
+    assert!(rt; wrong.is_none(), "{wrong:?}");
     let nested = definitions.text_of(rt.alloc(), TypeIndex(0x1013), &[])?;
     assert!(rt; nested.starts_with(b"void (void (void ("));
     Ok(())

@@ -105,27 +105,48 @@ fn push_page(file: &mut Vec<u8>, bytes: &[u8]) -> Result<(), Fail> {
     Ok(())
 }
 
-/// Returns the small file.
-fn small_file(alloc: Global) -> Result<Vec<u8>, Fail> {
+/// Returns the page of the directory.
+fn directory(alloc: Global) -> Result<Vec<u8>, Fail> {
     let mut directory = Vec::new(alloc);
     for word in DIRECTORY.iter() {
         directory.extend_from_slice(&word.to_le_bytes())?;
     }
+    Ok(directory)
+}
+
+/// The pages of the small file before its directory.
+const PAGES: [&[u8]; 13] = [
+    HEADER,
+    b"",
+    b"",
+    b"\x0d\0\0\0",
+    INFORMATION,
+    TYPES,
+    DEBUG,
+    IDS,
+    NAMES,
+    b"",
+    OMAP,
+    NEW_FRAMES,
+    OLD_FRAMES,
+];
+
+/// Returns the small file.
+fn small_file(alloc: Global) -> Result<Vec<u8>, Fail> {
     let mut file = Vec::new(alloc);
-    push_page(&mut file, HEADER)?;
-    push_page(&mut file, b"")?;
-    push_page(&mut file, b"")?;
-    push_page(&mut file, b"\x0d\0\0\0")?;
-    push_page(&mut file, INFORMATION)?;
-    push_page(&mut file, TYPES)?;
-    push_page(&mut file, DEBUG)?;
-    push_page(&mut file, IDS)?;
-    push_page(&mut file, NAMES)?;
-    push_page(&mut file, b"")?;
-    push_page(&mut file, OMAP)?;
-    push_page(&mut file, NEW_FRAMES)?;
-    push_page(&mut file, OLD_FRAMES)?;
-    push_page(&mut file, &directory)?;
+    for page in PAGES {
+        push_page(&mut file, page)?;
+    }
+    push_page(&mut file, &directory(alloc)?)?;
+    Ok(file)
+}
+
+/// Returns the small file, of which a byte is replaced.
+fn file_with(alloc: Global, offset: usize, byte: u8) -> Result<Vec<u8>, Fail> {
+    let mut file = small_file(alloc)?;
+    if let Some(place) = file.get_mut(offset) {
+        *place = byte;
+    }
     Ok(file)
 }
 
@@ -140,47 +161,61 @@ fn error_count(findings: &[Finding]) -> usize {
     count
 }
 
+/// Whether the first finding has this index, byte of the stream, byte of the file and code.
+fn is_first(
+    alloc: Global,
+    findings: &[Finding],
+    places: (Option<u64>, Option<u64>, Option<u64>),
+    code: &str,
+) -> Result<bool, Fail> {
+    let Some(first) = findings.first() else {
+        return Ok(false);
+    };
+    let text = format!(in alloc; "{}", first.code())?;
+    Ok((first.index, first.byte, first.file_byte) == places && text.as_str() == code)
+}
+
 #[test]
 fn whole(rt: HostRuntime) -> Result<(), Fail> {
     let findings = validate(rt.alloc(), &small_file(rt.alloc())?, Extent::All)?;
-    assert_eq!(rt; error_count(&findings), 0);
+    assert!(rt; error_count(&findings) == 0);
     Ok(())
+}
+
+/// Whether the first finding of the small file with a byte replaced is in this part.
+fn is_in_part(alloc: Global, offset: usize, byte: u8, part: Part) -> Result<bool, Fail> {
+    let file = file_with(alloc, offset, byte)?;
+    let findings = validate(alloc, &file, Extent::First)?;
+    Ok(matches!(findings.first(), Some(finding) if finding.part == part))
 }
 
 #[test]
 fn damaged_files(rt: HostRuntime) -> Result<(), Fail> {
     for (offset, byte, part) in DAMAGES.iter() {
-        let mut file = small_file(rt.alloc())?;
-        if let Some(place) = file.get_mut(*offset) {
-            *place = *byte;
-        }
-        let findings = validate(rt.alloc(), &file, Extent::First)?;
-        match findings.first() {
-            Some(finding) => assert_eq!(rt; finding.part, *part, "{offset:#x}"),
-            None => assert!(rt; false, "{offset:#x}"),
-        }
+        assert!(rt;
+            is_in_part(rt.alloc(), *offset, *byte, *part)?,
+            "{offset:#x}"
+        );
     }
     Ok(())
 }
 
+/// Whether the first finding of the small file with a byte replaced has this index, byte of the
+/// stream, byte of the file and code.
+fn is_record_found(
+    alloc: Global,
+    row: &(usize, u8, u64, u64, Option<u64>, &str),
+) -> Result<bool, Fail> {
+    let (offset, value, index, byte, file_byte, code) = *row;
+    let file = file_with(alloc, offset, value)?;
+    let findings = validate(alloc, &file, Extent::First)?;
+    is_first(alloc, &findings, (Some(index), Some(byte), file_byte), code)
+}
+
 #[test]
 fn damaged_records(rt: HostRuntime) -> Result<(), Fail> {
-    for (offset, value, index, byte, file_byte, code) in DAMAGED_RECORDS.iter() {
-        let mut file = small_file(rt.alloc())?;
-        if let Some(place) = file.get_mut(*offset) {
-            *place = *value;
-        }
-        let findings = validate(rt.alloc(), &file, Extent::First)?;
-        match findings.first() {
-            Some(finding) => {
-                assert_eq!(rt; finding.index, Some(*index), "{offset:#x}");
-                assert_eq!(rt; finding.byte, Some(*byte), "{offset:#x}");
-                assert_eq!(rt; finding.file_byte, *file_byte, "{offset:#x}");
-                let text = format!(in rt.alloc(); "{}", finding.code())?;
-                assert_eq!(rt; text.as_str(), *code, "{offset:#x}");
-            }
-            None => assert!(rt; false, "{offset:#x}"),
-        }
+    for row in DAMAGED_RECORDS.iter() {
+        assert!(rt; is_record_found(rt.alloc(), row)?, "{:#x}", row.0);
     }
     Ok(())
 }
@@ -195,10 +230,7 @@ fn every_one(rt: HostRuntime) -> Result<(), Fail> {
             *place = value;
         }
     }
-    assert_eq!(rt;
-        error_count(&validate(rt.alloc(), &file, Extent::First)?),
-        2
-    );
-    assert_eq!(rt; error_count(&validate(rt.alloc(), &file, Extent::All)?), 3);
+    assert!(rt; error_count(&validate(rt.alloc(), &file, Extent::First)?) == 2);
+    assert!(rt; error_count(&validate(rt.alloc(), &file, Extent::All)?) == 3);
     Ok(())
 }

@@ -1,7 +1,7 @@
 use Rattle.std.proofs.Common.{◌≡◌, ◌∙◌, ◌==◌, List, [], ◌∷◌, true, length, map, string_bytes, refl, sym, ap, arith}
 use Rattle.std.proofs.lemmas.Bool.Decides.{nat_tests}
 use Rattle.std.proofs.lemmas.Result.{IfOk-weaker}
-use Rattle.pdb_cli.proofs.ChannelLemmas.{shown_of, shown_of_nothing}
+use Rattle.pdb_cli.proofs.ChannelLemmas.{shown_of_nothing}
 use Rattle.pdb_cli.proofs.channels.act_on.Goals as goal
 
 -- a list without length has no item
@@ -13,11 +13,3 @@ pub returns-then-is_empty-clause-shown : goal.returns-then-is_empty-clause-shown
 returns-then-is_empty-clause-shown g c =
     let none = ap (map string_bytes) (none_of c.args.words.now (sym c.is_empty.ensures ∙ c.if-is_empty.true)) in
     IfOk-weaker c.act.result _ _ (λ outcome shown. shown_of_nothing _ _ outcome none shown) c.act.ensures.ok
-
-pub returns-clause-shown : goal.returns-clause-shown
-returns-clause-shown g c =
-    let same : map string_bytes c.args.words.now ≡ map (λ text. text.now) c.in_ok-texts.texts.items = let told =
-    c.in_ok-texts.ensures in cc in
-    let texts = same ∙ ap (map (λ text. text.now)) (sym c.deref.ensures.value) in
-    IfOk-weaker c.act-2.result _ _
-    (λ outcome shown. shown_of _ _ _ _ outcome texts c.in_ok-file.ensures.bytes shown) c.act-2.ensures.ok

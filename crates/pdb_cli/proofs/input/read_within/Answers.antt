@@ -1,4 +1,4 @@
-use Rattle.std.proofs.Common.{◌≡◌, ℕ, ◌<◌, ◌++◌, List, Option, Result, Ok, refl, sym, ap, subst, ◌∙◌, arith, rules}
+use Rattle.std.proofs.Common.{◌≡◌, ℕ, ◌<◌, ◌++◌, List, Option, Result, Ok, sym, ap, subst, ◌∙◌, arith, rules}
 use Rattle.std.proofs.Common.{length, take}
 use denote.Enum.Bare.{same_false}
 use Rattle.std.specs.contracts.io.ErrorKind.{the_type}
@@ -29,12 +29,6 @@ returns-in-Ok-eq0-clause-bytes g c =
     let some : 0 < length c.read.new.buf = omega (arith, long) in
     let read = nothing_read _ _ _ _ (c.in-Ok-eq0.is ∙ ap Ok c.in-Ok-eq0.field-0-test) c.read.ensures.bytes in
     read_whole Error _ _ _ _ _ some c.loop.invariant.read read
-
-pub returns-in-Ok-eq0-clause-end : goal.returns-in-Ok-eq0-clause-end
-returns-in-Ok-eq0-clause-end g c =
-    let long : length c.read.new.buf ≡ 65_536 = search rules in
-    let some : 0 < length c.read.new.buf = omega (arith, long) in
-    (nothing_read _ _ _ _ (c.in-Ok-eq0.is ∙ ap Ok c.in-Ok-eq0.field-0-test) c.read.ensures.bytes).1 refl some
 
 pub loop-preserved : goal.loop-preserved
 loop-preserved g c =

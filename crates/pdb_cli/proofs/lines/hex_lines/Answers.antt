@@ -1,13 +1,7 @@
-use Rattle.std.proofs.Common.{◌≡◌, ◌<◌, ◌+◌, ◌*◌, ◌++◌, ℕ, List, length, drop, min, sym, ap, subst, ◌∙◌, arith}
+use Rattle.std.proofs.Common.{◌≡◌, ◌<◌, ◌+◌, ◌*◌, ◌++◌, ℕ, List, length, drop, min, sym, ap, subst, ◌∙◌}
 use Rattle.pdb_cli.specs.Lines.{hex_line}
-use Rattle.pdb_cli.proofs.LineLemmas.{lines_to, lines_more, piece_is_line, line_left, no_line_left}
+use Rattle.pdb_cli.proofs.LineLemmas.{lines_to, lines_more, piece_is_line, line_left}
 use Rattle.pdb_cli.proofs.lines.hex_lines.Goals as goal
-
-pub loop-bytes-init : goal.loop-bytes-init
-loop-bytes-init c = rw c.into_iter-bytes-iterator.ensures.into_iter_gives (record {
-  size = c.chunks-bytes-items.ensures.size;
-  lines = (0, c.chunks-bytes-items.ensures.rest, omega arith, c.new-out.ensures.items);
-})
 
 pub loop-bytes-preserved : goal.loop-bytes-preserved
 loop-bytes-preserved c =
@@ -30,11 +24,3 @@ loop-bytes-preserved c =
             ∙ ap (λ (bytes : List ℕ). lines_to all n ++ hex_line bytes) next.0 ∙ sym (lines_more all n),
       );
     }
-
-pub returns-clause-ok : goal.returns-clause-ok
-returns-clause-ok c =
-    let all = c.args.all.now in
-    let lines = c.loop-bytes.invariant.lines in
-    let none : length (drop (32 * lines.0) all) ≡ 0 =
-    subst (λ (xs : List ℕ). length xs ≡ 0) lines.1 c.in-None.ensures.steps.1.0 in
-    lines.3 ∙ no_line_left all lines.0 none lines.2

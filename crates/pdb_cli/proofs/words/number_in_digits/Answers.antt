@@ -1,7 +1,6 @@
-use Rattle.std.proofs.Common.{◌≡◌, ℕ, ◌+◌, ◌*◌, ◌<◌, get_or, arith, subst, sym, ◌∙◌, length}
+use Rattle.std.proofs.Common.{◌≡◌, ℕ, ◌+◌, ◌*◌, get_or, arith, subst, sym, ◌∙◌}
 use Rattle.std.specs.Char.{digit_value}
-use Rattle.std.proofs.lemmas.Bool.Decides.{nat_tests}
-use Rattle.pdb_cli.proofs.WordLemmas.{HasRead, read_more, too_large, is_number}
+use Rattle.pdb_cli.proofs.WordLemmas.{HasRead, read_more, too_large}
 use Rattle.pdb_cli.proofs.words.number_in_digits.Goals as goal
 
 pub loop-digit-preserved : goal.loop-digit-preserved
@@ -39,9 +38,3 @@ returns-in_err-value c =
     c.from_residual-in_err-value.ensures
     ∙ sym (too_large c.args.base c.args.most digits (i + 1) (omega arith)
     (grind (arith, more.value_is, digit.1, c.in_ok-shifted.ensures.1, c.in_err-value.ensures)))
-
-pub returns : goal.returns
-returns c =
-    let some : 0 < length c.args.digits.now = grind (arith, nat_tests) in
-    sym (is_number c.args.base c.args.most c.args.digits.now c.loop-digit.digit-index c.loop-digit.value some
-    c.if-digits-most.false c.loop-digit-test.false c.loop-digit.invariant.read c.loop-digit.invariant.fits)
