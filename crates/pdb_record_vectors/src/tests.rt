@@ -16,18 +16,12 @@ mod refused;
 mod tables;
 
 use pdb_base::{Error, Stream};
-use std::alloc::Global;
-use std::test::Fail;
+use std::process::Abort;
 
-/// A stream of these bytes.
-///
-/// # Errors
-/// A failure if there are more than 512.
-fn stream(alloc: Global, bytes: &[u8]) -> Result<Stream, Fail> {
-    if bytes.len() > 512 {
-        return Err(Fail::new("a long stream"));
-    }
-    Ok(Stream::new(Vec::from_slice(alloc, bytes)?))
+/// A stream of these bytes, of which there are at most 512.
+fn stream(rt: &impl Abort, bytes: Vec<u8>) -> Stream {
+    assert!(rt; bytes.len() <= 512, "a long stream");
+    Stream::new(bytes)
 }
 
 /// Whether an error is the same as another, by its variant and what is in it. Those of sources are

@@ -1,11 +1,11 @@
 //! Records that differ in one byte: their values differ in the field to which the byte belongs, and
 //! each is equal to its clone.
 
-use super::read::is_value_copied;
+use super::read::{is_same, is_value_copied};
 use pdb_records::parse_type_data;
 use pdb_values::TypeData;
 use std::alloc::Global;
-use std::test::Fail;
+use std::process::Abort;
 
 /// `struct Name`, with a unique name.
 const CLASS: &[u8] =
@@ -80,38 +80,37 @@ fn is_each_cloned(value: &TypeData<'_>) -> bool {
     }
 }
 
+/// Whether a copy of a value is equal to it, and a clone of the named type or part in it.
+fn is_each_copied(alloc: Global, value: &TypeData<'_>) -> bool {
+    is_value_copied(alloc, value) && is_each_cloned(value)
+}
+
 /// Whether two records are read as values that aren't equal, though each is equal to its clone.
-fn are_apart<'t>(alloc: Global, record: &'t [u8], other: &'t [u8]) -> Result<bool, Fail> {
-    let value = parse_type_data(alloc, record)?;
-    let again = parse_type_data(alloc, record)?;
-    let changed = parse_type_data(alloc, other)?;
-    Ok(
-        are_equal(&value, &again)
-            && !are_equal(&value, &changed)
-            && is_value_copied(alloc, &value)?
-            && is_value_copied(alloc, &changed)?
-            && is_each_cloned(&value)
-            && is_each_cloned(&changed),
-    )
+fn are_apart<'t>(rt: &impl Abort, alloc: Global, record: &'t [u8], other: &'t [u8]) -> bool {
+    let value = parse_type_data(alloc, record).expect(rt, "a type");
+    let changed = parse_type_data(alloc, other).expect(rt, "a changed type");
+    is_same(parse_type_data(alloc, record), &value)
+        && !are_equal(&value, &changed)
+        && is_each_copied(alloc, &value)
+        && is_each_copied(alloc, &changed)
 }
 
 /// Whether a record is read as another value if the lowest bit of the byte at a place is changed.
-fn is_byte_compared(alloc: Global, record: &[u8], place: usize) -> Result<bool, Fail> {
-    let mut other = Vec::from_slice(alloc, record)?;
-    let byte = other.get_mut(place).ok_or("no such byte")?;
+fn is_byte_compared(rt: &impl Abort, alloc: Global, record: &[u8], place: usize) -> bool {
+    let mut other = Vec::from_slice(alloc, record).expect(rt, "memory");
+    let byte = other.get_mut(place).expect(rt, "such a byte");
     *byte ^= 1;
-    are_apart(alloc, record, &other)
+    are_apart(rt, alloc, record, &other)
 }
 
 #[test]
-fn changed_bytes(rt: HostRuntime) -> Result<(), Fail> {
+fn changed_bytes(rt: HostRuntime) {
     for (record, places) in ROWS.iter() {
         for place in places.iter() {
             assert!(rt;
-                is_byte_compared(rt.alloc(), record, *place)?,
+                is_byte_compared(&rt, rt.alloc(), record, *place),
                 "{record:?}: {place}"
             );
         }
     }
-    Ok(())
 }

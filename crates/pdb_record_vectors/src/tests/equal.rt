@@ -2,6 +2,7 @@
 //! kind is followed by one for each of its fields, in which that field alone differs, so that no
 //! two of them are equal.
 
+use super::read::is_same;
 use pdb_base::{IdIndex, RawString, Result, TypeIndex, Variant};
 use pdb_flags::{FieldAttributes, FunctionAttributes, PointerAttributes};
 use pdb_space::StringRef;
@@ -15,7 +16,7 @@ use pdb_values::{
     VirtualTableShapeType,
 };
 use std::alloc::Global;
-use std::test::Fail;
+use std::process::Abort;
 
 /// Whether each value is equal to the one at its place among the others, which are made anew, and
 /// to no other one.
@@ -48,9 +49,9 @@ fn are_values<T: Clone + Eq + Drop>(values: &[T], others: &[T]) -> bool {
 
 /// A value, and then one for each of these fields, in which that field is the one given.
 macro_rules! varied {
-    ($alloc:expr, $kind:ident, $base:expr; $($field:ident: $value:expr),+ $(,)?) => {{
+    ($kind:ident, $base:expr; $($field:ident: $value:expr),+ $(,)?) => {{
         let base = $base;
-        vec![in $alloc; $kind { ..base }, $($kind { $field: $value, ..base }),+]
+        [$kind { ..base }, $($kind { $field: $value, ..base }),+]
     }};
 }
 
@@ -63,96 +64,84 @@ fn other_name() -> RawString<'static> {
     RawString::from("nama")
 }
 
-fn overloaded_methods(alloc: Global) -> Result<Vec<OverloadedMethodType<'static>>> {
+fn overloaded_methods() -> [OverloadedMethodType<'static>; 4] {
     let base = OverloadedMethodType {
         count: 1,
         method_list: TypeIndex(2),
         name: name(),
     };
-    Ok(varied!(alloc, OverloadedMethodType, base;
+    varied!(OverloadedMethodType, base;
         count: 2,
         method_list: TypeIndex(1),
         name: other_name(),
-    )?)
+    )
 }
 
-fn functions(alloc: Global) -> Result<Vec<FunctionId<'static>>> {
+fn functions() -> [FunctionId<'static>; 4] {
     let base = FunctionId {
         scope: None,
         function_type: TypeIndex(1),
         name: name(),
     };
-    Ok(varied!(alloc, FunctionId, base;
+    varied!(FunctionId, base;
         scope: Some(IdIndex(0)),
         function_type: TypeIndex(2),
         name: other_name(),
-    )?)
+    )
 }
 
-fn method_ids(alloc: Global) -> Result<Vec<MemberFunctionId<'static>>> {
+fn method_ids() -> [MemberFunctionId<'static>; 4] {
     let base = MemberFunctionId {
         parent: TypeIndex(1),
         function_type: TypeIndex(2),
         name: name(),
     };
-    Ok(varied!(alloc, MemberFunctionId, base;
+    varied!(MemberFunctionId, base;
         parent: TypeIndex(2),
         function_type: TypeIndex(1),
         name: other_name(),
-    )?)
+    )
 }
 
-fn texts(alloc: Global) -> Result<Vec<StringId<'static>>> {
+fn texts() -> [StringId<'static>; 3] {
     let base = StringId {
         substrings: Some(IdIndex(1)),
         name: name(),
     };
-    Ok(varied!(alloc, StringId, base;
+    varied!(StringId, base;
         substrings: None,
         name: other_name(),
-    )?)
+    )
 }
 
 /// The last two differ from one before in the number of the module, and in the offset of the name.
-fn sources(alloc: Global) -> Result<Vec<UserDefinedTypeSourceId>> {
+fn sources() -> [UserDefinedTypeSourceId; 7] {
     let base = UserDefinedTypeSourceId {
         udt: TypeIndex(1),
         source_file: UserDefinedTypeSourceFileRef::Local(IdIndex(2)),
         line: 3,
     };
-    Ok(varied!(alloc, UserDefinedTypeSourceId, base;
+    varied!(UserDefinedTypeSourceId, base;
         udt: TypeIndex(2),
         source_file: UserDefinedTypeSourceFileRef::Local(IdIndex(3)),
         line: 2,
         source_file: UserDefinedTypeSourceFileRef::Remote(0, StringRef(2)),
         source_file: UserDefinedTypeSourceFileRef::Remote(1, StringRef(2)),
         source_file: UserDefinedTypeSourceFileRef::Remote(0, StringRef(3)),
-    )?)
-}
-
-/// Whether each of the values that a function makes is unequal to the others, and equal to its
-/// clone.
-macro_rules! are_values_of {
-    ($alloc:expr, $values:ident) => {
-        are_values(&$values($alloc)?, &$values($alloc)?)
-    };
+    )
 }
 
 #[test]
-fn named_parts(rt: HostRuntime) -> std::result::Result<(), Fail> {
-    let alloc = rt.alloc();
-    assert!(rt; are_values_of!(alloc, overloaded_methods));
-    Ok(())
+fn named_parts(rt: HostRuntime) {
+    assert!(rt; are_values(&overloaded_methods(), &overloaded_methods()));
 }
 
 #[test]
-fn named_ids(rt: HostRuntime) -> std::result::Result<(), Fail> {
-    let alloc = rt.alloc();
-    assert!(rt; are_values_of!(alloc, functions));
-    assert!(rt; are_values_of!(alloc, method_ids));
-    assert!(rt; are_values_of!(alloc, texts));
-    assert!(rt; are_values_of!(alloc, sources));
-    Ok(())
+fn named_ids(rt: HostRuntime) {
+    assert!(rt; are_values(&functions(), &functions()));
+    assert!(rt; are_values(&method_ids(), &method_ids()));
+    assert!(rt; are_values(&texts(), &texts()));
+    assert!(rt; are_values(&sources(), &sources()));
 }
 
 /// Shapes: the first, one of another count, one of other bytes, and one of fewer.
@@ -217,73 +206,81 @@ fn shapes_and_places(rt: HostRuntime) {
     assert!(rt; are_values(PLACES, PLACES));
 }
 
-/// An array.
-fn array(
-    alloc: Global,
-    element: u32,
-    indexing: u32,
-    stride: Option<u32>,
-    dimensions: &[u32],
-) -> Result<ArrayType> {
-    Ok(ArrayType {
-        element_type: TypeIndex(element),
-        indexing_type: TypeIndex(indexing),
-        stride,
-        dimensions: Vec::from_slice(alloc, dimensions)?,
-    })
-}
+/// What differs in an array: the type of an element, that of an index, the stride and the dimensions.
+type ArrayFields = (u32, u32, Option<u32>, &'static [u32]);
 
 /// An array, one that differs in each field but the dimensions, and four of other dimensions.
-fn arrays(alloc: Global) -> Result<Vec<ArrayType>> {
-    Ok(vec![in alloc;
-        array(alloc, 1, 2, None, &[16, 64])?,
-        array(alloc, 3, 2, None, &[16, 64])?,
-        array(alloc, 1, 1, None, &[16, 64])?,
-        array(alloc, 1, 2, Some(0), &[16, 64])?,
-        array(alloc, 1, 2, None, &[64, 16])?,
-        array(alloc, 1, 2, None, &[16, 65])?,
-        array(alloc, 1, 2, None, &[16])?,
-        array(alloc, 1, 2, None, &[])?,
-    ]?)
+const ARRAYS: &[ArrayFields] = &[
+    (1, 2, None, &[16, 64]),
+    (3, 2, None, &[16, 64]),
+    (1, 1, None, &[16, 64]),
+    (1, 2, Some(0), &[16, 64]),
+    (1, 2, None, &[64, 16]),
+    (1, 2, None, &[16, 65]),
+    (1, 2, None, &[16]),
+    (1, 2, None, &[]),
+];
+
+fn arrays(rt: &impl Abort, alloc: Global) -> Vec<ArrayType> {
+    let mut arrays = Vec::new(alloc);
+    for (element, indexing, stride, dimensions) in ARRAYS {
+        let dimensions = Vec::from_slice(alloc, dimensions).expect(rt, "memory");
+        let array = ArrayType {
+            element_type: TypeIndex(*element),
+            indexing_type: TypeIndex(*indexing),
+            stride: *stride,
+            dimensions,
+        };
+        arrays.push(array).expect(rt, "memory");
+    }
+    arrays
 }
 
-/// Indexes, of which no two slices are equal.
-const INDEXES: &[&[u32]] = &[&[], &[1], &[2], &[1, 2], &[2, 1], &[1, 2, 3]];
+/// Indexes of types, of which no two slices are equal.
+const TYPE_INDEXES: &[&[TypeIndex]] = &[
+    &[],
+    &[TypeIndex(1)],
+    &[TypeIndex(2)],
+    &[TypeIndex(1), TypeIndex(2)],
+    &[TypeIndex(2), TypeIndex(1)],
+    &[TypeIndex(1), TypeIndex(2), TypeIndex(3)],
+];
 
-fn argument_lists(alloc: Global) -> Result<Vec<ArgumentList>> {
+/// The same indexes, of ids.
+const ID_INDEXES: &[&[IdIndex]] = &[
+    &[],
+    &[IdIndex(1)],
+    &[IdIndex(2)],
+    &[IdIndex(1), IdIndex(2)],
+    &[IdIndex(2), IdIndex(1)],
+    &[IdIndex(1), IdIndex(2), IdIndex(3)],
+];
+
+fn argument_lists(rt: &impl Abort, alloc: Global) -> Vec<ArgumentList> {
     let mut lists = Vec::new(alloc);
-    for indexes in INDEXES {
-        let mut arguments = Vec::new(alloc);
-        for index in *indexes {
-            arguments.push(TypeIndex(*index))?;
-        }
-        lists.push(ArgumentList { arguments })?;
+    for indexes in TYPE_INDEXES {
+        let arguments = Vec::from_slice(alloc, indexes).expect(rt, "memory");
+        lists.push(ArgumentList { arguments }).expect(rt, "memory");
     }
-    Ok(lists)
+    lists
 }
 
-fn part_lists(alloc: Global) -> Result<Vec<StringListId>> {
+fn part_lists(rt: &impl Abort, alloc: Global) -> Vec<StringListId> {
     let mut lists = Vec::new(alloc);
-    for indexes in INDEXES {
-        let mut substrings = Vec::new(alloc);
-        for index in *indexes {
-            substrings.push(TypeIndex(*index))?;
-        }
-        lists.push(StringListId { substrings })?;
+    for indexes in TYPE_INDEXES {
+        let substrings = Vec::from_slice(alloc, indexes).expect(rt, "memory");
+        lists.push(StringListId { substrings }).expect(rt, "memory");
     }
-    Ok(lists)
+    lists
 }
 
-fn build_lists(alloc: Global) -> Result<Vec<BuildInfoId>> {
+fn build_lists(rt: &impl Abort, alloc: Global) -> Vec<BuildInfoId> {
     let mut lists = Vec::new(alloc);
-    for indexes in INDEXES {
-        let mut arguments = Vec::new(alloc);
-        for index in *indexes {
-            arguments.push(IdIndex(*index))?;
-        }
-        lists.push(BuildInfoId { arguments })?;
+    for indexes in ID_INDEXES {
+        let arguments = Vec::from_slice(alloc, indexes).expect(rt, "memory");
+        lists.push(BuildInfoId { arguments }).expect(rt, "memory");
     }
-    Ok(lists)
+    lists
 }
 
 /// A method of a list.
@@ -296,53 +293,85 @@ fn entry(attributes: u16, method_type: u32, vtable_offset: Option<u32>) -> Metho
 }
 
 /// A list of these methods.
-fn method_list(alloc: Global, entries: &[MethodListEntry]) -> Result<MethodList> {
-    Ok(MethodList {
-        methods: Vec::from_slice(alloc, entries)?,
-    })
+fn method_list(rt: &impl Abort, alloc: Global, entries: &[MethodListEntry]) -> MethodList {
+    MethodList {
+        methods: Vec::from_slice(alloc, entries).expect(rt, "memory"),
+    }
 }
 
-fn method_lists(alloc: Global) -> Result<Vec<MethodList>> {
-    Ok(vec![in alloc;
-        method_list(alloc, &[])?,
-        method_list(alloc, &[entry(1, 2, Some(3))])?,
-        method_list(alloc, &[entry(2, 2, Some(3))])?,
-        method_list(alloc, &[entry(1, 3, Some(3))])?,
-        method_list(alloc, &[entry(1, 2, None)])?,
-        method_list(alloc, &[entry(1, 2, Some(3)), entry(1, 2, None)])?,
-    ]?)
+fn method_lists(rt: &impl Abort, alloc: Global) -> [MethodList; 6] {
+    [
+        method_list(rt, alloc, &[]),
+        method_list(rt, alloc, &[entry(1, 2, Some(3))]),
+        method_list(rt, alloc, &[entry(2, 2, Some(3))]),
+        method_list(rt, alloc, &[entry(1, 3, Some(3))]),
+        method_list(rt, alloc, &[entry(1, 2, None)]),
+        method_list(rt, alloc, &[entry(1, 2, Some(3)), entry(1, 2, None)]),
+    ]
 }
 
-/// Whether a clone of each list is equal to it.
-macro_rules! are_lists {
-    ($alloc:expr, $values:ident) => {{
-        let lists = $values($alloc)?;
-        let mut cloned = true;
-        for list in &lists {
-            cloned = cloned && matches!(list.clone($alloc), Ok(copy) if copy == *list);
+/// A value whose copy takes memory.
+trait Copied {
+    /// A copy, in memory of its own.
+    fn copied(&self, alloc: Global) -> Result<Self>;
+}
+
+impl Copied for ArrayType {
+    fn copied(&self, alloc: Global) -> Result<Self> {
+        self.clone(alloc)
+    }
+}
+
+impl Copied for ArgumentList {
+    fn copied(&self, alloc: Global) -> Result<Self> {
+        self.clone(alloc)
+    }
+}
+
+impl Copied for StringListId {
+    fn copied(&self, alloc: Global) -> Result<Self> {
+        self.clone(alloc)
+    }
+}
+
+impl Copied for BuildInfoId {
+    fn copied(&self, alloc: Global) -> Result<Self> {
+        self.clone(alloc)
+    }
+}
+
+impl Copied for MethodList {
+    fn copied(&self, alloc: Global) -> Result<Self> {
+        self.clone(alloc)
+    }
+}
+
+impl<'t> Copied for FieldList<'t> {
+    fn copied(&self, alloc: Global) -> Result<Self> {
+        self.clone(alloc)
+    }
+}
+
+impl<'t> Copied for TypeData<'t> {
+    fn copied(&self, alloc: Global) -> Result<Self> {
+        self.clone(alloc)
+    }
+}
+
+impl<'t> Copied for IdData<'t> {
+    fn copied(&self, alloc: Global) -> Result<Self> {
+        self.clone(alloc)
+    }
+}
+
+/// Whether each of these values is unequal to the others, and equal to its copy.
+fn are_lists<T: Copied + Eq + Drop>(alloc: Global, values: &[T], others: &[T]) -> bool {
+    for value in values {
+        if !is_same(value.copied(alloc), value) {
+            return false;
         }
-        Ok(cloned && are_told_apart(&lists, &$values($alloc)?))
-    }};
-}
-
-fn are_arrays(alloc: Global) -> Result<bool> {
-    are_lists!(alloc, arrays)
-}
-
-fn are_argument_lists(alloc: Global) -> Result<bool> {
-    are_lists!(alloc, argument_lists)
-}
-
-fn are_part_lists(alloc: Global) -> Result<bool> {
-    are_lists!(alloc, part_lists)
-}
-
-fn are_build_lists(alloc: Global) -> Result<bool> {
-    are_lists!(alloc, build_lists)
-}
-
-fn are_method_lists(alloc: Global) -> Result<bool> {
-    are_lists!(alloc, method_lists)
+    }
+    are_told_apart(values, others)
 }
 
 /// The value of an enumeration, as a field.
@@ -356,82 +385,83 @@ fn field(number: u16) -> TypeData<'static> {
 
 /// A list of one field.
 fn one_field(
+    rt: &impl Abort,
     alloc: Global,
     field: TypeData<'static>,
     continuation: Option<TypeIndex>,
-) -> Result<FieldList<'static>> {
-    Ok(FieldList {
-        fields: vec![in alloc; field]?,
+) -> FieldList<'static> {
+    FieldList {
+        fields: Vec::from_array(alloc, [field]).expect(rt, "memory"),
         continuation,
-    })
+    }
+}
+
+/// A list of no field.
+fn no_fields(alloc: Global, continuation: Option<TypeIndex>) -> FieldList<'static> {
+    FieldList {
+        fields: Vec::new(alloc),
+        continuation,
+    }
 }
 
 /// Lists that differ in their fields, in the number of them, in the list within them, and in the
 /// list that continues them.
-fn field_lists(alloc: Global) -> Result<Vec<FieldList<'static>>> {
-    Ok(vec![in alloc;
+fn field_lists(rt: &impl Abort, alloc: Global) -> [FieldList<'static>; 8] {
+    let no_methods = TypeData::MethodList(method_list(rt, alloc, &[]));
+    let one_method = TypeData::MethodList(method_list(rt, alloc, &[entry(1, 2, None)]));
+    [
+        no_fields(alloc, None),
+        no_fields(alloc, Some(TypeIndex(0))),
         FieldList {
-            fields: Vec::new(alloc),
-            continuation: None
+            fields: Vec::from_array(alloc, [field(1), field(2)]).expect(rt, "memory"),
+            continuation: None,
         },
-        FieldList {
-            fields: Vec::new(alloc),
-            continuation: Some(TypeIndex(0))
-        },
-        FieldList {
-            fields: vec![in alloc; field(1), field(2)]?,
-            continuation: None
-        },
-        one_field(alloc, field(1), None)?,
-        one_field(alloc, field(2), None)?,
-        one_field(alloc, field(1), Some(TypeIndex(1)))?,
-        one_field(alloc, TypeData::MethodList(method_list(alloc, &[])?), None)?,
-        one_field(
-            alloc,
-            TypeData::MethodList(method_list(alloc, &[entry(1, 2, None)])?),
-            None
-        )?,
-    ]?)
+        one_field(rt, alloc, field(1), None),
+        one_field(rt, alloc, field(2), None),
+        one_field(rt, alloc, field(1), Some(TypeIndex(1))),
+        one_field(rt, alloc, no_methods, None),
+        one_field(rt, alloc, one_method, None),
+    ]
 }
 
-fn are_field_lists(alloc: Global) -> Result<bool> {
-    are_lists!(alloc, field_lists)
+/// Whether each of the lists that a function makes is unequal to the others, and equal to its copy.
+macro_rules! are_lists_of {
+    ($rt:expr, $lists:ident) => {
+        are_lists($rt.alloc(), &$lists(&$rt, $rt.alloc()), &$lists(&$rt, $rt.alloc()))
+    };
 }
 
 #[test]
-fn lists(rt: HostRuntime) -> std::result::Result<(), Fail> {
-    let alloc = rt.alloc();
-    assert!(rt; are_arrays(alloc)?);
-    assert!(rt; are_argument_lists(alloc)?);
-    assert!(rt; are_part_lists(alloc)?);
-    assert!(rt; are_build_lists(alloc)?);
-    assert!(rt; are_method_lists(alloc)?);
-    assert!(rt; are_field_lists(alloc)?);
-    Ok(())
+fn lists(rt: HostRuntime) {
+    assert!(rt; are_lists_of!(rt, arrays));
+    assert!(rt; are_lists_of!(rt, argument_lists));
+    assert!(rt; are_lists_of!(rt, part_lists));
+    assert!(rt; are_lists_of!(rt, build_lists));
+    assert!(rt; are_lists_of!(rt, method_lists));
+    assert!(rt; are_lists_of!(rt, field_lists));
 }
 
 /// Adds each value of a list as data of this kind.
 macro_rules! add_each {
-    ($data:ident, $kind:path, $values:expr) => {
+    ($rt:ident, $data:ident, $kind:path, $values:expr) => {
         for value in $values {
-            $data.push($kind(value))?;
+            $data.push($kind(value)).expect($rt, "memory");
         }
     };
 }
 
 /// Adds the types with a list.
-fn add_lists(alloc: Global, data: &mut Vec<TypeData<'static>>) -> Result<()> {
-    add_each!(data, TypeData::Array, arrays(alloc)?);
-    add_each!(data, TypeData::ArgumentList, argument_lists(alloc)?);
-    add_each!(data, TypeData::MethodList, method_lists(alloc)?);
-    add_each!(data, TypeData::FieldList, field_lists(alloc)?);
-    Ok(())
+fn add_lists(rt: &impl Abort, alloc: Global, data: &mut Vec<TypeData<'static>>) {
+    add_each!(rt, data, TypeData::Array, arrays(rt, alloc));
+    add_each!(rt, data, TypeData::ArgumentList, argument_lists(rt, alloc));
+    add_each!(rt, data, TypeData::MethodList, method_lists(rt, alloc));
+    add_each!(rt, data, TypeData::FieldList, field_lists(rt, alloc));
 }
 
 /// Types without a name: a primitive type, a modifier and a bit field, each followed by another
 /// one.
-fn types_without_names(alloc: Global) -> Result<Vec<TypeData<'static>>> {
-    Ok(vec![in alloc;
+fn types_without_names() -> [TypeData<'static>; 10] {
+    [
         TypeData::Primitive(PrimitiveType {
             kind: PrimitiveKind::I32,
             indirection: None,
@@ -476,7 +506,7 @@ fn types_without_names(alloc: Global) -> Result<Vec<TypeData<'static>>> {
             count: 1,
             descriptors: b"\x04",
         }),
-    ]?)
+    ]
 }
 
 /// A base class.
@@ -525,63 +555,60 @@ fn member_function(this_pointer_type: Option<TypeIndex>) -> TypeData<'static> {
 }
 
 /// A pointer of 64 bits.
-fn pointer(underlying_type: u32) -> Option<TypeData<'static>> {
-    Some(TypeData::Pointer(PointerType {
+fn pointer(rt: &impl Abort, underlying_type: u32) -> TypeData<'static> {
+    TypeData::Pointer(PointerType {
         underlying_type: TypeIndex(underlying_type),
-        attributes: PointerAttributes::new(0x1000c)?,
+        attributes: PointerAttributes::new(0x1000c).expect(rt, "attributes of a pointer"),
         containing_class: None,
-    }))
+    })
+}
+
+/// One of two sets of types without a name or a list.
+fn types_of(rt: &impl Abort, number: u16) -> [TypeData<'static>; 5] {
+    [
+        base_class(u32::from(number)),
+        virtual_base_class(number == 0),
+        procedure(number),
+        member_function(Some(TypeIndex(u32::from(number)))),
+        pointer(rt, u32::from(number)),
+    ]
 }
 
 /// Adds the types without a name or a list.
-fn add_others(alloc: Global, data: &mut Vec<TypeData<'static>>) -> Result<()> {
-    for value in types_without_names(alloc)? {
-        data.push(value)?;
+fn add_others(rt: &impl Abort, data: &mut Vec<TypeData<'static>>) {
+    for value in types_without_names() {
+        data.push(value).expect(rt, "memory");
     }
     for number in [0u16, 1] {
-        data.push(base_class(u32::from(number)))?;
-        data.push(virtual_base_class(number == 0))?;
-        data.push(procedure(number))?;
-        data.push(member_function(Some(TypeIndex(u32::from(number)))))?;
-        if let Some(pointer) = pointer(u32::from(number)) {
-            data.push(pointer)?;
+        for value in types_of(rt, number) {
+            data.push(value).expect(rt, "memory");
         }
     }
-    Ok(())
 }
 
 /// Types of many kinds, no two of them equal.
-fn types(alloc: Global) -> Result<Vec<TypeData<'static>>> {
+fn types(rt: &impl Abort, alloc: Global) -> Vec<TypeData<'static>> {
     let mut data = Vec::new(alloc);
-    add_each!(data, TypeData::OverloadedMethod, overloaded_methods(alloc)?);
-    add_lists(alloc, &mut data)?;
-    add_others(alloc, &mut data)?;
-    Ok(data)
+    add_each!(rt, data, TypeData::OverloadedMethod, overloaded_methods());
+    add_lists(rt, alloc, &mut data);
+    add_others(rt, &mut data);
+    data
 }
 
 /// Ids of every kind, no two of them equal.
-fn ids(alloc: Global) -> Result<Vec<IdData<'static>>> {
+fn ids(rt: &impl Abort, alloc: Global) -> Vec<IdData<'static>> {
     let mut data = Vec::new(alloc);
-    add_each!(data, IdData::Function, functions(alloc)?);
-    add_each!(data, IdData::MemberFunction, method_ids(alloc)?);
-    add_each!(data, IdData::BuildInfo, build_lists(alloc)?);
-    add_each!(data, IdData::StringList, part_lists(alloc)?);
-    add_each!(data, IdData::String, texts(alloc)?);
-    add_each!(data, IdData::UserDefinedTypeSource, sources(alloc)?);
-    Ok(data)
-}
-
-fn are_types(alloc: Global) -> Result<bool> {
-    are_lists!(alloc, types)
-}
-
-fn are_ids(alloc: Global) -> Result<bool> {
-    are_lists!(alloc, ids)
+    add_each!(rt, data, IdData::Function, functions());
+    add_each!(rt, data, IdData::MemberFunction, method_ids());
+    add_each!(rt, data, IdData::BuildInfo, build_lists(rt, alloc));
+    add_each!(rt, data, IdData::StringList, part_lists(rt, alloc));
+    add_each!(rt, data, IdData::String, texts());
+    add_each!(rt, data, IdData::UserDefinedTypeSource, sources());
+    data
 }
 
 #[test]
-fn every_kind(rt: HostRuntime) -> std::result::Result<(), Fail> {
-    assert!(rt; are_types(rt.alloc())?);
-    assert!(rt; are_ids(rt.alloc())?);
-    Ok(())
+fn every_kind(rt: HostRuntime) {
+    assert!(rt; are_lists_of!(rt, types));
+    assert!(rt; are_lists_of!(rt, ids));
 }

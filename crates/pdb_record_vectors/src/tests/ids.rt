@@ -1,18 +1,17 @@
 //! Records of ids. Each field has a value of its own, so that one read in the place of another
 //! shows.
 
-use super::is_error;
-use super::read::table_of;
-use pdb_base::{Error, IdIndex, RawString, Result, TypeIndex};
+use super::read::{Wanted, is_cut, is_same, is_wanted, join_bytes, table_of};
+use pdb_base::{Error, IdIndex, RawString, TypeIndex};
 use pdb_records::parse_id_data;
 use pdb_space::StringRef;
-use pdb_tpi::{Id, IdFinder, IdInformation};
+use pdb_tpi::IdInformation;
 use pdb_values::{
     BuildInfoId, FunctionId, IdData, MemberFunctionId, StringId, StringListId,
     UserDefinedTypeSourceFileRef, UserDefinedTypeSourceId,
 };
 use std::alloc::Global;
-use std::test::Fail;
+use std::process::Abort;
 
 /// What a record says.
 enum Said {
@@ -142,72 +141,41 @@ fn text_id(substrings: Option<IdIndex>) -> IdData<'static> {
 }
 
 /// What a record says.
-fn expected_id(alloc: Global, said: &Said) -> Result<IdData<'static>> {
+fn expected_id(rt: &impl Abort, alloc: Global, said: &Said) -> IdData<'static> {
     match said {
-        Said::BuildInfo(arguments) => Ok(IdData::BuildInfo(BuildInfoId {
-            arguments: Vec::from_slice(alloc, arguments)?,
-        })),
-        Said::Parts(substrings) => Ok(IdData::StringList(StringListId {
-            substrings: Vec::from_slice(alloc, substrings)?,
-        })),
-        _ => Ok(plain_id(said)),
+        Said::BuildInfo(arguments) => IdData::BuildInfo(BuildInfoId {
+            arguments: Vec::from_slice(alloc, arguments).expect(rt, "memory"),
+        }),
+        Said::Parts(substrings) => IdData::StringList(StringListId {
+            substrings: Vec::from_slice(alloc, substrings).expect(rt, "memory"),
+        }),
+        _ => plain_id(said),
     }
-}
-
-/// What is wanted of a record: a value, or an error.
-#[derive(Clone, Copy)]
-enum Want<'w> {
-    Value(&'w IdData<'w>),
-    Error(&'w Error),
-}
-
-/// Whether what was read is what is wanted.
-fn is_wanted(read: &Result<IdData<'_>>, want: Want<'_>) -> bool {
-    match (read, want) {
-        (Ok(data), Want::Value(value)) => *data == *value,
-        (Err(error), Want::Error(same)) => is_error(error, same),
-        _ => false,
-    }
-}
-
-/// Whether an id is what is wanted.
-fn is_item(alloc: Global, item: Id<'_>, want: Want<'_>) -> bool {
-    is_wanted(&item.parse(alloc), want)
-}
-
-/// Whether the first id of a finder's table is what is wanted.
-fn is_found(alloc: Global, finder: &IdFinder<'_>, want: Want<'_>) -> Result<bool> {
-    Ok(is_item(alloc, finder.find(IdIndex(0x1000))?, want))
-}
-
-/// Whether the first id of a table is what is wanted.
-fn is_first(alloc: Global, table: &IdInformation, want: Want<'_>) -> Result<bool> {
-    is_found(alloc, &table.finder(alloc)?, want)
 }
 
 /// Whether the id of a record is what is wanted, in a table whose one item is the record.
-fn is_read(alloc: Global, record: &[u8], want: Want<'_>) -> std::result::Result<bool, Fail> {
-    let table = IdInformation::parse(table_of(alloc, record)?)?;
-    Ok(is_first(alloc, &table, want)?)
+fn is_read(rt: &impl Abort, alloc: Global, record: &[u8], want: Wanted<'_, IdData<'_>>) -> bool {
+    let table = IdInformation::parse(table_of(rt, alloc, record)).expect(rt, "a table");
+    let finder = table.finder(alloc).expect(rt, "a finder");
+    let item = finder.find(IdIndex(0x1000)).expect(rt, "an item");
+    is_wanted(item.parse(alloc), want)
 }
 
-/// Whether the id of a record with more bytes behind it is what is wanted.
+/// Whether the id of a record with more bytes behind it is this one.
 fn is_read_with(
+    rt: &impl Abort,
     alloc: Global,
     record: &[u8],
     more: &[u8],
-    want: Want<'_>,
-) -> std::result::Result<bool, Fail> {
-    let mut longer = Vec::from_slice(alloc, record)?;
-    longer.extend_from_slice(more)?;
-    is_read(alloc, &longer, want)
+    want: &IdData<'_>,
+) -> bool {
+    is_read(rt, alloc, &join_bytes(rt, alloc, record, more), Ok(want))
 }
 
 /// Whether each proper prefix of a record ends too soon.
 fn ends_soon(alloc: Global, record: &[u8]) -> bool {
     for length in 0..record.len() {
-        let read = parse_id_data(alloc, &record[..length]);
-        if !matches!(read, Err(Error::UnexpectedEof)) {
+        if !is_cut(parse_id_data(alloc, &record[..length])) {
             return false;
         }
     }
@@ -217,51 +185,44 @@ fn ends_soon(alloc: Global, record: &[u8]) -> bool {
 /// Whether a copy of an id's list is equal, where it has one.
 fn is_list_copied(alloc: Global, data: &IdData<'_>) -> bool {
     match data {
-        IdData::BuildInfo(list) => matches!(list.clone(alloc), Ok(copy) if copy == *list),
-        IdData::StringList(list) => matches!(list.clone(alloc), Ok(copy) if copy == *list),
+        IdData::BuildInfo(list) => is_same(list.clone(alloc), list),
+        IdData::StringList(list) => is_same(list.clone(alloc), list),
         _ => true,
     }
 }
 
 /// Whether a copy of an id is equal, and a copy of its list.
 fn is_copied(alloc: Global, data: &IdData<'_>) -> bool {
-    matches!(data.clone(alloc), Ok(copy) if copy == *data) && is_list_copied(alloc, data)
-}
-
-/// Whether an id is the one that is wanted and the one that its record says when it is read again,
-/// and is copied.
-fn is_id(alloc: Global, data: &IdData<'_>, again: &IdData<'_>, want: &IdData<'_>) -> bool {
-    *data == *want && *data == *again && is_copied(alloc, data)
+    is_same(data.clone(alloc), data) && is_list_copied(alloc, data)
 }
 
 /// Whether a record that is in no table says what is wanted, and does so again, and a copy is
 /// equal.
-fn is_parsed(alloc: Global, record: &[u8], want: &IdData<'_>) -> Result<bool> {
-    let data = parse_id_data(alloc, record)?;
-    Ok(is_id(alloc, &data, &parse_id_data(alloc, record)?, want))
+fn is_parsed(rt: &impl Abort, alloc: Global, record: &[u8], want: &IdData<'_>) -> bool {
+    let data = parse_id_data(alloc, record).expect(rt, "an id");
+    data == *want && is_same(parse_id_data(alloc, record), &data) && is_copied(alloc, &data)
 }
 
 /// Whether a record says this with padding behind it too, and with another byte behind that, and
 /// each proper prefix of it ends too soon.
-fn is_told(alloc: Global, record: &[u8], want: &IdData<'_>) -> std::result::Result<bool, Fail> {
-    let want = Want::Value(want);
-    let is_padded = is_read_with(alloc, record, b"\xf2\xf1", want)?;
-    let is_longer = is_read_with(alloc, record, b"\xf2\xf1\x41", want)?;
-    Ok(is_padded && is_longer && is_read(alloc, record, want)? && ends_soon(alloc, record))
+fn is_told(rt: &impl Abort, alloc: Global, record: &[u8], want: &IdData<'_>) -> bool {
+    is_read_with(rt, alloc, record, b"\xf2\xf1", want)
+        && is_read_with(rt, alloc, record, b"\xf2\xf1\x41", want)
+        && is_read(rt, alloc, record, Ok(want))
+        && ends_soon(alloc, record)
 }
 
 /// Whether a record says what its case has, and what it says is copied.
-fn is_row(alloc: Global, record: &[u8], said: &Said) -> std::result::Result<bool, Fail> {
-    let want = expected_id(alloc, said)?;
-    Ok(is_told(alloc, record, &want)? && is_parsed(alloc, record, &want)?)
+fn is_row(rt: &impl Abort, alloc: Global, record: &[u8], said: &Said) -> bool {
+    let want = expected_id(rt, alloc, said);
+    is_told(rt, alloc, record, &want) && is_parsed(rt, alloc, record, &want)
 }
 
 #[test]
-fn id_records(rt: HostRuntime) -> std::result::Result<(), Fail> {
+fn id_records(rt: HostRuntime) {
     for (record, want) in ROWS {
-        assert!(rt; is_row(rt.alloc(), record, want)?, "{record:?}");
+        assert!(rt; is_row(&rt, rt.alloc(), record, want), "{record:?}");
     }
-    Ok(())
 }
 
 /// What is wrong with a record, its bytes, and the error.
@@ -314,9 +275,8 @@ const REFUSED: &[(&str, &[u8], Error)] = &[
 ];
 
 #[test]
-fn refused_ids(rt: HostRuntime) -> std::result::Result<(), Fail> {
+fn refused_ids(rt: HostRuntime) {
     for (name, record, want) in REFUSED {
-        assert!(rt; is_read(rt.alloc(), record, Want::Error(want))?, "{name}");
+        assert!(rt; is_read(&rt, rt.alloc(), record, Err(want)), "{name}");
     }
-    Ok(())
 }

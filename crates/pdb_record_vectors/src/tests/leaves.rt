@@ -1,6 +1,6 @@
 //! Which numbers are record kinds.
 
-use pdb_base::Error;
+use pdb_base::{Error, Result};
 use pdb_records::{parse_id_data, parse_type_data};
 use pdb_tpi::constants::{LF_LABEL, LF_VFTABLE, LF_VTSHAPE};
 use std::alloc::Global;
@@ -16,25 +16,17 @@ const TYPE_LEAVES: [u16; 41] = [
 /// The record kinds of ids that are read.
 const ID_LEAVES: [u16; 7] = [0x1601, 0x1602, 0x1603, 0x1604, 0x1605, 0x1606, 0x1607];
 
-/// Whether the error of a type record is that a record of this kind is not read.
-fn is_refused_type(alloc: Global, number: u16) -> bool {
-    let bytes = number.to_le_bytes();
-    let read = parse_type_data(alloc, &bytes);
-    matches!(read, Err(Error::UnimplementedTypeKind(kind)) if kind == number)
-}
-
-/// Whether the error of an id record is that a record of this kind is not read.
-fn is_refused_id(alloc: Global, number: u16) -> bool {
-    let bytes = number.to_le_bytes();
-    let read = parse_id_data(alloc, &bytes);
+/// Whether the error is that a record of this kind is not read.
+fn is_unknown<T: Drop>(read: Result<T>, number: u16) -> bool {
     matches!(read, Err(Error::UnimplementedTypeKind(kind)) if kind == number)
 }
 
 /// Whether a type record and an id record of a kind have this error exactly if the kind is not in
 /// the lists above.
 fn is_judged(alloc: Global, number: u16) -> bool {
-    is_refused_type(alloc, number) != TYPE_LEAVES.contains(&number)
-        && is_refused_id(alloc, number) != ID_LEAVES.contains(&number)
+    let bytes = number.to_le_bytes();
+    is_unknown(parse_type_data(alloc, &bytes), number) != TYPE_LEAVES.contains(&number)
+        && is_unknown(parse_id_data(alloc, &bytes), number) != ID_LEAVES.contains(&number)
 }
 
 /// The error of any other number names the number.

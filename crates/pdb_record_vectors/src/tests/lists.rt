@@ -1,9 +1,7 @@
 //! Records with a list: arrays, arguments, methods and fields.
 
-use super::read::{
-    Says, ends_soon, is_parsed, is_read, is_read_with, is_refused_with, is_value_copied,
-};
-use pdb_base::{Error, ParseBuffer, RawString, Result, TypeIndex, Variant};
+use super::read::{ends_soon, is_parsed, is_read, is_same, is_value_copied, types_of, types_with};
+use pdb_base::{Error, ParseBuffer, RawString, TypeIndex, Variant};
 use pdb_flags::FieldAttributes;
 use pdb_records::{parse_type_data, skip_arguments, skip_field_list};
 use pdb_values::{
@@ -12,7 +10,7 @@ use pdb_values::{
     VirtualTableShapeType,
 };
 use std::alloc::Global;
-use std::test::Fail;
+use std::process::Abort;
 
 /// What holds of a list, beside what it says.
 enum Also {
@@ -291,128 +289,124 @@ fn field_value<'t>(field: &Field) -> TypeData<'t> {
 }
 
 /// A list of methods.
-fn method_list<'t>(alloc: Global, methods: &[Method]) -> Result<TypeData<'t>> {
+fn method_list(rt: &impl Abort, alloc: Global, methods: &[Method]) -> MethodList {
     let mut entries = Vec::new(alloc);
     for (attributes, method_type, vtable_offset) in methods {
-        entries.push(MethodListEntry {
+        let entry = MethodListEntry {
             attributes: FieldAttributes::new(*attributes),
             method_type: TypeIndex(*method_type),
             vtable_offset: *vtable_offset,
-        })?;
+        };
+        entries.push(entry).expect(rt, "memory");
     }
-    Ok(TypeData::MethodList(MethodList { methods: entries }))
+    MethodList { methods: entries }
 }
 
 /// What a type is that is no list of fields.
-fn value_of<'t>(alloc: Global, field: &Field) -> Result<TypeData<'t>> {
+fn value_of<'t>(rt: &impl Abort, alloc: Global, field: &Field) -> TypeData<'t> {
     match field {
-        Field::Array(element, stride, dimensions) => Ok(TypeData::Array(ArrayType {
+        Field::Array(element, stride, dimensions) => TypeData::Array(ArrayType {
             element_type: TypeIndex(*element),
             indexing_type: TypeIndex(0x23),
             stride: *stride,
-            dimensions: Vec::from_slice(alloc, dimensions)?,
-        })),
-        Field::Arguments(arguments) => Ok(TypeData::ArgumentList(ArgumentList {
-            arguments: Vec::from_slice(alloc, arguments)?,
-        })),
-        Field::Methods(methods) => method_list(alloc, methods),
-        _ => Ok(field_value(field)),
+            dimensions: Vec::from_slice(alloc, dimensions).expect(rt, "memory"),
+        }),
+        Field::Arguments(arguments) => TypeData::ArgumentList(ArgumentList {
+            arguments: Vec::from_slice(alloc, arguments).expect(rt, "memory"),
+        }),
+        Field::Methods(methods) => TypeData::MethodList(method_list(rt, alloc, methods)),
+        _ => field_value(field),
     }
 }
 
-/// A list of fields.
-fn field_list<'t>(
-    alloc: Global,
-    fields: &[Field],
-    continuation: Option<TypeIndex>,
-) -> Result<TypeData<'t>> {
+/// Fields.
+fn fields_of<'t>(rt: &impl Abort, alloc: Global, fields: &[Field]) -> Vec<TypeData<'t>> {
     let mut values = Vec::new(alloc);
     for field in fields {
-        values.push(value_of(alloc, field)?)?;
+        values.push(value_of(rt, alloc, field)).expect(rt, "memory");
     }
-    Ok(TypeData::FieldList(FieldList {
-        fields: values,
-        continuation,
-    }))
+    values
 }
 
-impl Says for Said {
-    fn value<'t>(&self, alloc: Global) -> Result<TypeData<'t>> {
-        match self {
-            Said::One(field) => value_of(alloc, field),
-            Said::Fields(fields, continuation) => field_list(alloc, fields, *continuation),
-        }
+/// What a record says.
+fn value_said<'t>(rt: &impl Abort, alloc: Global, said: &Said) -> TypeData<'t> {
+    match said {
+        Said::One(field) => value_of(rt, alloc, field),
+        Said::Fields(fields, continuation) => TypeData::FieldList(FieldList {
+            fields: fields_of(rt, alloc, fields),
+            continuation: *continuation,
+        }),
     }
 }
 
 /// Whether a copy of a list is equal.
 fn is_list_copied(alloc: Global, data: &TypeData<'_>) -> bool {
     match data {
-        TypeData::Array(array) => matches!(array.clone(alloc), Ok(copy) if copy == *array),
-        TypeData::ArgumentList(list) => matches!(list.clone(alloc), Ok(copy) if copy == *list),
-        TypeData::MethodList(list) => matches!(list.clone(alloc), Ok(copy) if copy == *list),
-        TypeData::FieldList(list) => matches!(list.clone(alloc), Ok(copy) if copy == *list),
+        TypeData::Array(array) => is_same(array.clone(alloc), array),
+        TypeData::ArgumentList(list) => is_same(list.clone(alloc), list),
+        TypeData::MethodList(list) => is_same(list.clone(alloc), list),
+        TypeData::FieldList(list) => is_same(list.clone(alloc), list),
         _ => false,
     }
 }
 
 /// Whether a copy is equal, of the whole and of its list.
-fn is_copied(alloc: Global, data: &TypeData<'_>) -> Result<bool> {
-    Ok(is_list_copied(alloc, data) && is_value_copied(alloc, data)?)
+fn is_copied(alloc: Global, data: &TypeData<'_>) -> bool {
+    is_list_copied(alloc, data) && is_value_copied(alloc, data)
 }
 
 /// Whether a record says the same with padding behind it, and is an error with another byte behind
 /// that, or where it is cut.
-fn is_padded(alloc: Global, record: &[u8], said: &Said) -> std::result::Result<bool, Fail> {
-    let is_padded = is_read_with(alloc, record, b"\xf3\xf2\xf1\xf0", said)?;
+fn is_padded(rt: &impl Abort, alloc: Global, record: &[u8], said: &Said) -> bool {
+    let padded = types_with(rt, alloc, record, b"\xf3\xf2\xf1\xf0");
+    let longer = types_with(rt, alloc, record, b"\xf3\xf2\xf1\xf0\x41");
+    let want = value_said(rt, alloc, said);
     let end = Error::UnexpectedEof;
-    let is_longer = is_refused_with(alloc, record, b"\xf3\xf2\xf1\xf0\x41", &end)?;
-    Ok(is_padded && is_longer && ends_soon(alloc, record))
+    is_read(rt, alloc, &padded, Ok(&want))
+        && is_read(rt, alloc, &longer, Err(&end))
+        && ends_soon(alloc, record)
 }
 
 /// How many bytes are left of a record of a list of arguments, once they are skipped.
-fn left_behind(record: &[u8]) -> Result<usize> {
+fn left_behind(rt: &impl Abort, record: &[u8]) -> usize {
     let mut buffer = ParseBuffer::from(record);
-    buffer.parse_u16()?;
-    skip_arguments(&mut buffer)?;
-    Ok(buffer.len())
+    buffer.parse_u16().expect(rt, "a kind");
+    skip_arguments(&mut buffer).expect(rt, "arguments");
+    buffer.len()
 }
 
 /// Which list continues the one in a record.
-fn continuation_of(alloc: Global, record: &[u8]) -> Result<Option<TypeIndex>> {
+fn continuation_of(rt: &impl Abort, alloc: Global, record: &[u8]) -> Option<TypeIndex> {
     let mut buffer = ParseBuffer::from(record);
-    buffer.parse_u16()?;
-    skip_field_list(alloc, &mut buffer)
+    buffer.parse_u16().expect(rt, "a kind");
+    skip_field_list(alloc, &mut buffer).expect(rt, "fields")
 }
 
 /// Whether what else holds of a list that says this does hold.
-fn does_hold(
-    alloc: Global,
-    record: &[u8],
-    said: &Said,
-    also: &Also,
-) -> std::result::Result<bool, Fail> {
+fn does_hold(rt: &impl Abort, alloc: Global, record: &[u8], said: &Said, also: &Also) -> bool {
     match also {
-        Also::Nothing => Ok(true),
-        Also::Padded => is_padded(alloc, record, said),
-        Also::Left(length) => Ok(left_behind(record)? == *length),
-        Also::GoesOn(index) => Ok(continuation_of(alloc, record)? == *index),
+        Also::Nothing => true,
+        Also::Padded => is_padded(rt, alloc, record, said),
+        Also::Left(length) => left_behind(rt, record) == *length,
+        Also::GoesOn(index) => continuation_of(rt, alloc, record) == *index,
     }
 }
 
 /// Whether a record says what its case has, in a table and alone, and what it says is copied.
-fn is_row(alloc: Global, row: &Row) -> std::result::Result<bool, Fail> {
+fn is_row(rt: &impl Abort, alloc: Global, row: &Row) -> bool {
     let (record, said, also) = row;
-    let is_read = is_read(alloc, record, said)? && is_parsed(alloc, record, said)?;
-    let is_copied = is_copied(alloc, &said.value(alloc)?)?;
-    Ok(is_read && is_copied && does_hold(alloc, record, said, also)?)
+    let table = types_of(rt, alloc, record);
+    let want = value_said(rt, alloc, said);
+    is_read(rt, alloc, &table, Ok(&want))
+        && is_parsed(rt, alloc, record, &want)
+        && is_copied(alloc, &want)
+        && does_hold(rt, alloc, record, said, also)
 }
 
 #[test]
-fn lists(rt: HostRuntime) -> std::result::Result<(), Fail> {
+fn lists(rt: HostRuntime) {
     for row in ROWS {
         let (record, ..) = row;
-        assert!(rt; is_row(rt.alloc(), row)?, "{record:?}");
+        assert!(rt; is_row(&rt, rt.alloc(), row), "{record:?}");
     }
-    Ok(())
 }

@@ -1,9 +1,9 @@
 //! The names of types.
 
-use pdb_base::{RawString, Result};
+use pdb_base::RawString;
 use pdb_records::parse_type_data;
-use pdb_values::TypeData;
 use std::alloc::Global;
+use std::process::Abort;
 
 /// The bytes of a type, and its name.
 const NAMES: &[(&[u8], Option<&str>)] = &[
@@ -52,22 +52,15 @@ fn is_name(name: Option<RawString<'_>>, want: Option<&str>) -> bool {
     }
 }
 
-/// Whether a type that is read has this name.
-fn has_name(read: &Result<TypeData<'_>>, want: Option<&str>) -> bool {
-    match read {
-        Ok(data) => is_name(data.name(), want),
-        Err(_) => false,
-    }
-}
-
 /// Whether the type that a record says has this name.
-fn is_named(alloc: Global, record: &[u8], want: Option<&str>) -> bool {
-    has_name(&parse_type_data(alloc, record), want)
+fn is_named(rt: &impl Abort, alloc: Global, record: &[u8], want: Option<&str>) -> bool {
+    let data = parse_type_data(alloc, record).expect(rt, "a type");
+    is_name(data.name(), want)
 }
 
 #[test]
 fn names(rt: HostRuntime) {
     for (record, want) in NAMES {
-        assert!(rt; is_named(rt.alloc(), record, *want), "{record:?}");
+        assert!(rt; is_named(&rt, rt.alloc(), record, *want), "{record:?}");
     }
 }

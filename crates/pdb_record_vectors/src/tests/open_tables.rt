@@ -4,7 +4,7 @@ use super::tables::{Fields, has_bytes, has_fields, is_long};
 use pdb_base::{Error, Result as Answer, TypeIndex};
 use pdb_tpi::{OpenTable, RecordPlace, TypeInformation};
 use std::alloc::Global;
-use std::test::Fail;
+use std::process::Abort;
 
 /// A call of an open table, with its answer.
 pub(super) enum OpenAsk {
@@ -34,61 +34,54 @@ fn is_at(answer: Answer<Option<RecordPlace>>, want: Option<RecordPlace>) -> bool
 }
 
 /// Whether an open table answers so.
-fn open_answers(alloc: Global, open: &OpenTable<TypeIndex>, ask: &OpenAsk) -> Result<bool, Fail> {
+fn open_answers(alloc: Global, open: &OpenTable<TypeIndex>, ask: &OpenAsk) -> bool {
     match ask {
-        OpenAsk::Index(index, count) => {
-            Ok(open.index() == *index && open.items().len() == *count)
-        }
-        OpenAsk::Find(index, want) => Ok(is_at(open.find(TypeIndex(*index)), *want)),
+        OpenAsk::Index(index, count) => open.index() == *index && open.items().len() == *count,
+        OpenAsk::Find(index, want) => is_at(open.find(TypeIndex(*index)), *want),
         OpenAsk::NotFound(index) => {
             let found = open.find(TypeIndex(*index));
-            Ok(matches!(found, Err(Error::TypeNotFound(bad)) if bad == *index))
+            matches!(found, Err(Error::TypeNotFound(bad)) if bad == *index)
         }
-        OpenAsk::Len(index, len) => Ok(is_long(open.item(TypeIndex(*index)), *len)),
-        OpenAsk::Bytes(index, bytes) => Ok(has_bytes(open.item(TypeIndex(*index)), bytes)),
-        OpenAsk::Fields(index, want) => {
-            Ok(has_fields(&open.fields(alloc, TypeIndex(*index)), want))
-        }
-        _ => Ok(false),
+        OpenAsk::Len(index, len) => is_long(open.item(TypeIndex(*index)), *len),
+        OpenAsk::Bytes(index, bytes) => has_bytes(open.item(TypeIndex(*index)), bytes),
+        OpenAsk::Fields(index, want) => has_fields(&open.fields(alloc, TypeIndex(*index)), want),
+        _ => false,
     }
 }
 
 /// Whether an open table answers so, once it has done what it is to do.
-fn open_does(alloc: Global, open: &mut OpenTable<TypeIndex>, ask: &OpenAsk) -> Result<bool, Fail> {
+fn open_does(alloc: Global, open: &mut OpenTable<TypeIndex>, ask: &OpenAsk) -> bool {
     match ask {
-        OpenAsk::Step(want) => Ok(is_at(open.step(), *want)),
+        OpenAsk::Step(want) => is_at(open.step(), *want),
         OpenAsk::Rewind => {
             open.rewind();
-            Ok(true)
+            true
         }
         OpenAsk::Learn(index) => {
             open.learn(TypeIndex(*index));
-            Ok(true)
+            true
         }
         _ => open_answers(alloc, open, ask),
     }
 }
 
 /// Whether an open table answers each of these so, one after the other.
-fn open_tells(
-    alloc: Global,
-    open: &mut OpenTable<TypeIndex>,
-    asks: &[OpenAsk],
-) -> Result<bool, Fail> {
+fn open_tells(alloc: Global, open: &mut OpenTable<TypeIndex>, asks: &[OpenAsk]) -> bool {
     for ask in asks {
-        if !open_does(alloc, open, ask)? {
-            return Ok(false);
+        if !open_does(alloc, open, ask) {
+            return false;
         }
     }
-    Ok(true)
+    true
 }
 
 /// Whether a table that is opened answers each of these so, one after the other.
 pub(super) fn opened_tells(
+    rt: &impl Abort,
     alloc: Global,
     table: TypeInformation,
     asks: &[OpenAsk],
-) -> Result<bool, Fail> {
-    let mut open = OpenTable::new(alloc, table)?;
+) -> bool {
+    let mut open = OpenTable::new(alloc, table).expect(rt, "an open table");
     open_tells(alloc, &mut open, asks)
 }

@@ -1,8 +1,10 @@
 //! Records without a list: the fields of each record kind. Each field has a value of its own, so
 //! that one read in the place of another shows.
 
-use super::read::{Says, ends_soon, is_parsed, is_read, is_read_with, is_value_copied, record_of};
-use pdb_base::{Error, RawString, TypeIndex, Variant};
+use super::read::{
+    ends_soon, is_parsed, is_read, is_value_copied, join_bytes, types_of, types_with,
+};
+use pdb_base::{RawString, TypeIndex, Variant};
 use pdb_flags::{FieldAttributes, FunctionAttributes, PointerAttributes, TypeProperties};
 use pdb_values::{
     BaseClassType, BitfieldType, ClassKind, ClassType, EnumerateType, EnumerationType,
@@ -11,7 +13,7 @@ use pdb_values::{
     VirtualFunctionTablePointerType, VirtualTableShapeType,
 };
 use std::alloc::Global;
-use std::test::Fail;
+use std::process::Abort;
 
 /// What a record says.
 enum Want {
@@ -635,75 +637,78 @@ fn virtual_base_class<'t>(direct: bool) -> TypeData<'t> {
 /// A pointer.
 fn pointer<'t>(
     underlying: u32,
-    word: u32,
+    attributes: PointerAttributes,
     containing_class: Option<TypeIndex>,
-) -> pdb_base::Result<TypeData<'t>> {
-    match PointerAttributes::new(word) {
-        Some(attributes) => Ok(TypeData::Pointer(PointerType {
-            underlying_type: TypeIndex(underlying),
-            attributes,
-            containing_class,
-        })),
-        None => Err(Error::UnimplementedTypeKind(0x1002)),
-    }
+) -> TypeData<'t> {
+    TypeData::Pointer(PointerType {
+        underlying_type: TypeIndex(underlying),
+        attributes,
+        containing_class,
+    })
 }
 
-impl Says for Want {
-    fn value<'t>(&self, _alloc: Global) -> pdb_base::Result<TypeData<'t>> {
-        match self {
-            Want::Class(kind) => Ok(class(*kind)),
-            Want::BareClass(vtable_shape) => Ok(bare_class(*vtable_shape)),
-            Want::HSize => Ok(h_size()),
-            Want::Enumeration(properties, unique_name) => Ok(enumeration(
-                *properties,
-                *unique_name,
-            )),
-            Want::Union(properties, unique_name) => Ok(union_of(*properties, *unique_name)),
-            Want::Enumerate(value) => Ok(enumerate(*value)),
-            Want::Member => Ok(member()),
-            Want::StaticMember => Ok(static_member()),
-            Want::Nested(attributes) => Ok(nested_type_value(*attributes)),
-            Want::Overloaded => Ok(overloaded_method_value()),
-            Want::Method(attributes, vtable_offset) => Ok(method(*attributes, *vtable_offset)),
-            Want::MemberFunction(this_pointer_type) => Ok(member_function(*this_pointer_type)),
-            Want::Procedure(return_type) => Ok(procedure(*return_type)),
-            Want::BaseClass(kind, offset) => Ok(base_class(*kind, *offset)),
-            Want::VirtualBaseClass { direct } => Ok(virtual_base_class(*direct)),
-            Want::TablePointer(pointer) => Ok(TypeData::VirtualFunctionTablePointer(*pointer)),
-            Want::Modifier(modifier) => Ok(TypeData::Modifier(*modifier)),
-            Want::Bitfield(bitfield) => Ok(TypeData::Bitfield(*bitfield)),
-            Want::TableShape(count, descriptors) => {
-                Ok(TypeData::VirtualTableShape(VirtualTableShapeType {
-                    count: *count,
-                    descriptors,
-                }))
-            }
-            Want::Pointer(underlying, word, containing_class) => {
-                pointer(*underlying, *word, *containing_class)
-            }
+/// What a record says.
+fn value_of<'t>(rt: &impl Abort, want: &Want) -> TypeData<'t> {
+    match want {
+        Want::Class(kind) => class(*kind),
+        Want::BareClass(vtable_shape) => bare_class(*vtable_shape),
+        Want::HSize => h_size(),
+        Want::Enumeration(properties, unique_name) => enumeration(*properties, *unique_name),
+        Want::Union(properties, unique_name) => union_of(*properties, *unique_name),
+        Want::Enumerate(value) => enumerate(*value),
+        Want::Member => member(),
+        Want::StaticMember => static_member(),
+        Want::Nested(attributes) => nested_type_value(*attributes),
+        Want::Overloaded => overloaded_method_value(),
+        Want::Method(attributes, vtable_offset) => method(*attributes, *vtable_offset),
+        Want::MemberFunction(this_pointer_type) => member_function(*this_pointer_type),
+        Want::Procedure(return_type) => procedure(*return_type),
+        Want::BaseClass(kind, offset) => base_class(*kind, *offset),
+        Want::VirtualBaseClass { direct } => virtual_base_class(*direct),
+        Want::TablePointer(pointer) => TypeData::VirtualFunctionTablePointer(*pointer),
+        Want::Modifier(modifier) => TypeData::Modifier(*modifier),
+        Want::Bitfield(bitfield) => TypeData::Bitfield(*bitfield),
+        Want::TableShape(count, descriptors) => {
+            TypeData::VirtualTableShape(VirtualTableShapeType {
+                count: *count,
+                descriptors,
+            })
+        }
+        Want::Pointer(underlying, word, containing_class) => {
+            let attributes = PointerAttributes::new(*word).expect(rt, "attributes of a pointer");
+            pointer(*underlying, attributes, *containing_class)
         }
     }
 }
 
-/// Whether the record of this kind says this, in a table and alone, and with a byte behind it too,
-/// and each proper prefix of it ends too soon.
-fn is_record_of(alloc: Global, record: &[u8], want: &Want) -> Result<bool, Fail> {
-    let is_whole = is_read(alloc, record, want)? && is_read_with(alloc, record, b"\x41", want)?;
-    Ok(is_whole && is_parsed(alloc, record, want)? && ends_soon(alloc, record))
+/// Whether a record says what is wanted, in a table and alone, and with a byte behind it too, and
+/// each proper prefix of it ends too soon, and a copy of what it says is equal.
+fn is_record_of(rt: &impl Abort, alloc: Global, record: &[u8], want: &Want) -> bool {
+    let table = types_of(rt, alloc, record);
+    let longer = types_with(rt, alloc, record, b"\x41");
+    let want = value_of(rt, want);
+    is_read(rt, alloc, &table, Ok(&want))
+        && is_read(rt, alloc, &longer, Ok(&want))
+        && is_parsed(rt, alloc, record, &want)
+        && ends_soon(alloc, record)
+        && is_value_copied(alloc, &want)
 }
 
-/// Whether a record says what its case has, and a copy of that is equal.
-fn is_row(alloc: Global, row: &Row) -> Result<bool, Fail> {
+/// Whether the record of a case's kind and fields says what the case has.
+fn is_row(rt: &impl Abort, alloc: Global, row: &Row) -> bool {
     let (leaf, fields, want) = row;
-    let record = record_of(alloc, *leaf, fields)?;
-    Ok(is_record_of(alloc, &record, want)? && is_value_copied(alloc, &want.value(alloc)?)?)
+    is_record_of(
+        rt,
+        alloc,
+        &join_bytes(rt, alloc, &leaf.to_le_bytes(), fields),
+        want,
+    )
 }
 
 #[test]
-fn records(rt: HostRuntime) -> Result<(), Fail> {
+fn records(rt: HostRuntime) {
     for row in ROWS {
         let (leaf, fields, _) = row;
-        assert!(rt; is_row(rt.alloc(), row)?, "{leaf:x} {fields:?}");
+        assert!(rt; is_row(&rt, rt.alloc(), row), "{leaf:x} {fields:?}");
     }
-    Ok(())
 }

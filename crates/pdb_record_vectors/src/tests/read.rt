@@ -7,150 +7,116 @@ use pdb_tpi::{TypeFinder, TypeInformation};
 use pdb_values::TypeData;
 use pdb_vectors::item_table;
 use std::alloc::Global;
-use std::test::Fail;
+use std::process::Abort;
 
-/// A record behind its length.
-fn item_of(alloc: Global, record: &[u8]) -> Result<Vec<u8>, Fail> {
-    let length = u16::try_from(record.len()).ok().ok_or("a long record")?;
-    let mut item = Vec::from_slice(alloc, &length.to_le_bytes())?;
-    item.extend_from_slice(record)?;
-    Ok(item)
+/// These bytes, and more behind them.
+pub(crate) fn join_bytes(rt: &impl Abort, alloc: Global, bytes: &[u8], more: &[u8]) -> Vec<u8> {
+    let mut longer = Vec::from_slice(alloc, bytes).expect(rt, "memory");
+    longer.extend_from_slice(more).expect(rt, "memory");
+    longer
 }
 
 /// A table of at most 512 bytes, whose header has 56 bytes, and whose one item, of index 0x1000, is
 /// this record.
-pub(crate) fn table_of(alloc: Global, record: &[u8]) -> Result<Stream, Fail> {
-    let item = item_of(alloc, record)?;
-    let bytes = item_table(alloc, 56, 0x1000, 0x1001, &item)?;
-    stream(alloc, &bytes)
+pub(crate) fn table_of(rt: &impl Abort, alloc: Global, record: &[u8]) -> Stream {
+    let length = u16::try_from(record.len()).expect(rt, "a short record");
+    let item = join_bytes(rt, alloc, &length.to_le_bytes(), record);
+    let bytes = item_table(alloc, 56, 0x1000, 0x1001, &item).expect(rt, "memory");
+    stream(rt, bytes)
 }
 
-/// The bytes of a record: the number of its kind, and what follows it.
-pub(crate) fn record_of(alloc: Global, leaf: u16, fields: &[u8]) -> Result<Vec<u8>, Fail> {
-    let mut record = Vec::new(alloc);
-    record.extend_from_slice(&leaf.to_le_bytes())?;
-    record.extend_from_slice(fields)?;
-    Ok(record)
+/// The types of that table.
+pub(crate) fn types_of(rt: &impl Abort, alloc: Global, record: &[u8]) -> TypeInformation {
+    TypeInformation::parse(table_of(rt, alloc, record)).expect(rt, "a table")
 }
 
-/// What a record says, for each case a value of its own.
-pub(crate) trait Says {
-    /// The value, made anew.
-    fn value<'t>(&self, alloc: Global) -> pdb_base::Result<TypeData<'t>>;
+/// The types of such a table, whose record has more bytes behind it.
+pub(crate) fn types_with(
+    rt: &impl Abort,
+    alloc: Global,
+    record: &[u8],
+    more: &[u8],
+) -> TypeInformation {
+    types_of(rt, alloc, &join_bytes(rt, alloc, record, more))
 }
 
-/// What is read of a type.
-type Read<'t> = pdb_base::Result<TypeData<'t>>;
+/// What is wanted of a record: a value, or an error.
+pub(crate) type Wanted<'w, T> = Result<&'w T, &'w Error>;
 
-/// Whether what was read is this value.
-fn is_value<'t>(read: &Read<'t>, want: &TypeData<'t>) -> bool {
-    match read {
-        Ok(data) => *data == *want,
-        Err(_) => false,
+/// Whether a value was made, and is equal to this one.
+pub(crate) fn is_same<T: Eq + Drop>(made: pdb_base::Result<T>, value: &T) -> bool {
+    matches!(made, Ok(data) if data == *value)
+}
+
+/// Whether no value was read, and the error is this one.
+fn is_refused<T: Drop>(read: pdb_base::Result<T>, want: &Error) -> bool {
+    matches!(read, Err(error) if is_error(&error, want))
+}
+
+/// Whether what was read is what is wanted.
+pub(crate) fn is_wanted<T: Eq + Drop>(read: pdb_base::Result<T>, want: Wanted<'_, T>) -> bool {
+    match want {
+        Ok(value) => is_same(read, value),
+        Err(error) => is_refused(read, error),
     }
 }
 
-/// Whether the type of an index of a finder's table is this value.
+/// Whether the bytes that were read end too soon.
+pub(crate) fn is_cut<T: Drop>(read: pdb_base::Result<T>) -> bool {
+    matches!(read, Err(Error::UnexpectedEof))
+}
+
+/// Whether the type of an index of a finder's table is what is wanted.
 fn is_found<'t>(
     alloc: Global,
     finder: &TypeFinder<'t>,
     index: u32,
-    want: &TypeData<'t>,
-) -> pdb_base::Result<bool> {
-    let item = finder.find(TypeIndex(index))?;
-    Ok(is_value(&item.parse(alloc), want))
-}
-
-/// Whether the type of an index of a table is what a case says.
-fn is_found_in<S: Says>(
-    alloc: Global,
-    table: &TypeInformation,
-    index: u32,
-    said: &S,
-) -> pdb_base::Result<bool> {
-    let want = said.value(alloc)?;
-    is_found(alloc, &table.finder(alloc)?, index, &want)
-}
-
-/// Whether the type of an index is what a case says, in a table whose one item is this record.
-pub(crate) fn is_read_at<S: Says>(
-    alloc: Global,
-    record: &[u8],
-    index: u32,
-    said: &S,
-) -> Result<bool, Fail> {
-    let table = TypeInformation::parse(table_of(alloc, record)?)?;
-    Ok(is_found_in(alloc, &table, index, said)?)
-}
-
-/// Whether the type of a record is what a case says, in a table whose one item it is.
-pub(crate) fn is_read<S: Says>(alloc: Global, record: &[u8], said: &S) -> Result<bool, Fail> {
-    is_read_at(alloc, record, 0x1000, said)
-}
-
-/// Whether the type of a record with more bytes behind it is what a case says.
-pub(crate) fn is_read_with<S: Says>(
-    alloc: Global,
-    record: &[u8],
-    more: &[u8],
-    said: &S,
-) -> Result<bool, Fail> {
-    is_read(alloc, &join_bytes(alloc, record, more)?, said)
-}
-
-/// A record with more bytes behind it.
-fn join_bytes(alloc: Global, record: &[u8], more: &[u8]) -> Result<Vec<u8>, Fail> {
-    let mut longer = Vec::from_slice(alloc, record)?;
-    longer.extend_from_slice(more)?;
-    Ok(longer)
-}
-
-/// Whether a record that is in no table says what a case says, and does so again.
-pub(crate) fn is_parsed<S: Says>(alloc: Global, record: &[u8], said: &S) -> pdb_base::Result<bool> {
-    let want = said.value(alloc)?;
-    let read = parse_type_data(alloc, record);
-    Ok(is_value(&read, &want) && is_value(&read, &parse_type_data(alloc, record)?))
-}
-
-/// The error of the type of an index in a finder's table.
-fn error_found(alloc: Global, finder: &TypeFinder<'_>, index: u32) -> Option<Error> {
+    want: Wanted<'_, TypeData<'t>>,
+) -> bool {
     match finder.find(TypeIndex(index)) {
-        Ok(item) => item.parse(alloc).err(),
-        Err(error) => Some(error),
+        Ok(item) => is_wanted(item.parse(alloc), want),
+        Err(error) => matches!(want, Err(same) if is_error(&error, same)),
     }
 }
 
-/// Whether the type of an index has this error, in a table whose one item is this record.
-pub(crate) fn is_refused_at(
+/// Whether the type of an index of a table is what is wanted.
+pub(crate) fn is_read_at<'t>(
+    rt: &impl Abort,
     alloc: Global,
-    record: &[u8],
+    table: &'t TypeInformation,
     index: u32,
-    want: &Error,
-) -> Result<bool, Fail> {
-    let table = TypeInformation::parse(table_of(alloc, record)?)?;
-    let found = error_found(alloc, &table.finder(alloc)?, index);
-    Ok(matches!(found, Some(error) if is_error(&error, want)))
+    want: Wanted<'_, TypeData<'t>>,
+) -> bool {
+    let finder = table.finder(alloc).expect(rt, "a finder");
+    is_found(alloc, &finder, index, want)
 }
 
-/// Whether the type of a record with more bytes behind it has this error.
-pub(crate) fn is_refused_with(
+/// Whether the type of a table's one item is what is wanted.
+pub(crate) fn is_read<'t>(
+    rt: &impl Abort,
     alloc: Global,
-    record: &[u8],
-    more: &[u8],
-    want: &Error,
-) -> Result<bool, Fail> {
-    is_refused_at(alloc, &join_bytes(alloc, record, more)?, 0x1000, want)
+    table: &'t TypeInformation,
+    want: Wanted<'_, TypeData<'t>>,
+) -> bool {
+    is_read_at(rt, alloc, table, 0x1000, want)
 }
 
-/// Whether a prefix of a record ends too soon.
-fn is_cut(alloc: Global, front: &[u8]) -> bool {
-    matches!(parse_type_data(alloc, front), Err(Error::UnexpectedEof))
+/// Whether a record that is in no table says this, and does so again.
+pub(crate) fn is_parsed<'t>(
+    rt: &impl Abort,
+    alloc: Global,
+    record: &'t [u8],
+    want: &TypeData<'t>,
+) -> bool {
+    let data = parse_type_data(alloc, record).expect(rt, "a type");
+    let again = parse_type_data(alloc, record);
+    data == *want && is_same(again, &data)
 }
 
 /// Whether each proper prefix of a record ends too soon.
 pub(crate) fn ends_soon(alloc: Global, record: &[u8]) -> bool {
     for length in 0..record.len() {
-        if !is_cut(alloc, &record[..length]) {
+        if !is_cut(parse_type_data(alloc, &record[..length])) {
             return false;
         }
     }
@@ -158,6 +124,6 @@ pub(crate) fn ends_soon(alloc: Global, record: &[u8]) -> bool {
 }
 
 /// Whether a copy of a value is equal.
-pub(crate) fn is_value_copied(alloc: Global, data: &TypeData<'_>) -> pdb_base::Result<bool> {
-    Ok(matches!(data.clone(alloc), Ok(copy) if copy == *data))
+pub(crate) fn is_value_copied(alloc: Global, data: &TypeData<'_>) -> bool {
+    is_same(data.clone(alloc), data)
 }

@@ -1,8 +1,9 @@
 //! Tables of types and ids: headers, walks and look-ups.
 
-ghost use Rattle.std.specs.Prelude.{◌≡◌, IfOk};
+ghost use Rattle.std.specs.Prelude.{◌≡◌};
 
 use super::open_tables::{OpenAsk, opened_tells};
+use super::read::is_same;
 use super::{is_error, stream};
 use pdb_base::{
     Count, Error, FallibleIterator, IdIndex, Result as Answer, Stream, TypeIndex, Variant,
@@ -14,7 +15,7 @@ use pdb_tpi::{
 use pdb_values::{PrimitiveKind, PrimitiveType, TypeData};
 use pdb_vectors::item_table;
 use std::alloc::Global;
-use std::test::Fail;
+use std::process::Abort;
 
 /// The stream of a table.
 enum Source {
@@ -431,31 +432,30 @@ const TABLES: &[(&str, Source, Ask)] = &[
 ];
 
 /// The bytes of a header, and zeros up to so many bytes.
-fn zeros(alloc: Global, size: u32, minimum: u32, maximum: u32, len: usize) -> Answer<Vec<u8>> {
-    let mut bytes = item_table(alloc, size, minimum, maximum, b"")?;
-    bytes.resize(len, 0)?;
-    Ok(bytes)
+fn zeros(rt: &impl Abort, bytes: Vec<u8>, len: usize) -> Vec<u8> {
+    let mut bytes = bytes;
+    bytes.resize(len, 0).expect(rt, "memory");
+    bytes
 }
 
 /// The bytes of a stream.
-fn bytes_of(alloc: Global, source: &Source) -> Answer<Vec<u8>> {
+fn bytes_of(rt: &impl Abort, alloc: Global, source: &Source) -> Vec<u8> {
     match source {
-        Source::Bytes(bytes) => Ok(Vec::from_slice(alloc, bytes)?),
+        Source::Bytes(bytes) => Vec::from_slice(alloc, bytes).expect(rt, "memory"),
         Source::Table(size, minimum, maximum, items) => {
-            item_table(alloc, *size, *minimum, *maximum, items)
+            item_table(alloc, *size, *minimum, *maximum, items).expect(rt, "memory")
         }
         Source::Zeros(size, minimum, maximum, len) => {
-            zeros(alloc, *size, *minimum, *maximum, *len)
+            let header = item_table(alloc, *size, *minimum, *maximum, b"").expect(rt, "memory");
+            zeros(rt, header, *len)
         }
     }
 }
 
 /// The table of a stream, of which there are less than 2^32 - 1 bytes.
-fn parse_table(alloc: Global, source: &Source) -> Answer<TypeInformation> {
-    let mut bytes = bytes_of(alloc, source)?;
-    if bytes.len() >= 0xffff_ffff {
-        bytes.clear();
-    }
+fn parse_table(rt: &impl Abort, alloc: Global, source: &Source) -> Answer<TypeInformation> {
+    let bytes = bytes_of(rt, alloc, source);
+    assert!(rt; bytes.len() < 0xffff_ffff);
     TypeInformation::parse(Stream::new(bytes))
 }
 
@@ -472,61 +472,56 @@ fn gives(answer: &Answer<Option<Type<'_>>>, want: &Step) -> bool {
 }
 
 /// Whether a step of an iterator gives this, and also a step of its clone.
-fn step_gives(iterator: &mut TypeIter<'_>, want: &Step) -> Result<bool, Fail> {
-    let again = iterator.clone()?.next();
-    Ok(gives(&iterator.next(), want) && gives(&again, want))
+fn step_gives(rt: &impl Abort, iterator: &mut TypeIter<'_>, want: &Step) -> bool {
+    let again = iterator.clone().expect(rt, "memory").next();
+    gives(&iterator.next(), want) && gives(&again, want)
 }
 
 /// Whether the steps of an iterator give these.
-fn steps_give(iterator: &mut TypeIter<'_>, steps: &[Step]) -> Result<bool, Fail> {
+fn steps_give(rt: &impl Abort, iterator: &mut TypeIter<'_>, steps: &[Step]) -> bool {
     for want in steps {
-        if !step_gives(iterator, want)? {
-            return Ok(false);
+        if !step_gives(rt, iterator, want) {
+            return false;
         }
     }
-    Ok(true)
+    true
 }
 
 /// An iterator of the table after so many steps.
-fn iterator_at(table: &TypeInformation, steps: usize) -> Result<TypeIter<'_>, Fail>
-    ensures { IfOk result (λ iterator. iterator.table ≡ table.now) }
+fn iterator_at<'t>(rt: &impl Abort, table: &'t TypeInformation, steps: usize) -> TypeIter<'t>
+    ensures { result.table ≡ table.now }
 {
     let mut walk = table.iter();
     for _ in 0..steps {
-        walk.next()?;
+        walk.next().expect(rt, "an item");
     }
-    Ok(walk)
+    walk
 }
 
 /// Feeds a finder an iterator of its table after each of these numbers of steps.
-fn show_each(
-    table: &TypeInformation,
-    finder: &mut TypeFinder<'_>,
-    steps: &[usize],
-) -> Result<bool, Fail>
+fn show_each(rt: &impl Abort, table: &TypeInformation, finder: &mut TypeFinder<'_>, steps: &[usize])
     requires { finder.old.table ≡ table.now }
     ensures { finder.new.table ≡ table.now }
 {
     for done in steps {
-        finder.update(&iterator_at(table, *done)?);
+        finder.update(&iterator_at(rt, table, *done));
     }
-    Ok(true)
 }
 
 /// Feeds a finder two iterators of its table at once, after so many steps each.
 fn show_both(
+    rt: &impl Abort,
     table: &TypeInformation,
     finder: &mut TypeFinder<'_>,
     first: usize,
     second: usize,
-) -> Result<bool, Fail>
+)
     requires { finder.old.table ≡ table.now }
     ensures { finder.new.table ≡ table.now }
 {
-    let first = iterator_at(table, first)?;
-    let second = iterator_at(table, second)?;
+    let first = iterator_at(rt, table, first);
+    let second = iterator_at(rt, table, second);
     finder.update_all(&[first, second]);
-    Ok(true)
 }
 
 /// Whether both look-ups of an index answer so, and the one that counts reads so many lengths,
@@ -547,7 +542,7 @@ const INTEGER: TypeData<'static> = TypeData::Primitive(PrimitiveType {
 /// Whether an item is the integer of 32 bits.
 fn is_integer(alloc: Global, answer: Answer<Type<'_>>) -> bool {
     match answer {
-        Ok(item) => matches!(item.parse(alloc), Ok(data) if data == INTEGER),
+        Ok(item) => is_same(item.parse(alloc), &INTEGER),
         Err(_) => false,
     }
 }
@@ -612,61 +607,71 @@ fn finder_answers(
 
 /// Whether a finder of a table answers so, once it is fed what it is to be fed.
 fn finder_does(
+    rt: &impl Abort,
     alloc: Global,
     table: &TypeInformation,
     finder: &mut TypeFinder<'_>,
     count: &mut Count,
     ask: &FinderAsk,
-) -> Result<bool, Fail>
+) -> bool
     requires { finder.old.table ≡ table.now }
     ensures { finder.new.table ≡ table.now }
 {
     match ask {
-        FinderAsk::Shown(steps) => show_each(table, finder, steps),
-        FinderAsk::ShownBoth(first, second) => show_both(table, finder, *first, *second),
+        FinderAsk::Shown(steps) => {
+            show_each(rt, table, finder, steps);
+            true
+        }
+        FinderAsk::ShownBoth(first, second) => {
+            show_both(rt, table, finder, *first, *second);
+            true
+        }
         FinderAsk::ShownNone => {
             finder.update_all(&[]);
-            Ok(true)
+            true
         }
-        _ => Ok(finder_answers(alloc, finder, count, ask)),
+        _ => finder_answers(alloc, finder, count, ask),
     }
 }
 
 /// Whether a finder of a table answers each of these so, one after the other.
 fn finder_tells(
+    rt: &impl Abort,
     alloc: Global,
     table: &TypeInformation,
     finder: &mut TypeFinder<'_>,
     asks: &[FinderAsk],
-) -> Result<bool, Fail>
+) -> bool
     requires { finder.old.table ≡ table.now }
 {
     let mut count = Count::new();
     for ask in asks {
-        if !finder_does(alloc, table, finder, &mut count, ask)? {
-            return Ok(false);
+        if !finder_does(rt, alloc, table, finder, &mut count, ask) {
+            return false;
         }
     }
-    Ok(true)
+    true
 }
 
 /// Whether a new finder answers each of these so, one after the other.
 fn new_finder_tells(
+    rt: &impl Abort,
     alloc: Global,
     table: &TypeInformation,
     asks: &[FinderAsk],
-) -> Result<bool, Fail> {
-    let mut finder = table.finder(alloc)?;
-    finder_tells(alloc, table, &mut finder, asks)
+) -> bool {
+    let mut finder = table.finder(alloc).expect(rt, "a finder");
+    finder_tells(rt, alloc, table, &mut finder, asks)
 }
 
 /// Makes so many finders of a table and keeps them all.
-fn make_finders(alloc: Global, table: &TypeInformation, count: usize) -> Result<bool, Fail> {
+fn make_finders(rt: &impl Abort, alloc: Global, table: &TypeInformation, count: usize) -> bool {
     let mut finders = Vec::new(alloc);
     for _ in 0..count {
-        finders.push(table.finder(alloc)?)?;
+        let finder = table.finder(alloc).expect(rt, "a finder");
+        finders.push(finder).expect(rt, "memory");
     }
-    Ok(finders.len() == count)
+    finders.len() == count
 }
 
 /// Whether a header of a table is this one, and counts so many indexes.
@@ -675,22 +680,22 @@ fn has_header(table: &TypeInformation, header: &Header, count: usize, is_empty: 
 }
 
 /// Whether a table answers so.
-fn table_answers(alloc: Global, table: &TypeInformation, ask: &Ask) -> Result<bool, Fail> {
+fn table_answers(rt: &impl Abort, alloc: Global, table: &TypeInformation, ask: &Ask) -> bool {
     match ask {
-        Ask::HeaderSize(size) => Ok(table.header().header_size == *size),
-        Ask::Header(header, count, is_empty) => Ok(has_header(table, header, *count, *is_empty)),
-        Ask::Walk(steps) => steps_give(&mut table.iter(), steps),
-        Ask::Finder(asks) => new_finder_tells(alloc, table, asks),
-        Ask::Finders(count) => make_finders(alloc, table, *count),
-        _ => Ok(false),
+        Ask::HeaderSize(size) => table.header().header_size == *size,
+        Ask::Header(header, count, is_empty) => has_header(table, header, *count, *is_empty),
+        Ask::Walk(steps) => steps_give(rt, &mut table.iter(), steps),
+        Ask::Finder(asks) => new_finder_tells(rt, alloc, table, asks),
+        Ask::Finders(count) => make_finders(rt, alloc, table, *count),
+        _ => false,
     }
 }
 
 /// Whether a table that is owned answers so.
-fn owned_answers(alloc: Global, table: TypeInformation, ask: &Ask) -> Result<bool, Fail> {
+fn owned_answers(rt: &impl Abort, alloc: Global, table: TypeInformation, ask: &Ask) -> bool {
     match ask {
-        Ask::Open(asks) => opened_tells(alloc, table, asks),
-        _ => table_answers(alloc, &table, ask),
+        Ask::Open(asks) => opened_tells(rt, alloc, table, asks),
+        _ => table_answers(rt, alloc, &table, ask),
     }
 }
 
@@ -700,19 +705,18 @@ fn is_refusal(error: &Error, ask: &Ask) -> bool {
 }
 
 /// Whether the table of a stream answers so, or has the expected error.
-fn is_row(alloc: Global, source: &Source, ask: &Ask) -> Result<bool, Fail> {
-    match parse_table(alloc, source) {
-        Ok(table) => owned_answers(alloc, table, ask),
-        Err(error) => Ok(is_refusal(&error, ask)),
+fn is_row(rt: &impl Abort, alloc: Global, source: &Source, ask: &Ask) -> bool {
+    match parse_table(rt, alloc, source) {
+        Ok(table) => owned_answers(rt, alloc, table, ask),
+        Err(error) => is_refusal(&error, ask),
     }
 }
 
 #[test]
-fn tables(rt: HostRuntime) -> Result<(), Fail> {
+fn tables(rt: HostRuntime) {
     for (name, source, ask) in TABLES {
-        assert!(rt; is_row(rt.alloc(), source, ask)?, "{name}");
+        assert!(rt; is_row(&rt, rt.alloc(), source, ask), "{name}");
     }
-    Ok(())
 }
 
 /// Whether a look-up fails with an error that has its index.
@@ -732,31 +736,30 @@ fn lists_none(empty: &IdInformation) -> bool {
 }
 
 /// Whether a table has no ids, and its finder finds none.
-fn has_none(alloc: Global, empty: &IdInformation) -> Answer<bool> {
-    let ids = empty.finder(alloc)?;
-    Ok(finds_none(&ids) && lists_none(empty))
+fn has_none(rt: &impl Abort, alloc: Global, empty: &IdInformation) -> bool {
+    let ids = empty.finder(alloc).expect(rt, "a finder");
+    finds_none(&ids) && lists_none(empty)
 }
 
 /// Whether the table of an empty stream has no ids.
-fn is_empty_table(alloc: Global) -> Answer<bool> {
-    let empty = IdInformation::parse(Stream::new(Vec::new(alloc)))?;
-    has_none(alloc, &empty)
+fn is_empty_table(rt: &impl Abort, alloc: Global) -> bool {
+    let empty = IdInformation::parse(Stream::new(Vec::new(alloc))).expect(rt, "a table");
+    has_none(rt, alloc, &empty)
 }
 
 /// Whether a table of ids is headed as one of types is.
-fn is_table_of_ids(alloc: Global) -> Result<bool, Fail> {
-    let ids = IdInformation::parse(stream(alloc, &FIELDS)?)?;
-    Ok(ids.header() == HEADER && ids.len() == 0xff0f0eff - 0x0c0b0a09 && !ids.is_empty())
+fn is_table_of_ids(rt: &impl Abort, alloc: Global) -> bool {
+    let bytes = Vec::from_slice(alloc, &FIELDS).expect(rt, "memory");
+    let ids = IdInformation::parse(stream(rt, bytes)).expect(rt, "a table");
+    ids.header() == HEADER && ids.len() == 0xff0f0eff - 0x0c0b0a09 && !ids.is_empty()
 }
 
 #[test]
-fn ids(rt: HostRuntime) -> Result<(), Fail> {
-    assert!(rt; is_table_of_ids(rt.alloc())?);
-    Ok(())
+fn ids(rt: HostRuntime) {
+    assert!(rt; is_table_of_ids(&rt, rt.alloc()));
 }
 
 #[test]
-fn no_ids(rt: HostRuntime) -> Result<(), Fail> {
-    assert!(rt; is_empty_table(rt.alloc())?);
-    Ok(())
+fn no_ids(rt: HostRuntime) {
+    assert!(rt; is_empty_table(&rt, rt.alloc()));
 }
