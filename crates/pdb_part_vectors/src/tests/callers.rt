@@ -1,13 +1,14 @@
 //! Calls for programs in other languages over a file of which a byte is wrong: each error is that of
 //! the first fault, and never `OutOfMemory`, since there is plenty of memory.
 
-use pdb_base::{Error, Result};
+use super::{file_of, write_at};
+use pdb_base::Error;
 use pdb_handles::Fault;
 use pdb_handles::file::{addresses_in, frames_in, layout_in, named_stream_in};
 use pdb_handles::information::{information_in, stream_names_in};
 use pdb_handles::roles::roles_in;
 use std::alloc::Global;
-use std::test::Fail;
+use std::process::Abort;
 
 /// The header of a file: page size 512, free page map 1, 8 pages used, a directory of 28 bytes, and
 /// page 3, which says where the directory is.
@@ -32,7 +33,7 @@ const DEBUG: &[u8] =
     b"\xff\xff\xff\xffw\x091\x01\x01\0\0\0\0\0\0\0\0\0\0\0\0\0\0\0\0\0\0\0\0\0\0\0\0\0\0\0\0\0\0\0\0\0\0\0\0\0\0\0\x16\0\0\0\0\0\0\0\0\0\0\0\0\0\0\0\x09\0\xff\xff\xff\xff\xff\xff\xff\xff\x08\0\xff\xff\xff\xff\xff\xff\xff\xff\xff\xff";
 
 /// The pages of the file.
-const PAGES: [&[u8]; 8] = [
+const PAGES: &[&[u8]] = &[
     HEADER,
     b"",
     b"",
@@ -42,23 +43,6 @@ const PAGES: [&[u8]; 8] = [
     DEBUG,
     b"",
 ];
-
-/// Bytes in a page.
-const PAGE_SIZE: usize = 512;
-
-/// The file, with a byte set to another.
-fn file_with(alloc: Global, place: usize, byte: u8) -> Result<Vec<u8>> {
-    let mut file = Vec::new(alloc);
-    for page in PAGES {
-        let mut bytes = Vec::from_slice(alloc, page)?;
-        bytes.resize(PAGE_SIZE, 0)?;
-        file.extend_from_slice(&bytes)?;
-    }
-    if let Some(at) = file.get_mut(place) {
-        *at = byte;
-    }
-    Ok(file)
-}
 
 /// A call.
 #[derive(Clone, Copy, Debug)]
@@ -153,25 +137,29 @@ const STREAMS: &[Row] = &[
     (FIRST_OF_3, 0xff, Call::Frames, NOT_FOUND, 9),
 ];
 
+/// Whether an error has this status and this number, and no second one.
+fn is_fault(error: &Error, status: u32, number: u32) -> bool {
+    let fault = Fault::of(error);
+    fault.status == status && fault.first == number && fault.second == 0
+}
+
 /// Whether a call fails with the error of its case.
-fn is_refused(alloc: Global, row: &Row) -> Result<bool> {
+fn is_refused(rt: &impl Abort, alloc: Global, row: &Row) -> bool {
     let (place, byte, call, status, number) = *row;
-    let file = file_with(alloc, place, byte)?;
-    Ok(match error_of(alloc, &file, call) {
-        Some(error) => {
-            let fault = Fault::of(&error);
-            fault.status == status && fault.first == number && fault.second == 0
-        }
+    let mut file = file_of(rt, alloc, PAGES);
+    write_at(&mut file, place, byte);
+    match error_of(alloc, &file, call) {
+        Some(error) => is_fault(&error, status, number),
         None => false,
-    })
+    }
 }
 
 #[test]
-fn refused_files(rt: HostRuntime) -> std::result::Result<(), Fail> {
+fn refused_files(rt: HostRuntime) {
     for rows in [OPENED, STREAMS] {
         for row in rows {
             assert!(rt;
-                is_refused(rt.alloc(), row)?,
+                is_refused(&rt, rt.alloc(), row),
                 "byte {:#x} is {:#x}: {:?}",
                 row.0,
                 row.1,
@@ -179,5 +167,4 @@ fn refused_files(rt: HostRuntime) -> std::result::Result<(), Fail> {
             );
         }
     }
-    Ok(())
 }

@@ -1,5 +1,6 @@
 //! Small files, tables and lists, of which each breaks one relation. The bytes are written by hand.
 
+use super::{bytes_with, file_of, write_at};
 use pdb_base::{Stream, TypeIndex};
 use pdb_consistency::{
     Extent, Inconsistency, Mismatch, check_buckets, check_debug_sizes, check_hashes, check_pages,
@@ -8,10 +9,7 @@ use pdb_consistency::{
 use pdb_file::section_headers::section_headers;
 use pdb_tpi::{OpenTable, TypeInformation};
 use std::alloc::Global;
-use std::test::Fail;
-
-/// The size of a page in bytes.
-const PAGE_SIZE: usize = 512;
+use std::process::Abort;
 
 /// The header of a file: page size 512, free page map 1, 8 pages used, a directory of 28 bytes, and
 /// page 3, which says where the directory is.
@@ -21,6 +19,9 @@ const HEADER: &[u8] =
 /// The directory in page 4: three streams, of 0, 600 and 100 bytes. Stream 1 is in pages 5 and 6,
 /// stream 2 in page 7. It begins at byte 0x800 of the file.
 const DIRECTORY: &[u8] = b"\x03\0\0\0\0\0\0\0\x58\x02\0\0\x64\0\0\0\x05\0\0\0\x06\0\0\0\x07\0\0\0";
+
+/// The pages of the file.
+const FILE: &[&[u8]] = &[HEADER, b"", b"", b"\x04", DIRECTORY, b"", b"", b""];
 
 /// Offsets in the file, the byte that is written there, and what is then inconsistent first, with
 /// the stream and the byte of it.
@@ -101,44 +102,15 @@ const DEBUG: &[u8] =
 const SECTIONS: &[u8] =
     b"\0\0\0\0\0\0\0\0\0\x10\0\0\0\x10\0\0\0\0\0\0\0\0\0\0\0\0\0\0\0\0\0\0\0\0\0\0\0\0\0\0\0\0\0\0\0\0\0\0\0\x10\0\0\0\x20\0\0\0\0\0\0\0\0\0\0\0\0\0\0\0\0\0\0\0\0\0\0\0\0\0\0";
 
-/// Writes a byte at an offset.
-fn write_at(bytes: &mut Vec<u8>, offset: usize, byte: u8) {
-    if let Some(place) = bytes.get_mut(offset) {
-        *place = byte;
-    }
-}
-
-/// Returns a stream of these bytes. Fails if there are more than 512.
-fn stream(alloc: Global, bytes: &[u8]) -> Result<Stream, Fail> {
-    if bytes.len() > 512 {
-        return Err(Fail::new("a long stream"));
-    }
-    Ok(Stream::new(Vec::from_slice(alloc, bytes)?))
-}
-
-/// Returns these bytes, of which one is replaced.
-fn bytes_with(alloc: Global, bytes: &[u8], offset: usize, byte: u8) -> Result<Vec<u8>, Fail> {
-    let mut copy = Vec::from_slice(alloc, bytes)?;
-    write_at(&mut copy, offset, byte);
-    Ok(copy)
+/// Returns a stream of these bytes, of which there are at most 512.
+fn stream(rt: &impl Abort, alloc: Global, bytes: &[u8]) -> Stream {
+    assert!(rt; bytes.len() <= 512, "a long stream");
+    Stream::new(Vec::from_slice(alloc, bytes).expect(rt, "memory"))
 }
 
 /// Returns a stream of these bytes, of which one is replaced.
-fn stream_with(alloc: Global, bytes: &[u8], offset: usize, byte: u8) -> Result<Stream, Fail> {
-    stream(alloc, &bytes_with(alloc, bytes, offset, byte)?)
-}
-
-/// Returns the small file.
-fn small_file(alloc: Global) -> Result<Vec<u8>, Fail> {
-    let mut file = vec![in alloc; 0; 8 * PAGE_SIZE]?;
-    for (place, byte) in HEADER.iter().enumerate() {
-        write_at(&mut file, place, *byte);
-    }
-    write_at(&mut file, 0x600, 4);
-    for (place, byte) in DIRECTORY.iter().enumerate() {
-        write_at(&mut file, 0x800 + place, *byte);
-    }
-    Ok(file)
+fn stream_with(rt: &impl Abort, alloc: Global, bytes: &[u8], offset: usize, byte: u8) -> Stream {
+    stream(rt, alloc, &bytes_with(rt, alloc, bytes, offset, byte))
 }
 
 /// Whether there is one mismatch, which is this one, at these places.
@@ -158,138 +130,155 @@ fn is_lone(
     matches!(found, [mismatch] if *mismatch == wanted)
 }
 
+/// Returns what is inconsistent between the pages of a file.
+fn page_mismatches(rt: &impl Abort, alloc: Global, file: &[u8], extent: Extent) -> Vec<Mismatch> {
+    check_pages(alloc, file, extent).expect(rt, "memory")
+}
+
 /// Whether a file of which a byte is replaced has this mismatch alone.
-fn is_page_damage(alloc: Global, row: &(usize, u8, u32, u64, Inconsistency)) -> Result<bool, Fail> {
+fn is_page_damage(
+    rt: &impl Abort,
+    alloc: Global,
+    row: &(usize, u8, u32, u64, Inconsistency),
+) -> bool {
     let (offset, byte, stream, place, what) = *row;
-    let mut file = small_file(alloc)?;
+    let mut file = file_of(rt, alloc, FILE);
     write_at(&mut file, offset, byte);
-    let found = check_pages(alloc, &file, Extent::First)?;
-    Ok(is_lone(&found, stream, None, place, what))
+    let found = page_mismatches(rt, alloc, &file, Extent::First);
+    is_lone(&found, stream, None, place, what)
 }
 
 #[test]
-fn pages(rt: HostRuntime) -> Result<(), Fail> {
-    let file = small_file(rt.alloc())?;
-    assert!(rt; check_pages(rt.alloc(), &file, Extent::All)?.is_empty());
+fn pages(rt: HostRuntime) {
+    let file = file_of(&rt, rt.alloc(), FILE);
+    assert!(rt; page_mismatches(&rt, rt.alloc(), &file, Extent::All).is_empty());
     for row in PAGES.iter() {
-        assert!(rt; is_page_damage(rt.alloc(), row)?, "{:#x}", row.0);
+        assert!(rt; is_page_damage(&rt, rt.alloc(), row), "{:#x}", row.0);
     }
-    Ok(())
 }
 
 /// Returns the table of types.
-fn types(alloc: Global, bytes: &[u8]) -> Result<TypeInformation, Fail> {
-    Ok(TypeInformation::parse(stream(alloc, bytes)?)?)
+fn types(rt: &impl Abort, alloc: Global, bytes: &[u8]) -> TypeInformation {
+    TypeInformation::parse(stream(rt, alloc, bytes)).expect(rt, "a table")
 }
 
 /// Returns what is inconsistent between the records of a table of types.
-fn record_mismatches(alloc: Global, bytes: &[u8], extent: Extent) -> Result<Vec<Mismatch>, Fail> {
-    let types = types(alloc, bytes)?;
-    Ok(check_type_records(alloc, &types, 2, extent)?)
+fn record_mismatches(
+    rt: &impl Abort,
+    alloc: Global,
+    bytes: &[u8],
+    extent: Extent,
+) -> Vec<Mismatch> {
+    let types = types(rt, alloc, bytes);
+    check_type_records(alloc, &types, 2, extent).expect(rt, "memory")
 }
 
 /// Whether a table of which a byte is replaced has this mismatch alone.
 fn is_record_damage(
+    rt: &impl Abort,
     alloc: Global,
     row: &(usize, u8, u64, u64, Inconsistency),
-) -> Result<bool, Fail> {
+) -> bool {
     let (offset, byte, index, place, what) = *row;
-    let bytes = bytes_with(alloc, TYPES, offset, byte)?;
-    let found = record_mismatches(alloc, &bytes, Extent::First)?;
-    Ok(is_lone(&found, 2, Some(index), place, what))
+    let bytes = bytes_with(rt, alloc, TYPES, offset, byte);
+    let found = record_mismatches(rt, alloc, &bytes, Extent::First);
+    is_lone(&found, 2, Some(index), place, what)
 }
 
 #[test]
-fn records(rt: HostRuntime) -> Result<(), Fail> {
-    assert!(rt; record_mismatches(rt.alloc(), TYPES, Extent::All)?.is_empty());
+fn records(rt: HostRuntime) {
+    assert!(rt; record_mismatches(&rt, rt.alloc(), TYPES, Extent::All).is_empty());
     for row in RECORDS.iter() {
-        assert!(rt; is_record_damage(rt.alloc(), row)?, "{:#x}", row.0);
+        assert!(rt; is_record_damage(&rt, rt.alloc(), row), "{:#x}", row.0);
     }
-    Ok(())
 }
 
-/// Returns the table of types with the hash stream, open up to its last record.
-fn hashed_types(alloc: Global) -> Result<OpenTable<TypeIndex>, Fail> {
-    let mut table = OpenTable::new(alloc, types(alloc, TYPES)?)?;
+/// Returns what is inconsistent between the table of types, which is open up to its last record,
+/// and a hash stream.
+fn hash_mismatches(rt: &impl Abort, alloc: Global, hashes: &[u8], extent: Extent) -> Vec<Mismatch> {
+    let mut table = OpenTable::new(alloc, types(rt, alloc, TYPES)).expect(rt, "an open table");
     table.learn(TypeIndex(0x1001));
-    Ok(table)
-}
-
-/// Returns what is inconsistent between the table of types and a hash stream.
-fn hash_mismatches(alloc: Global, hashes: &[u8], extent: Extent) -> Result<Vec<Mismatch>, Fail> {
-    let table = hashed_types(alloc)?;
-    Ok(check_hashes(alloc, 7, &table, hashes, extent)?)
+    check_hashes(alloc, 7, &table, hashes, extent).expect(rt, "memory")
 }
 
 /// Whether a hash stream of which a byte is replaced has this mismatch alone.
-fn is_hash_damage(alloc: Global, row: &(usize, u8, u64, u64, Inconsistency)) -> Result<bool, Fail> {
+fn is_hash_damage(
+    rt: &impl Abort,
+    alloc: Global,
+    row: &(usize, u8, u64, u64, Inconsistency),
+) -> bool {
     let (offset, byte, index, place, what) = *row;
-    let bytes = bytes_with(alloc, HASHES, offset, byte)?;
-    let found = hash_mismatches(alloc, &bytes, Extent::First)?;
-    Ok(is_lone(&found, 7, Some(index), place, what))
+    let bytes = bytes_with(rt, alloc, HASHES, offset, byte);
+    let found = hash_mismatches(rt, alloc, &bytes, Extent::First);
+    is_lone(&found, 7, Some(index), place, what)
 }
 
 /// Whether a hash stream that ends after its first hash has too few of them.
-fn has_few_hashes(alloc: Global) -> Result<bool, Fail> {
-    let found = hash_mismatches(alloc, &HASHES[..4], Extent::First)?;
-    Ok(matches!(found.as_slice(), [mismatch] if mismatch.what == Inconsistency::HashCount(1)))
+fn has_few_hashes(rt: &impl Abort, alloc: Global) -> bool {
+    let found = hash_mismatches(rt, alloc, &HASHES[..4], Extent::First);
+    matches!(found.as_slice(), [mismatch] if mismatch.what == Inconsistency::HashCount(1))
 }
 
 #[test]
-fn hashes(rt: HostRuntime) -> Result<(), Fail> {
-    assert!(rt; hash_mismatches(rt.alloc(), HASHES, Extent::All)?.is_empty());
-    assert!(rt; has_few_hashes(rt.alloc())?);
+fn hashes(rt: HostRuntime) {
+    assert!(rt; hash_mismatches(&rt, rt.alloc(), HASHES, Extent::All).is_empty());
+    assert!(rt; has_few_hashes(&rt, rt.alloc()));
     for row in HASH_DAMAGES.iter() {
-        assert!(rt; is_hash_damage(rt.alloc(), row)?, "{}", row.0);
+        assert!(rt; is_hash_damage(&rt, rt.alloc(), row), "{}", row.0);
     }
-    Ok(())
+}
+
+/// Returns what is inconsistent in the buckets of a string table.
+fn bucket_mismatches(
+    rt: &impl Abort,
+    alloc: Global,
+    bytes: &[u8],
+    extent: Extent,
+) -> Vec<Mismatch> {
+    check_buckets(alloc, 5, bytes, extent).expect(rt, "memory")
 }
 
 /// Whether a string table of which a byte is replaced has this mismatch alone.
-fn is_bucket_damage(alloc: Global, row: &(usize, u8, u64, Inconsistency)) -> Result<bool, Fail> {
+fn is_bucket_damage(rt: &impl Abort, alloc: Global, row: &(usize, u8, u64, Inconsistency)) -> bool {
     let (offset, byte, place, what) = *row;
-    let bytes = bytes_with(alloc, NAMES, offset, byte)?;
-    let found = check_buckets(alloc, 5, &bytes, Extent::First)?;
-    Ok(is_lone(&found, 5, None, place, what))
+    let bytes = bytes_with(rt, alloc, NAMES, offset, byte);
+    let found = bucket_mismatches(rt, alloc, &bytes, Extent::First);
+    is_lone(&found, 5, None, place, what)
 }
 
 #[test]
-fn buckets(rt: HostRuntime) -> Result<(), Fail> {
-    assert!(rt; check_buckets(rt.alloc(), 5, NAMES, Extent::All)?.is_empty());
+fn buckets(rt: HostRuntime) {
+    assert!(rt; bucket_mismatches(&rt, rt.alloc(), NAMES, Extent::All).is_empty());
     for row in BUCKETS.iter() {
-        assert!(rt; is_bucket_damage(rt.alloc(), row)?, "{:#x}", row.0);
+        assert!(rt; is_bucket_damage(&rt, rt.alloc(), row), "{:#x}", row.0);
     }
-    Ok(())
 }
 
 #[test]
-fn debug_sizes(rt: HostRuntime) -> Result<(), Fail> {
-    let header = stream(rt.alloc(), DEBUG)?;
+fn debug_sizes(rt: HostRuntime) {
+    let header = stream(&rt, rt.alloc(), DEBUG);
     assert!(rt; check_debug_sizes(&header).is_none());
     // The size of the section contributions.
-    let found = check_debug_sizes(&stream_with(rt.alloc(), DEBUG, 28, 1)?);
+    let found = check_debug_sizes(&stream_with(&rt, rt.alloc(), DEBUG, 28, 1));
     assert!(rt; matches!(found, Some(mismatch) if mismatch.what == Inconsistency::DebugSizes));
-    Ok(())
 }
 
 /// Returns what is inconsistent in the order of some sections.
-fn section_mismatches(alloc: Global, stream: &Stream) -> Result<Vec<Mismatch>, Fail> {
-    let headers = section_headers(alloc, stream)?;
-    Ok(check_section_order(alloc, &headers, 9, Extent::All)?)
+fn section_mismatches(rt: &impl Abort, alloc: Global, stream: &Stream) -> Vec<Mismatch> {
+    let headers = section_headers(alloc, stream).expect(rt, "section headers");
+    check_section_order(alloc, &headers, 9, Extent::All).expect(rt, "memory")
 }
 
 /// Whether the sections overlap once the first one is a byte longer.
-fn is_overlap_found(alloc: Global) -> Result<bool, Fail> {
-    let found = section_mismatches(alloc, &stream_with(alloc, SECTIONS, 8, 1)?)?;
+fn is_overlap_found(rt: &impl Abort, alloc: Global) -> bool {
+    let found = section_mismatches(rt, alloc, &stream_with(rt, alloc, SECTIONS, 8, 1));
     let overlap = Inconsistency::SectionsOverlap;
-    Ok(
-        matches!(found.as_slice(), [mismatch] if mismatch.what == overlap && mismatch.index == Some(1)),
-    )
+    matches!(found.as_slice(), [mismatch] if mismatch.what == overlap && mismatch.index == Some(1))
 }
 
 #[test]
-fn sections(rt: HostRuntime) -> Result<(), Fail> {
-    assert!(rt; section_mismatches(rt.alloc(), &stream(rt.alloc(), SECTIONS)?)?.is_empty());
-    assert!(rt; is_overlap_found(rt.alloc())?);
-    Ok(())
+fn sections(rt: HostRuntime) {
+    let stream = stream(&rt, rt.alloc(), SECTIONS);
+    assert!(rt; section_mismatches(&rt, rt.alloc(), &stream).is_empty());
+    assert!(rt; is_overlap_found(&rt, rt.alloc()));
 }

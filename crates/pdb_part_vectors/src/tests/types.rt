@@ -5,7 +5,7 @@ use pdb_base::{Stream, TypeIndex};
 use pdb_tpi::{OpenTable, TypeInformation};
 use pdb_types::{Definitions, Gap, GapKind, Layout, LayoutField, Span};
 use std::alloc::Global;
-use std::test::Fail;
+use std::process::Abort;
 
 /// A table of types.
 const TABLE: [u8; 311] = [
@@ -213,74 +213,79 @@ const TYPES: [(u32, Option<u64>, Option<u32>); 18] = [
     (0x100c, None, None),
 ];
 
-/// Opens a table.
-///
-/// # Errors
-/// A failure if it has more than 4,096 bytes.
-fn open_table(alloc: Global, bytes: &[u8]) -> Result<OpenTable<TypeIndex>, Fail> {
-    if bytes.len() > 4096 {
-        return Err(Fail::new("a long table"));
-    }
-    let bytes = Vec::from_slice(alloc, bytes)?;
-    let table = TypeInformation::parse(Stream::new(bytes))?;
-    let mut types = OpenTable::new(alloc, table)?;
+/// Opens a table, which has at most 4,096 bytes.
+fn open_table(rt: &impl Abort, alloc: Global, bytes: &[u8]) -> OpenTable<TypeIndex> {
+    assert!(rt; bytes.len() <= 4096, "a long table");
+    let bytes = Vec::from_slice(alloc, bytes).expect(rt, "memory");
+    let table = TypeInformation::parse(Stream::new(bytes)).expect(rt, "a table");
+    let mut types = OpenTable::new(alloc, table).expect(rt, "an open table");
     types.learn(TypeIndex(0x1013));
-    Ok(types)
+    types
 }
 
-/// Returns the first index of `TYPES` whose type has another size.
-fn wrong_size(alloc: Global, definitions: &Definitions<'_>) -> Result<Option<u32>, Fail> {
+/// Returns the definitions of a table.
+fn definitions_in<'t>(
+    rt: &impl Abort,
+    alloc: Global,
+    types: &'t OpenTable<TypeIndex>,
+) -> Definitions<'t> {
+    Definitions::new(alloc, types).expect(rt, "memory")
+}
+
+/// Whether a type has this size.
+fn has_size(alloc: Global, definitions: &Definitions<'_>, index: u32, size: Option<u64>) -> bool {
+    matches!(definitions.size_of(alloc, TypeIndex(index)), Ok(found) if found == size)
+}
+
+#[test]
+fn sizes(rt: HostRuntime) {
+    let types = open_table(&rt, rt.alloc(), &TABLE);
+    let definitions = definitions_in(&rt, rt.alloc(), &types);
     for (index, size, _) in TYPES.iter() {
-        if definitions.size_of(alloc, TypeIndex(*index))? != *size {
-            return Ok(Some(*index));
-        }
+        assert!(rt;
+            has_size(rt.alloc(), &definitions, *index, *size),
+            "{index:#x}"
+        );
     }
-    Ok(None)
-}
-
-#[test]
-fn sizes(rt: HostRuntime) -> Result<(), Fail> {
-    let types = open_table(rt.alloc(), &TABLE)?;
-    let definitions = Definitions::new(rt.alloc(), &types)?;
-    let wrong = wrong_size(rt.alloc(), &definitions)?;
-    assert!(rt; wrong.is_none(), "{wrong:?}");
     assert!(rt; definitions.size_of(rt.alloc(), TypeIndex(0x100d)).is_err());
-    Ok(())
 }
 
-/// Returns the first index of `TYPES` whose type has another definition.
-fn wrong_definition(alloc: Global, definitions: &Definitions<'_>) -> Result<Option<u32>, Fail> {
+/// Whether a type has this definition.
+fn has_definition(
+    alloc: Global,
+    definitions: &Definitions<'_>,
+    index: u32,
+    definition: Option<u32>,
+) -> bool {
+    let found = definitions.definition_of(alloc, TypeIndex(index));
+    matches!(found, Ok(found) if found.map(u32::from) == definition)
+}
+
+#[test]
+fn definitions(rt: HostRuntime) {
+    let types = open_table(&rt, rt.alloc(), &TABLE);
+    let definitions = definitions_in(&rt, rt.alloc(), &types);
     for (index, _, definition) in TYPES.iter() {
-        let found = definitions.definition_of(alloc, TypeIndex(*index))?;
-        if found.map(u32::from) != *definition {
-            return Ok(Some(*index));
-        }
+        assert!(rt;
+            has_definition(rt.alloc(), &definitions, *index, *definition),
+            "{index:#x}"
+        );
     }
-    Ok(None)
+}
+
+/// Whether these are the indexes of the definitions of a name.
+fn are_indexes(rt: &impl Abort, alloc: Global, name: &[u8], indexes: &[TypeIndex]) -> bool {
+    let types = open_table(rt, alloc, &TABLE);
+    let definitions = definitions_in(rt, alloc, &types);
+    let found = definitions.all_definitions(alloc, name);
+    matches!(found, Ok(found) if found.as_slice() == indexes)
 }
 
 #[test]
-fn definitions(rt: HostRuntime) -> Result<(), Fail> {
-    let types = open_table(rt.alloc(), &TABLE)?;
-    let definitions = Definitions::new(rt.alloc(), &types)?;
-    let wrong = wrong_definition(rt.alloc(), &definitions)?;
-    assert!(rt; wrong.is_none(), "{wrong:?}");
-    Ok(())
-}
-
-/// Returns the indexes of the definitions of a name.
-fn indexes_of(alloc: Global, name: &[u8]) -> Result<Vec<TypeIndex>, Fail> {
-    let types = open_table(alloc, &TABLE)?;
-    let definitions = Definitions::new(alloc, &types)?;
-    Ok(definitions.all_definitions(alloc, name)?)
-}
-
-#[test]
-fn names(rt: HostRuntime) -> Result<(), Fail> {
+fn names(rt: HostRuntime) {
     let both = [TypeIndex(0x1006), TypeIndex(0x100b)];
-    assert!(rt; indexes_of(rt.alloc(), b"S")?.as_slice() == both.as_slice());
-    assert!(rt; indexes_of(rt.alloc(), b".?AUS@@")?.is_empty());
-    Ok(())
+    assert!(rt; are_indexes(&rt, rt.alloc(), b"S", &both));
+    assert!(rt; are_indexes(&rt, rt.alloc(), b".?AUS@@", &[]));
 }
 
 /// Returns the span of some bits.
@@ -313,27 +318,28 @@ fn is_laid_out(layout: &Layout<'_>, size: u64, fields: &[Span], gaps: &[Gap]) ->
 
 /// Whether a class has a layout of this size, with these bits of fields and these gaps.
 fn has_layout(
+    rt: &impl Abort,
     alloc: Global,
     index: u32,
     size: u64,
     fields: &[Span],
     gaps: &[Gap],
-) -> Result<bool, Fail> {
-    let types = open_table(alloc, &CLASSES)?;
-    let definitions = Definitions::new(alloc, &types)?;
-    let found = definitions.layout_of(alloc, TypeIndex(index))?;
-    Ok(matches!(found, Some(layout) if is_laid_out(&layout, size, fields, gaps)))
+) -> bool {
+    let types = open_table(rt, alloc, &CLASSES);
+    let definitions = definitions_in(rt, alloc, &types);
+    let found = definitions.layout_of(alloc, TypeIndex(index));
+    matches!(found, Ok(Some(layout)) if is_laid_out(&layout, size, fields, gaps))
 }
 
 /// Whether a type has no layout.
-fn has_no_layout(alloc: Global, index: u32) -> Result<bool, Fail> {
-    let types = open_table(alloc, &CLASSES)?;
-    let definitions = Definitions::new(alloc, &types)?;
-    Ok(definitions.layout_of(alloc, TypeIndex(index))?.is_none())
+fn has_no_layout(rt: &impl Abort, alloc: Global, index: u32) -> bool {
+    let types = open_table(rt, alloc, &CLASSES);
+    let definitions = definitions_in(rt, alloc, &types);
+    matches!(definitions.layout_of(alloc, TypeIndex(index)), Ok(None))
 }
 
 #[test]
-fn layout_of_a_class(rt: HostRuntime) -> Result<(), Fail> {
+fn layout_of_a_class(rt: HostRuntime) {
     let fields = [
         span(0, 64),
         span(64, 96),
@@ -349,59 +355,70 @@ fn layout_of_a_class(rt: HostRuntime) -> Result<(), Fail> {
         gap(GapKind::VirtualBases, 336, 448),
         gap(GapKind::UnusedBits, 335, 336),
     ];
-    assert!(rt; has_layout(rt.alloc(), 0x1006, 56, &fields, &gaps)?);
-    assert!(rt; has_layout(rt.alloc(), 0x100b, 56, &fields, &gaps)?);
-    Ok(())
+    assert!(rt; has_layout(&rt, rt.alloc(), 0x1006, 56, &fields, &gaps));
+    assert!(rt; has_layout(&rt, rt.alloc(), 0x100b, 56, &fields, &gaps));
 }
 
 #[test]
-fn layout_of_a_union(rt: HostRuntime) -> Result<(), Fail> {
+fn layout_of_a_union(rt: HostRuntime) {
     let fields = [span(0, 32), span(0, 8), span(35, 47)];
     let gaps = [
         gap(GapKind::Hole, 48, 64),
         gap(GapKind::UnusedBits, 32, 35),
         gap(GapKind::UnusedBits, 47, 48),
     ];
-    assert!(rt; has_layout(rt.alloc(), 0x100a, 8, &fields, &gaps)?);
-    Ok(())
+    assert!(rt; has_layout(&rt, rt.alloc(), 0x100a, 8, &fields, &gaps));
 }
 
 #[test]
-fn layout_without_fields(rt: HostRuntime) -> Result<(), Fail> {
+fn layout_without_fields(rt: HostRuntime) {
     let gaps = [gap(GapKind::Hole, 0, 8)];
-    assert!(rt; has_layout(rt.alloc(), 0x100c, 1, &[], &gaps)?);
-    assert!(rt; has_no_layout(rt.alloc(), 0x1002)?);
-    assert!(rt; has_no_layout(rt.alloc(), 0x0074)?);
-    Ok(())
+    assert!(rt; has_layout(&rt, rt.alloc(), 0x100c, 1, &[], &gaps));
+    assert!(rt; has_no_layout(&rt, rt.alloc(), 0x1002));
+    assert!(rt; has_no_layout(&rt, rt.alloc(), 0x0074));
 }
 
 #[test]
-fn layout_beyond_the_size(rt: HostRuntime) -> Result<(), Fail> {
+fn layout_beyond_the_size(rt: HostRuntime) {
     let start = 0x7_ffff_ffff_ffff_fff8;
     let fields = [span(start, start + 24), span(8, 8)];
     let gaps = [gap(GapKind::Hole, 0, 24)];
-    assert!(rt; has_layout(rt.alloc(), 0x1008, 3, &fields, &gaps)?);
-    Ok(())
+    assert!(rt; has_layout(&rt, rt.alloc(), 0x1008, 3, &fields, &gaps));
 }
 
-/// Returns the first index of `TEXTS` whose type declares the name by another text.
-fn wrong_text(alloc: Global, definitions: &Definitions<'_>) -> Result<Option<u32>, Fail> {
-    for (index, name, text) in TEXTS.iter() {
-        let found = definitions.text_of(alloc, TypeIndex(*index), name.as_bytes())?;
-        if found.as_slice() != text.as_bytes() {
-            return Ok(Some(*index));
-        }
-    }
-    Ok(None)
+/// Whether a type declares a name by this text.
+fn has_text(
+    alloc: Global,
+    definitions: &Definitions<'_>,
+    index: u32,
+    name: &[u8],
+    text: &[u8],
+) -> bool {
+    let found = definitions.text_of(alloc, TypeIndex(index), name);
+    matches!(found, Ok(found) if found.as_slice() == text)
+}
+
+/// Whether the text of a type without a name begins with this.
+fn begins_with(alloc: Global, definitions: &Definitions<'_>, index: u32, start: &[u8]) -> bool {
+    let found = definitions.text_of(alloc, TypeIndex(index), &[]);
+    matches!(found, Ok(found) if found.starts_with(start))
 }
 
 #[test]
-fn texts(rt: HostRuntime) -> Result<(), Fail> {
-    let types = open_table(rt.alloc(), &DECLARATIONS)?;
-    let definitions = Definitions::new(rt.alloc(), &types)?;
-    let wrong = wrong_text(rt.alloc(), &definitions)?;
-    assert!(rt; wrong.is_none(), "{wrong:?}");
-    let nested = definitions.text_of(rt.alloc(), TypeIndex(0x1013), &[])?;
-    assert!(rt; nested.starts_with(b"void (void (void ("));
-    Ok(())
+fn texts(rt: HostRuntime) {
+    let types = open_table(&rt, rt.alloc(), &DECLARATIONS);
+    let definitions = definitions_in(&rt, rt.alloc(), &types);
+    for (index, name, text) in TEXTS.iter() {
+        assert!(rt;
+            has_text(
+                rt.alloc(),
+                &definitions,
+                *index,
+                name.as_bytes(),
+                text.as_bytes()
+            ),
+            "{index:#x}"
+        );
+    }
+    assert!(rt; begins_with(rt.alloc(), &definitions, 0x1013, b"void (void (void ("));
 }

@@ -1,11 +1,9 @@
 //! A small file that is whole, and damages of each of its parts. The bytes are written by hand.
 
+use super::{file_of, write_at};
 use pdb_validation::{Extent, Finding, Part, validate};
 use std::alloc::Global;
-use std::test::Fail;
-
-/// The size of a page in bytes.
-const PAGE_SIZE: usize = 512;
+use std::process::Abort;
 
 /// The header: page size 512, free page map 1, 14 pages used, a directory of 80 bytes, and page 3,
 /// which says where the directory is.
@@ -13,9 +11,8 @@ const HEADER: &[u8] =
     b"Microsoft C/C++ MSF 7.00\r\n\x1aDS\0\0\0\x00\x02\0\0\x01\0\0\0\x0e\0\0\0\x50\0\0\0\0\0\0\0\x03\0\0\0";
 
 /// The directory: ten streams with their sizes, and a page for each but stream 0, which is empty.
-const DIRECTORY: [u32; 20] = [
-    10, 0, 67, 82, 86, 66, 27, 40, 16, 64, 32, 4, 5, 6, 7, 8, 9, 10, 11, 12,
-];
+const DIRECTORY: &[u8] =
+    b"\x0a\0\0\0\0\0\0\0\x43\0\0\0\x52\0\0\0\x56\0\0\0\x42\0\0\0\x1b\0\0\0\x28\0\0\0\x10\0\0\0\x40\0\0\0\x20\0\0\0\x04\0\0\0\x05\0\0\0\x06\0\0\0\x07\0\0\0\x08\0\0\0\x09\0\0\0\x0a\0\0\0\x0b\0\0\0\x0c\0\0\0";
 
 /// Stream 1: the numbers of the file, and a table that names stream 5 `/names`.
 const INFORMATION: &[u8] =
@@ -96,26 +93,8 @@ const DAMAGED_RECORDS: [(usize, u8, u64, u64, Option<u64>, &str); 4] = [
     (0xe38, 0x09, 0x1000, 0x38, Some(0xe38), "IDS-RECORD-CUT"),
 ];
 
-/// Adds a page that begins with these bytes.
-fn push_page(file: &mut Vec<u8>, bytes: &[u8]) -> Result<(), Fail> {
-    file.extend_from_slice(bytes)?;
-    for _ in bytes.len()..PAGE_SIZE {
-        file.push(0)?;
-    }
-    Ok(())
-}
-
-/// Returns the page of the directory.
-fn directory(alloc: Global) -> Result<Vec<u8>, Fail> {
-    let mut directory = Vec::new(alloc);
-    for word in DIRECTORY.iter() {
-        directory.extend_from_slice(&word.to_le_bytes())?;
-    }
-    Ok(directory)
-}
-
-/// The pages of the small file before its directory.
-const PAGES: [&[u8]; 13] = [
+/// The pages of the small file.
+const PAGES: &[&[u8]] = &[
     HEADER,
     b"",
     b"",
@@ -129,25 +108,19 @@ const PAGES: [&[u8]; 13] = [
     OMAP,
     NEW_FRAMES,
     OLD_FRAMES,
+    DIRECTORY,
 ];
 
-/// Returns the small file.
-fn small_file(alloc: Global) -> Result<Vec<u8>, Fail> {
-    let mut file = Vec::new(alloc);
-    for page in PAGES {
-        push_page(&mut file, page)?;
-    }
-    push_page(&mut file, &directory(alloc)?)?;
-    Ok(file)
+/// Returns the small file, of which a byte is replaced.
+fn file_with(rt: &impl Abort, alloc: Global, offset: usize, byte: u8) -> Vec<u8> {
+    let mut file = file_of(rt, alloc, PAGES);
+    write_at(&mut file, offset, byte);
+    file
 }
 
-/// Returns the small file, of which a byte is replaced.
-fn file_with(alloc: Global, offset: usize, byte: u8) -> Result<Vec<u8>, Fail> {
-    let mut file = small_file(alloc)?;
-    if let Some(place) = file.get_mut(offset) {
-        *place = byte;
-    }
-    Ok(file)
+/// Returns what is found in a file.
+fn findings_in(rt: &impl Abort, alloc: Global, file: &[u8], extent: Extent) -> Vec<Finding> {
+    validate(alloc, file, extent).expect(rt, "memory")
 }
 
 /// Returns how many of some findings are errors: the records of the small file are not aligned.
@@ -161,76 +134,69 @@ fn error_count(findings: &[Finding]) -> usize {
     count
 }
 
-/// Whether the first finding has this index, byte of the stream, byte of the file and code.
-fn is_first(
-    alloc: Global,
-    findings: &[Finding],
-    places: (Option<u64>, Option<u64>, Option<u64>),
-    code: &str,
-) -> Result<bool, Fail> {
-    let Some(first) = findings.first() else {
-        return Ok(false);
-    };
-    let text = format!(in alloc; "{}", first.code())?;
-    Ok((first.index, first.byte, first.file_byte) == places && text.as_str() == code)
+/// Returns how many errors are found in a file.
+fn errors_in(rt: &impl Abort, alloc: Global, file: &[u8], extent: Extent) -> usize {
+    error_count(&findings_in(rt, alloc, file, extent))
+}
+
+/// Whether a finding has this code.
+fn has_code(rt: &impl Abort, alloc: Global, finding: &Finding, code: &str) -> bool {
+    let text = format!(in alloc; "{}", finding.code()).expect(rt, "memory");
+    text.as_str() == code
 }
 
 #[test]
-fn whole(rt: HostRuntime) -> Result<(), Fail> {
-    let findings = validate(rt.alloc(), &small_file(rt.alloc())?, Extent::All)?;
-    assert!(rt; error_count(&findings) == 0);
-    Ok(())
+fn whole(rt: HostRuntime) {
+    let file = file_of(&rt, rt.alloc(), PAGES);
+    assert!(rt; errors_in(&rt, rt.alloc(), &file, Extent::All) == 0);
 }
 
 /// Whether the first finding of the small file with a byte replaced is in this part.
-fn is_in_part(alloc: Global, offset: usize, byte: u8, part: Part) -> Result<bool, Fail> {
-    let file = file_with(alloc, offset, byte)?;
-    let findings = validate(alloc, &file, Extent::First)?;
-    Ok(matches!(findings.first(), Some(finding) if finding.part == part))
+fn is_in_part(rt: &impl Abort, alloc: Global, offset: usize, byte: u8, part: Part) -> bool {
+    let file = file_with(rt, alloc, offset, byte);
+    let findings = findings_in(rt, alloc, &file, Extent::First);
+    matches!(findings.first(), Some(finding) if finding.part == part)
 }
 
 #[test]
-fn damaged_files(rt: HostRuntime) -> Result<(), Fail> {
+fn damaged_files(rt: HostRuntime) {
     for (offset, byte, part) in DAMAGES.iter() {
         assert!(rt;
-            is_in_part(rt.alloc(), *offset, *byte, *part)?,
+            is_in_part(&rt, rt.alloc(), *offset, *byte, *part),
             "{offset:#x}"
         );
     }
-    Ok(())
 }
 
 /// Whether the first finding of the small file with a byte replaced has this index, byte of the
 /// stream, byte of the file and code.
 fn is_record_found(
+    rt: &impl Abort,
     alloc: Global,
     row: &(usize, u8, u64, u64, Option<u64>, &str),
-) -> Result<bool, Fail> {
+) -> bool {
     let (offset, value, index, byte, file_byte, code) = *row;
-    let file = file_with(alloc, offset, value)?;
-    let findings = validate(alloc, &file, Extent::First)?;
-    is_first(alloc, &findings, (Some(index), Some(byte), file_byte), code)
+    let file = file_with(rt, alloc, offset, value);
+    let findings = findings_in(rt, alloc, &file, Extent::First);
+    let first = findings.first().expect(rt, "a finding");
+    let places = (Some(index), Some(byte), file_byte);
+    (first.index, first.byte, first.file_byte) == places && has_code(rt, alloc, first, code)
 }
 
 #[test]
-fn damaged_records(rt: HostRuntime) -> Result<(), Fail> {
+fn damaged_records(rt: HostRuntime) {
     for row in DAMAGED_RECORDS.iter() {
-        assert!(rt; is_record_found(rt.alloc(), row)?, "{:#x}", row.0);
+        assert!(rt; is_record_found(&rt, rt.alloc(), row), "{:#x}", row.0);
     }
-    Ok(())
 }
 
 /// Type 0x1001 becomes a list of arguments that ends before their number, so that type 0x1002 is
 /// continued by no field list; and stream 9 has a page that is none.
 #[test]
-fn every_one(rt: HostRuntime) -> Result<(), Fail> {
-    let mut file = small_file(rt.alloc())?;
-    for (offset, value) in [(0xa44, 0x01), (0x1a4c, 0x00)] {
-        if let Some(place) = file.get_mut(offset) {
-            *place = value;
-        }
-    }
-    assert!(rt; error_count(&validate(rt.alloc(), &file, Extent::First)?) == 2);
-    assert!(rt; error_count(&validate(rt.alloc(), &file, Extent::All)?) == 3);
-    Ok(())
+fn every_one(rt: HostRuntime) {
+    let mut file = file_of(&rt, rt.alloc(), PAGES);
+    write_at(&mut file, 0xa44, 0x01);
+    write_at(&mut file, 0x1a4c, 0x00);
+    assert!(rt; errors_in(&rt, rt.alloc(), &file, Extent::First) == 2);
+    assert!(rt; errors_in(&rt, rt.alloc(), &file, Extent::All) == 3);
 }
