@@ -13,7 +13,7 @@ use std::io::{ErrorKind, Read};
 const BLOCK_SIZE: usize = 65_536;
 
 /// The most reads that an input may take.
-const MOST_READS: u32 = u32::MAX;
+pub const MOST_READS: u32 = u32::MAX;
 
 const _: () = prove!(MOST_READS == 4_294_967_295);
 

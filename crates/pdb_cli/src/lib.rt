@@ -13,7 +13,7 @@ mod words;
 
 pub use arguments::{texts_of, words_of};
 pub use channels::{serve, tell};
-pub use input::{read_all, read_within};
+pub use input::{MOST_READS, read_all, read_within};
 pub use lines::reply_lines;
 pub use outcome::{Outcome, act, usage};
 pub use process::{Errors, program};

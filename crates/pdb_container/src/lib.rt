@@ -8,6 +8,7 @@ mod query;
 mod read_streams;
 mod replies;
 
+pub use open_tables::OpenTables;
 pub use pdb_base::Count;
 pub use pdb_base::Error;
 pub use pdb_base::FallibleIterator;

@@ -1,11 +1,10 @@
 -- The lines of an answer.
-use Rattle.std.specs.Prelude.{ℕ, Bool, true, false, ◌&&◌, List, [], ◌∷◌, ◌++◌, map, codes, Option, Some, None}
+use Rattle.std.specs.Prelude.{ℕ, Bool, true, false, List, [], ◌∷◌, ◌++◌, codes, Option, Some, None}
 use Rattle.std.specs.List.{flat_map}
 use Rattle.std.specs.Option.{option_map}
 use Rattle.std.specs.declared.ops.Range.{Range}
 use Rattle.hex.specs.Hex.{encode_lower}
 use Rattle.pdb_base.specs.Refusal.{refusal_of}
-use Rattle.pdb_container.specs.declared.query.Query.{Query}
 use Rattle.pdb_container.specs.declared.query.Reply.{Reply}
 use Rattle.pdb_container.specs.declared.query.Reply.TheVariants as replies
 use Rattle.pdbdump_rows.specs.declared.form.Form.{Form}
@@ -13,7 +12,6 @@ use Rattle.pdbdump_rows.specs.Fields.{optional_text}
 use Rattle.pdbdump_rows.specs.Lines.{row_text}
 use Rattle.pdbdump_rows.specs.Refused.{refusal_shown}
 use Rattle.pdbdump_rows.specs.Row.{ShownField, ShownRow, hexadecimal, kind, text}
-use Rattle.pdbdump_cli.specs.Questions.{Asking}
 
 -- the row of a question, which is repeated before its answer
 abbrev pub question_shown : List ℕ → ShownRow
@@ -69,23 +67,3 @@ is_answer (Some reply) = true
 -- a question, and the lines of its answer behind it
 unfoldable pub answered_text : Form → List ℕ → Option Reply → List ℕ
 answered_text form line reply = row_text form (question_shown line) ++ answer_text form reply
-
--- the reply to a question, and the replies that are left for the others; a line that asks nothing has
--- none
-abbrev pub next_reply : Option Query → List Reply → Option Reply × List Reply
-next_reply None replies = (None, replies)
-next_reply (Some query) [] = (None, [])
-next_reply (Some query) (reply ∷ replies) = (Some reply, replies)
-
--- the lines of all answers, each behind its question
-unfoldable pub answers_text : Form → List Asking → List Reply → List ℕ
-answers_text form [] replies = []
-answers_text form (question ∷ questions) replies =
-    let next = next_reply question.1 replies in answered_text form question.0 next.0
-    ++ answers_text form questions next.1
-
--- whether all questions are answered
-unfoldable pub are_answers : List Asking → List Reply → Bool
-are_answers [] replies = true
-are_answers (question ∷ questions) replies = let next = next_reply question.1 replies in is_answer next.0
-    && are_answers questions next.1

@@ -1,17 +1,23 @@
--- What is written when a file is asked questions.
-use Rattle.std.specs.Prelude.{◌≡◌, ◌⊎◌, ◌&&◌, ℕ, Bool, true, false, List, [], ◌∷◌, ◌++◌, Option, Some, None, Result, Ok}
+-- What is written when a file is asked questions, each as it is read.
+use Rattle.std.specs.Prelude.{◌≡◌, ◌⊎◌, ◌&&◌, ℕ, Bool, true, List, [], ◌∷◌, ◌++◌, Option, Some, None, Result, Ok}
 use Rattle.std.specs.Prelude.{Err}
+use Rattle.std.specs.Io.KnownBytes.{Consumes, IsAtEnd}
+use Rattle.std.specs.List.{slice_split}
 use Rattle.pdb_base.specs.declared.error.Error.{Error}
 use Rattle.pdb_base.specs.declared.error.Error.TheVariants.{OutOfMemory}
 use Rattle.pdb_base.specs.Refusal.{refusal_of}
+use Rattle.pdb_cli.specs.Channels.{IsUnread}
 use Rattle.pdb_container.specs.declared.query.Query.{Query}
 use Rattle.pdb_container.specs.declared.query.Reply.{Reply}
+use Rattle.pdb_container.specs.OpenTables.{AreOf}
 use Rattle.pdb_container.specs.Reply.{IsReply, reply_of}
+use Rattle.pdb_msf.specs.File.{stream_of}
 use Rattle.pdb_msf.specs.Header.{Head, file_head}
 use Rattle.pdbdump_rows.specs.declared.form.Form.{Form}
-use Rattle.pdb_output.specs.Output.{OutputState, Gets, IsCutShort}
+use Rattle.pdb_output.specs.Output.{OutputState, Gets, IsOutputFailure, IsPrefix}
 use Rattle.pdbdump_cli.specs.Answers.{answered_text, is_answer}
-use Rattle.pdbdump_cli.specs.Questions.{Asking, questions_in}
+use Rattle.pdbdump_cli.specs.Questions.{Asking, ends_line, questions_in, questions_of}
+use Rattle.pdbdump_cli.specs.declared.answers.Asked.{Asked}
 
 -- What a file replies to a question: nothing if the line asks nothing, and else what the file says, or
 -- its refusal.
@@ -38,20 +44,75 @@ AreAnswered form file head [] lines all = (lines ≡ []) × (all ≡ true)
 AreAnswered form file head (question ∷ questions) lines all =
     IsAnsweredThen form file head question (AreAnswered form file head questions) lines all
 
--- the lines of all answers to the questions of a text, and whether all are answered
-pub record AreAnswerLines (form : Form) (file questions : List ℕ) (lines : List ℕ) (all : Bool) : Type 0 where
-  pub head : Head
-  pub is_head : file_head file ≡ Ok head
-  pub are_answered : AreAnswered form file head (questions_in questions) lines all
+-- The first of these questions were answered, and a prefix of the lines of their answers was written.
+pub record AreFirstAnswered (form : Form) (file : List ℕ) (head : Head) (questions : List Asking)
+    (old new : Option (List ℕ)) : Type 0 where
+  pub first : List Asking
+  pub others : List Asking
+  pub are_first : questions ≡ first ++ others
+  pub lines : List ℕ
+  pub all : Bool
+  pub are_answered : AreAnswered form file head first lines all
+  pub prefix : IsPrefix lines old new
 
--- A file was asked the questions in a text: the lines of all answers were written, and the result is
--- whether all are answered. Or the file is refused, or memory ran out before the first line, and
--- nothing was written; or the lines were cut short.
-abbrev pub IsAsked : Form → List ℕ → List ℕ → OutputState → OutputState → Result Bool Error → Type 0
-IsAsked form file questions old new (Ok all) = (lines : List ℕ) × AreAnswerLines form file questions lines all
-    × Gets old new lines
-IsAsked form file questions old new (Err e) =
-    ((file_head file ≡ Err (refusal_of e)) × (new ≡ old))
-    ⊎ (((e ≡ OutOfMemory) × (new ≡ old)) ⊎ ((lines : List ℕ) × (all : Bool)
-    × AreAnswerLines form file questions lines all
-    × IsCutShort lines old new e))
+-- The result of answering questions: the lines of all answers were written, and the result is whether all are
+-- answered; or the output failed, or memory ran out, behind a prefix of them.
+abbrev pub AnswersAll : Form → List ℕ → Head → List Asking → OutputState → OutputState → Result Bool Error → Type 0
+AnswersAll form file head questions old new (Ok all) = (lines : List ℕ)
+    × AreAnswered form file head questions lines all × Gets old new lines
+AnswersAll form file head questions old new (Err e) = AreFirstAnswered form file head questions old.contents new.contents
+    × IsOutputFailure old new e
+
+-- Why asking ends early: the output failed, or memory ran out, or the questions can't be read.
+abbrev pub IsAskingFailure : OutputState → OutputState → Error → Type 0
+IsAskingFailure old new e = IsOutputFailure old new e ⊎ (IsUnread e × (new.has_failed ≡ old.has_failed))
+
+-- A file with this header was asked the questions in an input. Either all that the input had was read, and the lines of
+-- all answers were written; the result is whether all are answered. Or asking ended early, behind a prefix of the
+-- answers to what was read.
+abbrev pub AsksAll : Form → List ℕ → Head → Option (List ℕ) → Option (List ℕ) → OutputState → OutputState
+    → Result Bool Error → Type 0
+AsksAll form file head had left old new (Ok all) = (text : List ℕ) × Consumes had left text × IsAtEnd left
+    × AnswersAll form file head (questions_in text) old new (Ok all)
+AsksAll form file head had left old new (Err e) = (text : List ℕ) × (rest : Option (List ℕ)) × Consumes had rest text
+    × AreFirstAnswered form file head (questions_in text) old.contents new.contents × IsAskingFailure old new e
+
+-- A file was asked the questions in an input; or the file is refused, or memory for it, and nothing is read or
+-- written.
+pub data IsAsked (form : Form) (file : List ℕ) (had left : Option (List ℕ)) (old new : OutputState)
+    (result : Result Bool Error) : Type 0 where
+  opened : (head : Head) → file_head file ≡ Ok head → AsksAll form file head had left old new result
+      → IsAsked form file had left old new result
+  refused : (fault : Error) → result ≡ Err fault → (file_head file ≡ Err (refusal_of fault)) ⊎ (fault ≡ OutOfMemory)
+      → left ≡ had → new ≡ old → IsAsked form file had left old new result
+
+-- ---- a file between two questions
+
+-- The open tables are those of the file, and what was read of a line has no end of a line in it.
+pub record IsReady (asked : Asked) : Type 0 where
+  pub tables : AreOf (stream_of asked.file.source.items asked.file.head) asked.tables
+  pub unended : slice_split ends_line asked.rest.items ≡ asked.rest.items ∷ []
+
+-- A file that stays open to be asked keeps its form, its bytes and its header.
+pub record StaysOpen (old new : Asked) : Type 0 where
+  pub form : new.form ≡ old.form
+  pub bytes : new.file.source.items ≡ old.file.source.items
+  pub head : new.file.head ≡ old.file.head
+  pub ready : IsReady new
+
+-- The lines that end in a text were answered, as AnswersAll says, and `rest` is what follows the last one's end.
+pub record AreLinesAnswered (form : Form) (file : List ℕ) (head : Head) (text : List ℕ) (old now : OutputState)
+    (rest : List ℕ) (all : Bool) : Type 0 where
+  pub ended : List (List ℕ)
+  pub split : slice_split ends_line text ≡ ended ++ rest ∷ []
+  pub answers : AnswersAll form file head (questions_of ended) old now (Ok all)
+
+-- The questions of the lines that end in a block were answered, the first of them as what was read before continues in
+-- the block; or answering ended early.
+abbrev pub IsBlockAnswered : Asked → Asked → List ℕ → OutputState → OutputState → Result Bool Error → Type 0
+IsBlockAnswered before after block old new (Ok all) =
+    AreLinesAnswered before.form before.file.source.items before.file.head (before.rest.items ++ block) old new
+    after.rest.items all
+IsBlockAnswered before after block old new (Err e) = (text : List ℕ) × (rest : List ℕ) × (block ≡ text ++ rest)
+    × AreFirstAnswered before.form before.file.source.items before.file.head (questions_in (before.rest.items ++ text))
+    old.contents new.contents × IsOutputFailure old new e

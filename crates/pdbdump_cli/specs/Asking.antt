@@ -13,15 +13,14 @@ status_of (Ok false) ended = 1
 status_of (Ok true) ended = ended
 status_of (Err fault) ended = ended
 
--- What the program did with questions about a file: it reported why an input can't be read, and wrote no
--- output; or it asked the questions in one input of the file in another, flushed the output, and ended as
--- behind a listing. If the bytes of either input are known, they are those questions or that file.
+-- What the program did with questions about a file: it reported why the file can't be read, and wrote no
+-- output; or it asked the file the questions in an input, flushed the output, and ended as behind a listing.
+-- If the bytes of the first input are known, they are the file.
 pub data AreServed (form : Form) (had_file had_questions : Option (List ℕ)) (out out' err err' : OutputState)
     (status : ℕ) : Type 0 where
   unread : (fault : Error) → IsUnread fault → out' ≡ out → IsFaultReported fault err err' status
       → AreServed form had_file had_questions out out' err err' status
-  asked : (file questions : List ℕ) (written : OutputState) (result : Result Bool Error) (ended : ℕ)
-      → IfSome had_file (λ bytes. file ≡ bytes)
-      → IfSome had_questions (λ bytes. questions ≡ bytes) → IsAsked form file questions out written result
+  asked : (file : List ℕ) (left : Option (List ℕ)) (written : OutputState) (result : Result Bool Error) (ended : ℕ)
+      → IfSome had_file (λ bytes. file ≡ bytes) → IsAsked form file had_questions left out written result
       → IsEnded (done_of result) written out' err err' ended
       → status ≡ status_of result ended → AreServed form had_file had_questions out out' err err' status

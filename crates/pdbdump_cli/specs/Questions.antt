@@ -1,11 +1,10 @@
 -- Questions: the lines of a text, and the query that the words of each line form.
-use Rattle.std.specs.Prelude.{ℕ, Bool, ◌==◌, ◌||◌, if◌then◌else◌, not, filter, List, [], ◌∷◌, length, map, Option, Some}
+use Rattle.std.specs.Prelude.{ℕ, Bool, ◌==◌, ◌||◌, if◌then◌else◌, not, filter, List, length, map, Option, Some}
 use Rattle.std.specs.Prelude.{None, option_and_then}
-use Rattle.std.specs.List.{filter_map, list_all, slice_split}
+use Rattle.std.specs.List.{list_all, slice_split}
 use Rattle.std.specs.Str.{is_utf8}
 use Rattle.pdb_cli.specs.Words.{query_of}
 use Rattle.pdb_container.specs.declared.query.Query.{Query}
-use Rattle.pdbdump_cli.specs.declared.question.Question.{Question}
 
 -- whether a byte ends a line: a line feed or a carriage return
 abbrev pub ends_line : ℕ → Bool
@@ -15,15 +14,9 @@ ends_line byte = byte == 10 || byte == 13
 abbrev pub is_blank : ℕ → Bool
 is_blank byte = byte == 32 || byte == 9
 
--- the pieces between such bytes that aren't empty
-abbrev pub pieces : (ℕ → Bool) → List ℕ → List (List ℕ)
-pieces ends bytes = filter (λ piece. not (length piece == 0)) (slice_split ends bytes)
-
-abbrev pub text_lines : List ℕ → List (List ℕ)
-text_lines text = pieces ends_line text
-
+-- the words of a line
 abbrev pub words_of : List ℕ → List (List ℕ)
-words_of line = pieces is_blank line
+words_of line = filter (λ word. not (length word == 0)) (slice_split is_blank line)
 
 -- the words, if each of them is UTF-8
 abbrev pub texts_of : List (List ℕ) → Option (List (List ℕ))
@@ -37,18 +30,14 @@ query_in line = option_and_then query_of (texts_of (words_of line))
 abbrev pub Asking : Type 0
 Asking = List ℕ × Option Query
 
--- the line and the query of a `Question`
-abbrev pub asking_of : Question → Asking
-asking_of question = (question.line.now, question.query)
-
 -- the question that a line is
 abbrev pub asking : List ℕ → Asking
 asking line = (line, query_in line)
 
--- the questions of a text
-unfoldable pub questions_in : List ℕ → List Asking
-questions_in text = map asking (text_lines text)
+-- the questions of pieces of a text, one for each that isn't empty
+abbrev pub questions_of : List (List ℕ) → List Asking
+questions_of parts = map asking (filter (λ part. not (length part == 0)) parts)
 
--- the queries that questions ask
-abbrev pub queries_in : List Asking → List Query
-queries_in questions = filter_map (λ question. question.1) questions
+-- the questions of a text, one for each line that isn't empty
+unfoldable pub questions_in : List ℕ → List Asking
+questions_in text = questions_of (slice_split ends_line text)

@@ -5,7 +5,6 @@ use Rattle.pdb_cli.specs.Words.{same}
 use Rattle.pdbdump_cli.specs.Words.{is_option}
 use Rattle.pdbdump_cli.specs.declared.command.Validate.{Validate}
 use Rattle.pdbdump_cli.specs.declared.command.ValidateOptions.{ValidateOptions}
-use Rattle.pdb_consistency.specs.declared.mismatch.Extent.{Extent}
 use Rattle.pdb_consistency.specs.declared.mismatch.Extent.TheVariants as extents
 
 -- whether a word is an option that `validate` takes

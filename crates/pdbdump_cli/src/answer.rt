@@ -1,7 +1,7 @@
 //! Answers as lines.
 #![tactic(auto, using(pdb_output::proofs::lemmas::Written::writing, pdbdump_rows::proofs::lemmas::Line::showing))]
 
-ghost use Rattle.std.specs.Prelude.{◌≡◌, ◌∷◌, ◌&&◌, [], codes};
+ghost use Rattle.std.specs.Prelude.{◌≡◌, ◌∷◌, [], codes};
 ghost use Rattle.std.specs.List.{flat_map};
 ghost use Rattle.std.specs.Option.{option_copied, option_map};
 ghost use Rattle.pdb_base.specs.Refusal.{refusal_of};
@@ -215,14 +215,11 @@ fn write_answer<W: Write>(
     }
 }
 
-/// Returns whether a question is answered and, as `all` says, all others are.
-pub(crate) fn is_answered_too(reply: Option<&Reply>, all: bool) -> bool
-    ensures { result ≡ (is_answer (option_copied reply.entry) && all) }
+/// Returns whether a reply answers its question.
+pub(crate) fn is_answer(reply: Option<&Reply>) -> bool
+    ensures { result ≡ is_answer (option_copied reply.entry) }
 {
-    match reply {
-        None | Some(Reply::Refused(_)) => false,
-        Some(_) => all,
-    }
+    !matches!(reply, None | Some(Reply::Refused(_)))
 }
 
 /// Writes a question, and its answer after it.

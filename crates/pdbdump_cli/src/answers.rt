@@ -1,93 +1,188 @@
-//! The answers to all questions of a text about one file.
+//! The answers to questions about one file, each as it is read.
 
-ghost use Rattle.std.specs.Prelude.{◌≡◌, map, IfOk};
-ghost use Rattle.pdbdump_cli.specs.Answers.{answers_text, are_answers, next_reply};
-ghost use Rattle.pdbdump_cli.specs.Asked.{IsAsked};
-ghost use Rattle.pdbdump_cli.specs.Questions.{asking_of, queries_in};
-ghost use Rattle.std.specs.Option.{option_copied};
+ghost use Rattle.std.specs.Prelude.{◌≡◌, ◌<◌, ◌≤◌, [], ◌∷◌, length, take, IfOk, IfErr, OnErr, OnOk};
+ghost use Rattle.std.specs.Io.KnownBytes.{Consumes, IsAtEnd, Keeps};
+ghost use Rattle.pdb_cli.specs.Channels.{IsUnread};
 ghost use Rattle.pdb_base.specs.Memory.{FailsOnlyForMemory};
-ghost use Rattle.pdb_output.specs.Output.{Writes, done_of};
+ghost use Rattle.pdbdump_cli.specs.Asked.{AnswersAll, AsksAll, IsAsked, IsBlockAnswered, IsReady, IsReplied, StaysOpen};
+ghost use Rattle.pdbdump_cli.specs.Questions.{query_in, questions_of};
 
-use crate::answer::{is_answered_too, write_answered};
-use crate::question::{Question, questions_in};
-use pdb_container::{Error, Query, Reply, Result, run};
+use crate::answer::{is_answer, write_answered};
+use crate::question::{is_line_end, query_in};
+use pdb_cli::MOST_READS;
+use pdb_container::{BigMSF, Error, OpenTables, Reply, Result, open_msf};
 use pdb_output::Output;
 use pdbdump_rows::{Form, Line};
 use std::alloc::Global;
-use std::io::Write;
+use std::io;
+use std::io::{ErrorKind, Read, Write};
 
-/// Returns the queries of questions, in order.
-fn queries_in(alloc: Global, questions: &[Question<'_>]) -> Result<Vec<Query>>
-    ensures queries { IfOk result (λ queries. queries.items ≡ queries_in (map asking_of questions.now)) }
-    ensures memory { FailsOnlyForMemory result }
-{
-    let queries = questions
-        .iter()
-        .filter_map(|question| question.query)
-        .collect(alloc)?;
-    Ok(queries)
-}
+/// The number of bytes of questions that are requested at a time.
+const BLOCK_SIZE: usize = 65_536;
 
-/// Returns the reply to a question, or None if it has no query, and the replies to the others.
-fn next_reply(asks: Option<Query>, replies: &[Reply]) -> (Option<&Reply>, &[Reply])
-    ensures reply { option_copied result.0 ≡ (next_reply asks replies.now).0 }
-    ensures rest { result.1.now ≡ (next_reply asks replies.now).1 }
-{
-    match asks {
-        None => (None, replies),
-        Some(_) => match replies.split_first() {
-            Some((first, rest)) => (Some(first), rest),
-            None => (None, replies),
-        },
-    }
-}
-
-/// Writes each question and its answer after it, and returns whether all are answered. The replies
-/// are those to the questions that have a query, in order.
-fn write_answers<W: Write>(
+/// A file that is asked, the tables that stay open between its questions, and what was read of a
+/// line that has not ended.
+#[derive(Drop)]
+pub struct Asked {
     alloc: Global,
     form: Form,
-    questions: &[Question<'_>],
-    replies: &[Reply],
-    out: &mut Output<W>,
-) -> Result<bool>
-    ensures lines { Writes (answers_text form (map asking_of questions.now) replies.now)
-        out.old out.new (done_of result) }
-    ensures all { IfOk result (λ all. all ≡ are_answers (map asking_of questions.now) replies.now) }
-{
-    let mut line = Line::new(alloc);
-    let mut replies = replies;
-    let mut all = true;
-    for question in questions {
-        let (reply, rest) = next_reply(question.query, replies);
-        replies = rest;
-        write_answered(alloc, form, question.line, reply, &mut line, out)?;
-        all = is_answered_too(reply, all);
-    }
-    Ok(all)
+    file: BigMSF<Vec<u8>>,
+    tables: OpenTables,
+    rest: Vec<u8>,
+    line: Line,
 }
 
-/// Queries a file with the questions of a text, one for each line that is not empty, and writes
-/// each line and the answer after it. Returns whether all are answered. If a question has an error,
-/// or a line has no question, the answer is a line that says so, and the other questions are
-/// answered all the same.
-///
-/// Each table is read and walked along once for all its questions.
+/// Reads the next bytes of an input into a block, and returns how many they are: none at its end.
 ///
 /// # Errors
-/// Fails as `open_msf` does for the file, before anything is written; with `IoError` if the writer
-/// fails; and with `OutOfMemory` if an allocation for the questions or their answers fails.
-pub fn ask<W: Write>(
+/// Fails with `IoError` if a read fails, or if too many are interrupted.
+fn read_block<R: Read>(input: &mut R, block: &mut [u8]) -> Result<usize>
+    requires room { 0 < length block.old }
+    ensures bytes { IfOk result (λ count. Consumes (R.remaining input.old) (R.remaining input.new) (take count block.new)
+        × (count ≤ length block.new) × (count ≡ 0 → IsAtEnd (R.remaining input.new))) }
+    ensures kept { OnErr result (Keeps (R.remaining input.old) (R.remaining input.new)) }
+    ensures unread { IfErr result IsUnread }
+{
+    for _ in 0..MOST_READS {
+        match input.read(block) {
+            Ok(count) => return Ok(count),
+            Err(error) if error.kind() == ErrorKind::Interrupted => {}
+            Err(error) => return Err(error.into()),
+        }
+    }
+    Err(io::Error::other("each read was interrupted").into())
+}
+
+impl Asked {
+    /// Returns the reply to the question of the line, or None if the line has no question.
+    fn reply(&mut self) -> Result<Option<Reply>>
+        requires ready { IsReady self.old }
+        ensures reply { IfOk result (IsReplied self.old.file.source.items self.old.file.head
+            (query_in self.old.rest.items)) }
+        ensures memory { FailsOnlyForMemory result }
+        ensures kept { StaysOpen self.old self.new }
+        ensures rest { self.new.rest ≡ self.old.rest }
+    {
+        match query_in(self.alloc, &self.rest)? {
+            Some(query) => Ok(Some(self.tables.reply(self.alloc, &mut self.file, query))),
+            None => Ok(None),
+        }
+    }
+
+    /// Writes the line and the answer to its question, unless the line is empty. Returns whether
+    /// the question is answered, if there is one.
+    fn answer_line<W: Write>(&mut self, out: &mut Output<W>) -> Result<bool>
+        requires ready { IsReady self.old }
+        ensures answer { AnswersAll self.old.form self.old.file.source.items self.old.file.head
+            (questions_of (self.old.rest.items ∷ [])) out.old out.new result }
+        ensures kept { OnOk result (StaysOpen self.old self.new) }
+        ensures rest { OnOk result (self.new.rest.items ≡ []) }
+    {
+        if self.rest.is_empty() {
+            return Ok(true);
+        }
+        let reply = self.reply()?;
+        write_answered(
+            self.alloc,
+            self.form,
+            &self.rest,
+            reply.as_ref(),
+            &mut self.line,
+            out,
+        )?;
+        self.rest.clear();
+        Ok(is_answer(reply.as_ref()))
+    }
+
+    /// Adds a byte to the line, or answers the line if the byte ends it. Returns whether its
+    /// question is answered, if there is one.
+    fn take_byte<W: Write>(&mut self, byte: u8, out: &mut Output<W>) -> Result<bool>
+        requires ready { IsReady self.old }
+        ensures answers { IsBlockAnswered self.old self.new (byte ∷ []) out.old out.new result }
+        ensures kept { OnOk result (StaysOpen self.old self.new) }
+    {
+        if is_line_end(byte) {
+            return self.answer_line(out);
+        }
+        self.rest.push(byte)?;
+        Ok(true)
+    }
+
+    /// Answers the questions of the lines that end in a block of bytes, and keeps what follows
+    /// them. Returns whether all are answered.
+    fn answer_block<W: Write>(&mut self, block: &[u8], out: &mut Output<W>) -> Result<bool>
+        requires ready { IsReady self.old }
+        ensures answers { IsBlockAnswered self.old self.new block.now out.old out.new result }
+        ensures kept { OnOk result (StaysOpen self.old self.new) }
+    {
+        let mut all = true;
+        for byte in block {
+            all &= self.take_byte(*byte, out)?;
+        }
+        Ok(all)
+    }
+
+    /// Answers the questions in an input to its end, a block at a time. What was answered is flushed
+    /// before more is read.
+    fn answer_all<Q: Read, W: Write>(
+        &mut self,
+        questions: &mut Q,
+        block: &mut [u8],
+        out: &mut Output<W>,
+    ) -> Result<bool>
+        requires ready { IsReady self.old }
+        requires none { self.old.rest.items ≡ [] }
+        requires room { 0 < length block.old }
+        ensures { AsksAll self.old.form self.old.file.source.items self.old.file.head
+            (Q.remaining questions.old) (Q.remaining questions.new) out.old out.new result }
+    {
+        let mut all = true;
+        for _ in 0..MOST_READS {
+            out.flush()?;
+            let count = read_block(questions, block)?;
+            if count == 0 {
+                all &= self.answer_line(out)?;
+                return Ok(all);
+            }
+            all &= self.answer_block(&block[..count], out)?;
+        }
+        Err(io::Error::other("the input does not end").into())
+    }
+}
+
+/// Asks a file the questions in an input, one for each line that is not empty, and writes each line
+/// and the answer after it, before more is read. Returns whether all are answered. If a question
+/// has an error, or a line has no question, the answer is a line that says so, and the other
+/// questions are answered all the same.
+///
+/// The last table of each kind (types, ids, names, OMAP) stays open.
+///
+/// # Errors
+/// Fails as `open_msf` does for the file, before a question is read; with `IoError` if a read of
+/// the questions fails, behind the answers to those that were read, or if the writer fails; and
+/// with `OutOfMemory` if an allocation for the file, a question or an answer fails.
+pub fn ask<Q: Read, W: Write>(
     alloc: Global,
     file: Vec<u8>,
-    text: &[u8],
+    questions: &mut Q,
     form: Form,
     out: &mut Output<W>,
 ) -> Result<bool>
-    ensures { IsAsked form file.items text.now out.old out.new result }
+    ensures { IsAsked form file.items (Q.remaining questions.old) (Q.remaining questions.new)
+        out.old out.new result }
 {
-    let questions = questions_in(alloc, text)?;
-    let queries = queries_in(alloc, &questions)?;
-    let replies = run(alloc, file, &queries)?;
-    write_answers(alloc, form, &questions, &replies, out)
+    let file = match open_msf(alloc, file) {
+        Ok(file) => file,
+        Err(fault) => return Err(fault),
+    };
+    let mut block = vec![in alloc; 0; BLOCK_SIZE]?;
+    let mut asked = Asked {
+        alloc,
+        form,
+        file,
+        tables: OpenTables::default(),
+        rest: Vec::new(alloc),
+        line: Line::new(alloc),
+    };
+    asked.answer_all(questions, &mut block, out)
 }

@@ -94,7 +94,8 @@ that leads to the original image, and --from the one that leads from it."
             "Reads questions from standard input, one a line, in the words of pdbq: stream N [LIMIT], type S I,
 id S I, fields S I, name S O or ranges S A B. Each line is repeated, and its answer follows: the lines that
 pdbq prints, or why there is none. Lines that are empty are passed over. The status is 0 if all questions
-were answered, and else 1. All are asked at once, so that a table is read and walked along once."
+were answered, and else 1. What was read is answered before more is read, so that another program may ask one
+question after another through a pipe; the last table of each kind stays open between them."
         }
         Verb::Id => {
             "The path of each FILE in a symbol store, NAME/KEY/NAME. The key is the GUID of the file and its age: that of the

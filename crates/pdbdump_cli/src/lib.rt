@@ -34,7 +34,6 @@ pub use laid_out::serve_layout;
 pub use layout_words::layouts_of;
 pub use listed::list;
 pub use process::program;
-pub use question::{Question, questions_in};
 pub use served::serve;
 pub use validate_words::validate_of;
 pub use validated::serve_validate;

@@ -18,7 +18,8 @@ use pdb_cli::{Errors, tell, texts_of, words_of};
 use pdb_container::{Error, Result};
 use pdb_output::Output;
 use pdbdump_rows::Form;
-use std::io::{BufWriter, ErrorKind};
+use std::alloc::Global;
+use std::io::{BufWriter, ErrorKind, Read, Write};
 use std::rt::{Env, Files};
 use std::{env, fs, io};
 
@@ -67,11 +68,46 @@ fn tell_misuse<P: Eprint + AllocGlobal>(process: &P, misuse: Misuse, words: &[&s
     Ok(MISUSED)
 }
 
-/// Lists what a command asks of the file at a path, or of standard input if the path is `-`.
-fn list_file<P: Files + Input + Print + Eprint + AllocGlobal>(
+/// What is asked of one file.
+#[derive(Clone, Copy)]
+enum Work<'w> {
+    /// What a command lists.
+    List(Command),
+    /// What identifies the file.
+    Identify(Identify<'w>),
+    /// The bytes of a stream.
+    Extract(Extract<'w>),
+    /// What is found wrong in the file, and the path that it is called by.
+    Validate(ValidateOptions, &'w str),
+    /// Layouts of its types.
+    Layout(Layouts<'w>),
+}
+
+/// Does what is asked of the file in an input, and returns the status for that file.
+fn serve_work<I: Read, O: Write, E: Write>(
+    alloc: Global,
+    work: &Work<'_>,
+    form: Form,
+    input: &mut I,
+    out: &mut Output<O>,
+    err: &mut Output<E>,
+) -> u8 {
+    match work {
+        Work::List(command) => serve(alloc, *command, form, input, out, err),
+        Work::Identify(asked) => serve_id(alloc, asked, form, input, out, err),
+        Work::Extract(asked) => serve_extract(alloc, asked, input, out, err),
+        Work::Validate(options, path) => {
+            serve_validate(alloc, *options, form, path, input, out, err)
+        }
+        Work::Layout(asked) => serve_layout(alloc, asked, form, input, out, err),
+    }
+}
+
+/// Does what is asked of the file at a path, or of the one in standard input if the path is `-`.
+fn serve_file<P: Files + Input + Print + Eprint + AllocGlobal>(
     process: &P,
     path: &str,
-    command: Command,
+    work: &Work<'_>,
     form: Form,
 ) -> Result<u8> {
     let alloc = process.alloc();
@@ -80,10 +116,10 @@ fn list_file<P: Files + Input + Print + Eprint + AllocGlobal>(
     let mut err = Output::new(Errors { process });
     if path == "-" {
         let mut input = process.reader();
-        return Ok(serve(alloc, command, form, &mut input, &mut out, &mut err));
+        return Ok(serve_work(alloc, work, form, &mut input, &mut out, &mut err));
     }
     match fs::open(process, path) {
-        Ok(mut input) => Ok(serve(alloc, command, form, &mut input, &mut out, &mut err)),
+        Ok(mut input) => Ok(serve_work(alloc, work, form, &mut input, &mut out, &mut err)),
         Err(fault) => Ok(tell(alloc, &Error::from(fault), &mut err)),
     }
 }
@@ -112,65 +148,6 @@ fn answer_questions<P: Files + Input + Print + Eprint + AllocGlobal>(
     }
 }
 
-/// Writes what identifies the file at a path, or the one in standard input if the path is `-`.
-fn identify_file<P: Files + Input + Print + Eprint + AllocGlobal>(
-    process: &P,
-    asked: &Identify<'_>,
-    form: Form,
-) -> Result<u8> {
-    let alloc = process.alloc();
-    let mut out = Output::new(io::writer(process));
-    let mut err = Output::new(Errors { process });
-    if asked.path == "-" {
-        let mut input = process.reader();
-        return Ok(serve_id(alloc, asked, form, &mut input, &mut out, &mut err));
-    }
-    match fs::open(process, asked.path) {
-        Ok(mut input) => Ok(serve_id(alloc, asked, form, &mut input, &mut out, &mut err)),
-        Err(fault) => Ok(tell(alloc, &Error::from(fault), &mut err)),
-    }
-}
-
-/// Writes the bytes of a stream of the file at a path, or of the one in standard input if the path
-/// is `-`.
-fn extract_file<P: Files + Input + Print + Eprint + AllocGlobal>(
-    process: &P,
-    asked: &Extract<'_>,
-) -> Result<u8> {
-    let alloc = process.alloc();
-    let mut out = Output::new(io::writer(process));
-    let mut err = Output::new(Errors { process });
-    if asked.path == "-" {
-        let mut input = process.reader();
-        return Ok(serve_extract(alloc, asked, &mut input, &mut out, &mut err));
-    }
-    match fs::open(process, asked.path) {
-        Ok(mut input) => Ok(serve_extract(alloc, asked, &mut input, &mut out, &mut err)),
-        Err(fault) => Ok(tell(alloc, &Error::from(fault), &mut err)),
-    }
-}
-
-/// Writes what is found wrong in the file at a path, or in the one in standard input if the path is
-/// `-`, and returns the status for that file.
-fn validate_file<P: Files + Input + Print + Eprint + AllocGlobal>(
-    process: &P,
-    options: ValidateOptions,
-    path: &str,
-    form: Form,
-) -> u8 {
-    let alloc = process.alloc();
-    let mut out = Output::new(io::writer(process));
-    let mut err = Output::new(Errors { process });
-    if path == "-" {
-        let mut input = process.reader();
-        return serve_validate(alloc, options, form, path, &mut input, &mut out, &mut err);
-    }
-    match fs::open(process, path) {
-        Ok(mut input) => serve_validate(alloc, options, form, path, &mut input, &mut out, &mut err),
-        Err(fault) => tell(alloc, &Error::from(fault), &mut err),
-    }
-}
-
 /// Does what the words after `validate` ask: looks at each file, and returns the highest status.
 fn call_validate<P: Files + Input + Print + Eprint + AllocGlobal>(
     process: &P,
@@ -183,29 +160,9 @@ fn call_validate<P: Files + Input + Print + Eprint + AllocGlobal>(
     };
     let mut status = 0;
     for path in paths.iter() {
-        status = status.max(validate_file(process, options, path, form));
+        status = status.max(serve_file(process, path, &Work::Validate(options, path), form)?);
     }
     Ok(status)
-}
-
-/// Shows layouts of the file at a path, or of the one in standard input if the path is `-`.
-fn show_file<P: Files + Input + Print + Eprint + AllocGlobal>(
-    process: &P,
-    asked: &Layouts<'_>,
-    form: Form,
-) -> Result<u8> {
-    let alloc = process.alloc();
-    let buffer = BufWriter::with_capacity(alloc, BUFFER_SIZE, io::writer(process))?;
-    let mut out = Output::new(buffer);
-    let mut err = Output::new(Errors { process });
-    if asked.path == "-" {
-        let mut input = process.reader();
-        return Ok(serve_layout(alloc, asked, form, &mut input, &mut out, &mut err));
-    }
-    match fs::open(process, asked.path) {
-        Ok(mut input) => Ok(serve_layout(alloc, asked, form, &mut input, &mut out, &mut err)),
-        Err(fault) => Ok(tell(alloc, &Error::from(fault), &mut err)),
-    }
 }
 
 /// Does what the words after `layout` ask.
@@ -216,7 +173,7 @@ fn call_layout<P: Files + Input + Print + Eprint + AllocGlobal>(
     form: Form,
 ) -> Result<u8> {
     match layouts_of(plain) {
-        Some(asked) => show_file(process, &asked, form),
+        Some(asked) => serve_file(process, asked.path, &Work::Layout(asked), form),
         None => tell_misuse(process, Misuse::Arguments(Verb::Layout), words),
     }
 }
@@ -238,7 +195,7 @@ fn call_id<P: Files + Input + Print + Eprint + AllocGlobal>(
         let Some(asked) = identify_of(&options) else {
             return tell_misuse(process, Misuse::Arguments(Verb::Id), words);
         };
-        status = status.max(identify_file(process, &asked, form)?);
+        status = status.max(serve_file(process, asked.path, &Work::Identify(asked), form)?);
         options.pop();
     }
     Ok(status)
@@ -252,7 +209,9 @@ fn call_extract<P: Files + Input + Print + Eprint + AllocGlobal>(
     form: Form,
 ) -> Result<u8> {
     match (extract_of(plain), form) {
-        (Some(asked), Form::Text) => extract_file(process, &asked),
+        (Some(asked), Form::Text) => {
+            serve_file(process, asked.path, &Work::Extract(asked), form)
+        }
         _ => tell_misuse(process, Misuse::Arguments(Verb::Extract), words),
     }
 }
@@ -266,7 +225,7 @@ fn call_listing<P: Files + Input + Print + Eprint + AllocGlobal>(
 ) -> Result<u8> {
     match call_of(plain) {
         Ok(Call { path, task }) => match task {
-            Task::List(command) => list_file(process, path, command, form),
+            Task::List(command) => serve_file(process, path, &Work::List(command), form),
             Task::Answer => answer_questions(process, path, form),
         },
         Err(misuse) => tell_misuse(process, misuse, words),

@@ -1,34 +1,19 @@
-//! Questions: lines, and the query that the words of each spell.
+//! Questions: the query that the words of a line spell.
 
 ghost use Rattle.std.specs.Prelude.{◌≡◌, map, IfOk};
 ghost use Rattle.std.specs.Option.{option_map};
 ghost use Rattle.pdb_base.specs.Memory.{FailsOnlyForMemory};
-ghost use Rattle.pdbdump_cli.specs.Questions.{asking_of, text_lines, query_in, questions_in, texts_of, words_of};
+ghost use Rattle.pdbdump_cli.specs.Questions.{ends_line, query_in, texts_of, words_of};
 
 use pdb_cli::query;
 use pdb_container::{Error, Query, Result};
 use std::alloc::Global;
 
-/// A line, and its query.
-#[derive(Clone, Copy, Debug)]
-pub struct Question<'t> {
-    /// The bytes of the line.
-    pub line: &'t [u8],
-
-    /// The query that its words spell, if they spell one.
-    pub query: Option<Query>,
-}
-
-/// Returns the lines of a text, without the empty ones.
-fn lines_of<'t>(alloc: Global, text: &'t [u8]) -> Result<Vec<&'t [u8]>>
-    ensures lines { IfOk result (λ lines. map (λ line. line.now) lines.items ≡ text_lines text.now) }
-    ensures memory { FailsOnlyForMemory result }
+/// Returns whether a byte ends a line: a line feed or a carriage return.
+pub fn is_line_end(byte: u8) -> bool
+    ensures { result ≡ ends_line byte }
 {
-    let lines = text
-        .split(|byte| *byte == b'\n' || *byte == b'\r')
-        .filter(|line| !line.is_empty())
-        .collect(alloc)?;
-    Ok(lines)
+    byte == b'\n' || byte == b'\r'
 }
 
 /// Returns the words of a line, between its blanks and tabs.
@@ -61,7 +46,7 @@ fn texts_of<'t>(alloc: Global, words: &[&'t [u8]]) -> Result<Option<Vec<&'t str>
 
 /// Returns the query that the words of a line spell, if they spell one.
 #[tactic(auto, unfolding(crate::specs::Questions::query_in))]
-fn query_in(alloc: Global, line: &[u8]) -> Result<Option<Query>>
+pub fn query_in(alloc: Global, line: &[u8]) -> Result<Option<Query>>
     ensures query { IfOk result (λ query. query ≡ query_in line.now) }
     ensures memory { FailsOnlyForMemory result }
 {
@@ -70,22 +55,4 @@ fn query_in(alloc: Global, line: &[u8]) -> Result<Option<Query>>
         Some(texts) => Ok(query(&texts)),
         None => Ok(None),
     }
-}
-
-/// Returns the questions of a text, one for each line that is not empty.
-///
-/// # Errors
-/// Fails with `OutOfMemory` if an allocation fails.
-#[tactic(auto, unfolding(crate::specs::Questions::questions_in))]
-pub fn questions_in<'t>(alloc: Global, text: &'t [u8]) -> Result<Vec<Question<'t>>>
-    ensures questions { IfOk result (λ questions. map asking_of questions.items ≡ questions_in text.now) }
-    ensures memory { FailsOnlyForMemory result }
-{
-    let lines = lines_of(alloc, text)?;
-    let mut questions = Vec::with_capacity(alloc, lines.len())?;
-    for line in &lines {
-        let query = query_in(alloc, line)?;
-        questions.push(Question { line: *line, query })?;
-    }
-    Ok(questions)
 }

@@ -1,12 +1,36 @@
 //! What S1 answers to questions, case by case.
 
+use pdb_base::Error;
 use pdb_container::Result;
 use pdb_output::Output;
 use pdb_vectors::{s1, s1_with};
 use pdbdump_cli::ask;
 use pdbdump_rows::Form;
 use std::alloc::Global;
+use std::cell::RefCell;
+use std::io;
+use std::io::{BufWriter, ErrorKind, Read, Write};
 use std::test::Fail;
+
+/// Questions, of which so many bytes are read at a time, and whether a read fails in the end.
+#[derive(Drop)]
+struct Questions<'t> {
+    bytes: &'t [u8],
+    at_once: usize,
+    is_failing: bool,
+}
+
+impl Read for Questions<'_> {
+    fn read(&mut self, room: &mut [u8]) -> io::Result<usize> {
+        if self.bytes.is_empty() && self.is_failing {
+            return Err(io::Error::from(ErrorKind::PermissionDenied));
+        }
+        let count = self.bytes.len().min(self.at_once).min(room.len());
+        room[..count].copy_from_slice(&self.bytes[..count]);
+        self.bytes = &self.bytes[count..];
+        Ok(count)
+    }
+}
 
 /// A case: the questions, the form, what is written, and whether all are answered.
 type Asked = (&'static [u8], Form, &'static str, bool);
@@ -42,11 +66,16 @@ const ASKED: &[Asked] = &[
     ),
 ];
 
-/// Whether S1 answers this.
-fn answers(alloc: Global, row: &Asked) -> Result<bool> {
-    let (questions, form, lines, all) = *row;
+/// Whether S1 answers this, of questions that are read so many bytes at a time.
+fn answers(alloc: Global, row: &Asked, at_once: usize) -> Result<bool> {
+    let (bytes, form, lines, all) = *row;
+    let mut questions = Questions {
+        bytes,
+        at_once,
+        is_failing: false,
+    };
     let mut out = Output::new(Vec::new(alloc));
-    let answered = ask(alloc, s1(alloc)?, questions, form, &mut out)?;
+    let answered = ask(alloc, s1(alloc)?, &mut questions, form, &mut out)?;
     Ok(answered == all && out.into_inner().as_slice() == lines.as_bytes())
 }
 
@@ -61,7 +90,8 @@ const HOSTILE_ANSWER: &[u8] = b"question=name 3 1\nstring=question=stream\\n\n";
 fn hostile_name(rt: HostRuntime) -> std::result::Result<(), Fail> {
     let mut out = Output::new(Vec::new(rt.alloc()));
     let file = s1_with(rt.alloc(), HOSTILE_NAMES)?;
-    let answered = ask(rt.alloc(), file, b"name 3 1", Form::Text, &mut out)?;
+    let mut questions = b"name 3 1".as_slice();
+    let answered = ask(rt.alloc(), file, &mut questions, Form::Text, &mut out)?;
     let written = out.into_inner();
     assert!(rt;
         answered && written.as_slice() == HOSTILE_ANSWER,
@@ -73,9 +103,103 @@ fn hostile_name(rt: HostRuntime) -> std::result::Result<(), Fail> {
 #[test]
 fn each_question(rt: HostRuntime) -> std::result::Result<(), Fail> {
     for row in ASKED {
-        let (questions, _, lines, _) = row;
-        let is_answered = answers(rt.alloc(), row)?;
-        assert!(rt; is_answered, "{questions:?} {lines}");
+        for at_once in [1, 5, 100_000] {
+            let (questions, _, lines, _) = row;
+            let is_answered = answers(rt.alloc(), row, at_once)?;
+            assert!(rt; is_answered, "{questions:?}, {at_once} at once: {lines}");
+        }
     }
+    Ok(())
+}
+
+/// Whether the error is the one with which these questions fail.
+fn is_denied(found: &Result<bool>) -> bool {
+    matches!(found, Err(Error::IoError(fault)) if fault.kind() == ErrorKind::PermissionDenied)
+}
+
+#[test]
+fn unread_questions(rt: HostRuntime) -> std::result::Result<(), Fail> {
+    let mut questions = Questions {
+        bytes: b"stream 3 1\nstream 3 2\nstream 3",
+        at_once: 4,
+        is_failing: true,
+    };
+    let mut out = Output::new(Vec::new(rt.alloc()));
+    let file = s1(rt.alloc())?;
+    let found = ask(rt.alloc(), file, &mut questions, Form::Text, &mut out);
+    let written = out.into_inner();
+    let wanted: &[u8] = b"question=stream 3 1\nbytes=68\nquestion=stream 3 2\nbytes=6865\n";
+    assert!(rt;
+        is_denied(&found) && written.as_slice() == wanted,
+        "{written:?}"
+    );
+    Ok(())
+}
+
+/// An output that is seen by those who write the questions.
+#[derive(Drop)]
+struct Seen<'t>(&'t RefCell<Vec<u8>>);
+
+impl Write for Seen<'_> {
+    fn write(&mut self, bytes: &[u8]) -> io::Result<usize> {
+        match self.0.try_borrow_mut() {
+            Ok(mut seen) => {
+                seen.extend_from_slice(bytes)?;
+                Ok(bytes.len())
+            }
+            Err(_) => Err(io::Error::from(ErrorKind::ResourceBusy)),
+        }
+    }
+
+    fn flush(&mut self) -> io::Result<()> {
+        Ok(())
+    }
+}
+
+/// Questions that are written one after another, each once so many bytes of answers are seen.
+#[derive(Drop)]
+struct Talk<'t> {
+    left: &'t [(&'t [u8], usize)],
+    seen: &'t RefCell<Vec<u8>>,
+}
+
+impl Read for Talk<'_> {
+    fn read(&mut self, room: &mut [u8]) -> io::Result<usize> {
+        let Some(((part, length), rest)) = self.left.split_first() else {
+            return Ok(0);
+        };
+        let is_seen = matches!(self.seen.try_borrow(), Ok(seen) if seen.len() == *length);
+        if !is_seen || part.len() > room.len() {
+            return Err(io::Error::from(ErrorKind::WouldBlock));
+        }
+        room[..part.len()].copy_from_slice(part);
+        self.left = rest;
+        Ok(part.len())
+    }
+}
+
+/// Parts of questions, and how many bytes of answers are seen before each is written.
+const TALK: &[(&[u8], usize)] = &[
+    (b"stream 3 1\n", 0),
+    (b"stream 3", 29),
+    (b" 2\nstream 9\nstr", 29),
+    (b"eam 3 1", 136),
+];
+
+#[test]
+fn answers_before_the_next(rt: HostRuntime) -> std::result::Result<(), Fail> {
+    let seen = RefCell::new(Vec::new(rt.alloc()));
+    let mut questions = Talk {
+        left: TALK,
+        seen: &seen,
+    };
+    let buffer = BufWriter::with_capacity(rt.alloc(), 1000, Seen(&seen))?;
+    let mut out = Output::new(buffer);
+    let file = s1(rt.alloc())?;
+    let answered = ask(rt.alloc(), file, &mut questions, Form::Text, &mut out);
+    assert!(rt;
+        matches!(answered, Ok(false)) && questions.left.is_empty(),
+        "{answered:?}"
+    );
     Ok(())
 }

@@ -2,7 +2,7 @@ use Rattle.std.proofs.Common.{rules, Ok, ◌==◌, length, not}
 use borrow.Author.Tests.{tests}
 use Rattle.std.proofs.lemmas.Iterator.Consumers.{map_from_collect, YieldsList-from_filter}
 use Rattle.std.proofs.lemmas.Iterator.Splits.{YieldsList-from_slice_split}
-use Rattle.pdbdump_cli.specs.Questions.{ends_line, is_blank}
+use Rattle.pdbdump_cli.specs.Questions.{is_blank}
 use Rattle.pdbdump_cli.proofs.question.words_of.Goals as goal
 
 pub returns-clause-words : goal.returns-clause-words
