@@ -114,5 +114,5 @@ IsBlockAnswered before after block old new (Ok all) =
     AreLinesAnswered before.form before.file.source.items before.file.head (before.rest.items ++ block) old new
     after.rest.items all
 IsBlockAnswered before after block old new (Err e) = (text : List ℕ) × (rest : List ℕ) × (block ≡ text ++ rest)
-    × AreFirstAnswered before.form before.file.source.items before.file.head (questions_in (before.rest.items ++ text))
-    old.contents new.contents × IsOutputFailure old new e
+    × AnswersAll before.form before.file.source.items before.file.head (questions_in (before.rest.items ++ text))
+    old new (Err e)

@@ -1,6 +1,6 @@
-use Rattle.std.proofs.Common.{refl, rules}
+use Rattle.std.proofs.Common.{Err, Ok, refl, rules}
 use Rattle.pdb_base.proofs.lemmas.Refused.{passed_on}
-use Rattle.pdbdump_cli.proofs.AnsweredLemmas.{cut_so_far, ends_in_part, ends_so_far, flushed_so_far}
+use Rattle.pdbdump_cli.proofs.AnsweredLemmas.{cut_so_far, ends_so_far, flushed_so_far}
 use Rattle.pdbdump_cli.proofs.AnsweredLemmas.{more_in_part, more_so_far, nothing_read, stays, unread_so_far}
 use Rattle.pdbdump_cli.proofs.answers.Asked.answer_all.Goals as goal
 
@@ -29,15 +29,16 @@ returns-in_err-all g c =
     let flushed = flushed_so_far c.args.self.now c.loop.self _ _ c.args.out.now c.loop.out c.flush.new.self c.loop.all
     c.loop.invariant.so_far c.in_ok-flush.ensures.bytes.0 in
     rw (passed_on _ _ c.from_residual-in_err-all.ensures.1)
-    (ends_in_part c.args.self.now c.loop.self _ _ c.args.out.now c.flush.new.self c.answer_line.new.out c.loop.all _
-    c.loop.invariant.kept flushed c.in_err-all.ensures.answer)
+    (ends_so_far c.args.self.now c.loop.self _ _ _ c.args.out.now c.flush.new.self c.answer_line.new.out c.loop.all
+    (Err _) c.loop.invariant.kept flushed (rw c.if-count-eq0.true at c.in_ok-count.ensures.bytes.0)
+    (c.in_ok-count.ensures.bytes.2 c.if-count-eq0.true) c.in_err-all.ensures.answer)
 
 pub returns-then-count-eq0 : goal.returns-then-count-eq0
 returns-then-count-eq0 g c =
     let flushed = flushed_so_far c.args.self.now c.loop.self _ _ c.args.out.now c.loop.out c.flush.new.self c.loop.all
     c.loop.invariant.so_far c.in_ok-flush.ensures.bytes.0 in
-    ends_so_far c.args.self.now c.loop.self _ _ _ c.args.out.now c.flush.new.self c.answer_line.new.out c.loop.all _
-    c.loop.invariant.kept flushed (rw c.if-count-eq0.true at c.in_ok-count.ensures.bytes.0)
+    ends_so_far c.args.self.now c.loop.self _ _ _ c.args.out.now c.flush.new.self c.answer_line.new.out c.loop.all
+    (Ok _) c.loop.invariant.kept flushed (rw c.if-count-eq0.true at c.in_ok-count.ensures.bytes.0)
     (c.in_ok-count.ensures.bytes.2 c.if-count-eq0.true) c.in_ok-all.ensures.answer
 
 pub returns-in_err-all-2 : goal.returns-in_err-all-2
