@@ -5,7 +5,7 @@ use pdbdump_layouts::Options;
 use pdbdump_tables::{KeyStyle, MapStreams};
 
 /// The name of a command.
-#[derive(Clone, Copy, Debug, PartialEq, Eq)]
+#[derive(Clone, Copy)]
 pub enum Verb {
     /// `summary`: what the file is made of.
     Summary,
@@ -36,7 +36,7 @@ pub enum Verb {
 }
 
 /// What the program lists of a file. A stream that isn't given is found by its role.
-#[derive(Clone, Copy, Debug, PartialEq, Eq)]
+#[derive(Clone, Copy)]
 pub enum Command {
     /// What the file is made of.
     Summary,
@@ -88,7 +88,7 @@ pub enum Command {
 }
 
 /// What the program does with a file.
-#[derive(Clone, Copy, Debug, PartialEq, Eq)]
+#[derive(Clone, Copy)]
 pub enum Task {
     /// To list what a command says.
     List(Command),
@@ -97,7 +97,7 @@ pub enum Task {
 }
 
 /// What the program is called for: a task, and the path of the file, or `-` for standard input.
-#[derive(Clone, Copy, Debug, PartialEq, Eq)]
+#[derive(Clone, Copy)]
 pub struct Call<'w> {
     /// The path of the file.
     pub path: &'w str,
@@ -106,7 +106,7 @@ pub struct Call<'w> {
 }
 
 /// The arguments of `extract`, which writes a part of the bytes of a stream.
-#[derive(Clone, Copy, Debug, PartialEq, Eq)]
+#[derive(Clone, Copy)]
 pub struct Extract<'w> {
     /// The path of the file, or `-` for standard input.
     pub path: &'w str,
@@ -119,7 +119,7 @@ pub struct Extract<'w> {
 }
 
 /// The arguments of `id`, which prints the identity of a file.
-#[derive(Clone, Copy, Debug, PartialEq, Eq)]
+#[derive(Clone, Copy)]
 pub struct Identify<'w> {
     /// The path of the file, or `-` for standard input.
     pub path: &'w str,
@@ -132,7 +132,7 @@ pub struct Identify<'w> {
 }
 
 /// How `validate` checks whether a file is whole, and what it tells of it.
-#[derive(Clone, Copy, Debug, PartialEq, Eq)]
+#[derive(Clone, Copy)]
 pub struct ValidateOptions {
     /// Whether the first thing that is wrong in each part is told, or everything.
     pub extent: Extent,
@@ -143,7 +143,7 @@ pub struct ValidateOptions {
 }
 
 /// The arguments of `validate`, which checks whether files are whole.
-#[derive(Debug, Drop)]
+#[derive(Drop)]
 pub struct Validate<'w> {
     /// How the files are checked.
     pub options: ValidateOptions,
@@ -152,7 +152,7 @@ pub struct Validate<'w> {
 }
 
 /// The arguments of `layout`, which shows the layouts of classes of a file.
-#[derive(Clone, Copy, Debug, PartialEq, Eq)]
+#[derive(Clone, Copy)]
 pub struct Layouts<'w> {
     /// The path of the file, or `-` for standard input.
     pub path: &'w str,
@@ -163,7 +163,7 @@ pub struct Layouts<'w> {
 }
 
 /// Why words ask nothing of a file.
-#[derive(Clone, Copy, Debug, PartialEq, Eq)]
+#[derive(Clone, Copy)]
 pub enum Misuse {
     /// There is no command of that name.
     NoCommand,

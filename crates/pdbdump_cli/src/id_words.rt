@@ -106,7 +106,7 @@ fn with_words<'w>(arguments: IdArguments<'w>, words: &[&'w str]) -> Option<IdArg
 }
 
 /// The words behind the name of the command: its options with the word behind each, and the paths.
-#[derive(Debug, Drop)]
+#[derive(Drop)]
 pub(crate) struct WordsApart<'w> {
     /// The options, each with the word behind it.
     pub options: Vec<&'w str>,

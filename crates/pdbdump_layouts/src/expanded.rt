@@ -26,7 +26,7 @@ const LEAST_ROWS: usize = 16;
 const RECORDS_PER_ROW: usize = 16;
 
 /// A field or a gap of a class, or of a class within it.
-#[derive(Clone, Copy, Debug)]
+#[derive(Clone, Copy)]
 pub(crate) struct ShownRow<'t> {
     /// How deep the class is in the one that is shown, whose own fields and gaps are 0 deep.
     pub(crate) depth: u32,
@@ -39,7 +39,7 @@ pub(crate) struct ShownRow<'t> {
 }
 
 /// A class with the classes within it.
-#[derive(Debug, Drop)]
+#[derive(Drop)]
 pub(crate) struct Expansion<'t> {
     /// Its fields and gaps, and behind each field those of its class.
     pub(crate) rows: Vec<ShownRow<'t>>,

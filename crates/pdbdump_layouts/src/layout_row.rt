@@ -9,7 +9,7 @@ use pdb_types::{Gap, Layout, LayoutField, Span};
 use std::alloc::Global;
 
 /// A field or a gap of a layout.
-#[derive(Clone, Copy, Debug, PartialEq, Eq)]
+#[derive(Clone, Copy)]
 pub(crate) enum LayoutRow<'t> {
     /// A field of the class.
     Field(LayoutField<'t>),

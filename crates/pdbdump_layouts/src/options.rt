@@ -1,7 +1,7 @@
 //! How layouts are shown.
 
 /// How a layout is written as text.
-#[derive(Clone, Copy, Debug, PartialEq, Eq)]
+#[derive(Clone, Copy)]
 pub enum Style {
     /// As the declaration of a class in C++, with places behind it, as pahole does.
     C,
@@ -11,7 +11,7 @@ pub enum Style {
 }
 
 /// By what classes are sorted.
-#[derive(Clone, Copy, Debug, PartialEq, Eq)]
+#[derive(Clone, Copy)]
 pub enum Order {
     /// The largest first.
     Size,
@@ -24,7 +24,7 @@ pub enum Order {
 }
 
 /// Which layouts are shown, and how.
-#[derive(Clone, Copy, Debug, PartialEq, Eq)]
+#[derive(Clone, Copy)]
 pub struct Options {
     /// How they are written as text.
     pub style: Style,

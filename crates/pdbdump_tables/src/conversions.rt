@@ -5,7 +5,7 @@ ghost use Rattle.pdbdump_tables.specs.Made.{IsMadeOfInternal, IsMadeOfLoaded};
 use pdb_space::{AddressMap, PdbInternalRva, PdbInternalSectionOffset, Rva, SectionOffset};
 
 /// What is made of an address in the image as it is loaded.
-#[derive(Clone, Copy, Debug)]
+#[derive(Clone, Copy)]
 pub struct OfLoaded {
     /// The place of the address in a section of that image.
     pub section_offset: Option<SectionOffset>,
@@ -18,7 +18,7 @@ pub struct OfLoaded {
 }
 
 /// What is made of an address in the original image.
-#[derive(Clone, Copy, Debug)]
+#[derive(Clone, Copy)]
 pub struct OfInternal {
     /// The place of the address in a section of that image.
     pub internal_offset: Option<PdbInternalSectionOffset>,

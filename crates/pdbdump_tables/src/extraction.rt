@@ -15,7 +15,7 @@ use std::alloc::Global;
 use std::io::Write;
 
 /// A role that the debug header gives to a stream.
-#[derive(Clone, Copy, Debug, PartialEq, Eq)]
+#[derive(Clone, Copy)]
 enum ListedRole {
     /// `fpo`: frames in the older format.
     Fpo,

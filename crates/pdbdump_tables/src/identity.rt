@@ -51,7 +51,7 @@ const STRIPPED: &str = "stripped";
 const KEY: &str = "key";
 
 /// How the identity of a file is written as text.
-#[derive(Clone, Copy, Debug, PartialEq, Eq)]
+#[derive(Clone, Copy)]
 pub enum KeyStyle {
     /// The path of the file in a symbol store: `NAME/KEY/NAME`.
     Key,

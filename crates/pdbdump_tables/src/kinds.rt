@@ -23,7 +23,7 @@ const KINDS: usize = 0x10000;
 const LENGTH_SIZE: u64 = 2;
 
 /// A kind of records, how many there are, and how many bytes they take.
-#[derive(Clone, Copy, Debug, PartialEq, Eq)]
+#[derive(Clone, Copy)]
 pub struct KindCount {
     /// The number of the record kind.
     pub leaf: u16,

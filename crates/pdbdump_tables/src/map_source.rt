@@ -12,7 +12,7 @@ use pdb_space::AddressMap;
 use std::alloc::Global;
 
 /// The numbers of the streams from which an address map is made. Each may be absent.
-#[derive(Clone, Copy, Debug, PartialEq, Eq)]
+#[derive(Clone, Copy)]
 pub struct MapStreams {
     /// The stream of the section headers of the original image.
     pub sections: Option<u32>,

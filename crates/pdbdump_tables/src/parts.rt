@@ -14,7 +14,7 @@ use std::alloc::Global;
 use std::io::Write;
 
 /// A part of a file.
-#[derive(Clone, Copy, Debug, PartialEq, Eq)]
+#[derive(Clone, Copy)]
 pub enum Part {
     /// The header of the file.
     Header,
