@@ -1,13 +1,13 @@
 -- Lines of answers, one after another, as the lines of questions are read.
-use Rattle.std.proofs.Common.{◌≡◌, ℕ, ◌+◌, ◌<◌, ◌&&◌, suc, add-one, drop-cons, List, [], ◌∷◌, ◌++◌, length, get_or, drop}
-use Rattle.std.proofs.Common.{Bool, true, false, cond, Option, Some, None, Result, Ok, Err, refl, sym, ap, subst, ◌∙◌, arith}
-use Rattle.std.proofs.Common.{append_assoc, append-nil, map, inl, inr}
+use Rattle.std.proofs.Common.{◌≡◌, ℕ, ◌+◌, ◌<◌, ◌&&◌, suc, add-one, drop-cons, List, [], ◌∷◌, ◌++◌, length, get_or}
+use Rattle.std.proofs.Common.{drop, Bool, true, false, cond, Option, Some, None, Result, Ok, Err, refl, sym, ap, subst}
+use Rattle.std.proofs.Common.{◌∙◌, arith, append_assoc, append-nil, map, inl, inr}
 use Rattle.std.proofs.lemmas.List.{map-append}
 use Rattle.std.proofs.lemmas.List.Elements.{filter-append}
 use Rattle.std.proofs.lemmas.List.Splits.{length-slice_split}
 use Rattle.std.specs.Prelude.{◌==◌, not, filter, take, OnOk}
 use Rattle.pdb_cli.specs.Channels.{IsUnread}
-use Rattle.pdbdump_cli.specs.declared.answers.Asked.{Asked}
+use Rattle.pdbdump_cli.specs.declared.answers.AskedFile.{AskedFile}
 use Rattle.std.specs.List.{flat_map, onto_first, slice_split}
 use Rattle.std.proofs.KnownBytes.{Appends-nil, Consumes-nil, Consumes-trans}
 use Rattle.std.specs.Io.KnownBytes.{Consumes, IsAtEnd}
@@ -20,7 +20,7 @@ use Rattle.pdb_output.specs.Output.{OutputState, Gets, IsCutShort, IsPrefix}
 use Rattle.pdb_output.proofs.lemmas.Written.{flushed_after, lacks_all, second_writes}
 use Rattle.pdbdump_rows.specs.declared.form.Form.{Form}
 use Rattle.pdbdump_cli.specs.Asked.{AnswersAll, AreAnswered, AreFirstAnswered, AreLinesAnswered, AsksAll}
-use Rattle.pdbdump_cli.specs.Asked.{IsBlockAnswered, IsReady, IsReplied, StaysOpen}
+use Rattle.pdbdump_cli.specs.Asked.{IsBlockAnswered, IsReady, IsReplied, IsKeptOpen}
 use Rattle.pdbdump_cli.specs.Answers.{answered_text, is_answer}
 use Rattle.pdbdump_cli.specs.Questions.{Asking, asking, ends_line, query_in, questions_in, questions_of}
 
@@ -310,7 +310,7 @@ module _ (form : Form) (file : List ℕ) (head : Head) where
 
 -- ---- a file that is asked
 
-pub stays : (before mid after : Asked) → StaysOpen before mid → StaysOpen mid after → StaysOpen before after
+pub stays : (before mid after : AskedFile) → IsKeptOpen before mid → IsKeptOpen mid after → IsKeptOpen before after
 stays before mid after first next = record {
   form = next.form ∙ first.form;
   bytes = next.bytes ∙ first.bytes;
@@ -319,7 +319,7 @@ stays before mid after first next = record {
 }
 
 -- a line that its last byte ends is answered
-pub line_taken : (before after : Asked) (byte : ℕ) (old new : OutputState) (result : Result Bool Error)
+pub line_taken : (before after : AskedFile) (byte : ℕ) (old new : OutputState) (result : Result Bool Error)
     → IsReady before → ends_line byte ≡ true
     → AnswersAll before.form before.file.source.items before.file.head (questions_of (before.rest.items ∷ [])) old new
     result
@@ -330,25 +330,25 @@ line_taken before after byte old new (Err e) ready is answers none =
     (byte ∷ [], [], refl, one_line _ _ _ before.rest.items byte old new (Err e) ready.unended is answers)
 
 -- there was no memory for a byte
-pub byte_lacks : (before after : Asked) (byte : ℕ) (old : OutputState)
+pub byte_lacks : (before after : AskedFile) (byte : ℕ) (old : OutputState)
     → IsBlockAnswered before after (byte ∷ []) old old (Err OutOfMemory)
 byte_lacks before after byte old = ([], byte ∷ [], refl, none_answered _ _ _ _ old OutOfMemory refl)
 
 -- one byte more
-pub block_more : (before mid after : Asked) (block : List ℕ) (i d : ℕ) (old now new : OutputState) (all next : Bool)
-    → i < length block → StaysOpen before mid
+pub block_more : (before mid after : AskedFile) (block : List ℕ) (i d : ℕ) (old now new : OutputState) (all next : Bool)
+    → i < length block → IsKeptOpen before mid
     → AreLinesAnswered before.form before.file.source.items before.file.head (before.rest.items ++ take i block) old now
     mid.rest.items all
     → IsBlockAnswered mid after (get_or block i d ∷ []) now new (Ok next)
-    → AreLinesAnswered before.form before.file.source.items before.file.head (before.rest.items ++ take (i + 1) block) old
-    new after.rest.items (all && next)
+    → AreLinesAnswered before.form before.file.source.items before.file.head (before.rest.items ++ take (i + 1) block)
+    old new after.rest.items (all && next)
 block_more before mid after block i d old now new all next within kept lines these =
     rw (take_more block i d within, ← append_assoc before.rest.items (take i block) (get_or block i d ∷ []))
     (lines_then _ _ _ _ _ _ _ old now new all (Ok next) kept.ready.unended lines
     (rw (kept.form, kept.bytes, kept.head) at these))
 
-pub block_cut : (before mid after last : Asked) (block : List ℕ) (i d : ℕ) (old now new : OutputState) (all : Bool)
-    (e : Error) → i < length block → StaysOpen before mid
+pub block_cut : (before mid after last : AskedFile) (block : List ℕ) (i d : ℕ) (old now new : OutputState) (all : Bool)
+    (e : Error) → i < length block → IsKeptOpen before mid
     → AreLinesAnswered before.form before.file.source.items before.file.head (before.rest.items ++ take i block) old now
     mid.rest.items all
     → IsBlockAnswered mid after (get_or block i d ∷ []) now new (Err e)
@@ -374,13 +374,13 @@ consumes_front (Some bytes) None text rest is = absurd is
 consumes_front (Some bytes) (Some more) text rest is = (Some (rest ++ more), is ∙ append_assoc text rest more)
 
 -- the lines of what was read from an input so far
-pub record AreReadSoFar (before now : Asked) (had left : Option (List ℕ)) (old new : OutputState) (all : Bool) : Type 0
+pub record AreReadSoFar (before now : AskedFile) (had left : Option (List ℕ)) (old new : OutputState) (all : Bool) : Type 0
     where
   pub text : List ℕ
   pub read : Consumes had left text
   pub lines : AreLinesAnswered before.form before.file.source.items before.file.head text old new now.rest.items all
 
-pub nothing_read : (before : Asked) (had : Option (List ℕ)) (old : OutputState) → IsReady before
+pub nothing_read : (before : AskedFile) (had : Option (List ℕ)) (old : OutputState) → IsReady before
     → before.rest.items ≡ [] → AreReadSoFar before before had had old old true
 nothing_read before had old ready none = record {
   text = before.rest.items;
@@ -389,7 +389,7 @@ nothing_read before had old ready none = record {
 }
 
 -- what was written is flushed, or the output failed
-pub flushed_so_far : (before mid : Asked) (had left : Option (List ℕ)) (old now new : OutputState) (all : Bool)
+pub flushed_so_far : (before mid : AskedFile) (had left : Option (List ℕ)) (old now new : OutputState) (all : Bool)
     → AreReadSoFar before mid had left old now all → Gets now new [] → AreReadSoFar before mid had left old new all
 flushed_so_far before mid had left old now new all so_far flushed = record {
   text = so_far.text;
@@ -397,7 +397,7 @@ flushed_so_far before mid had left old now new all so_far flushed = record {
   lines = lines_flushed _ _ _ _ _ old now new all so_far.lines flushed;
 }
 
-pub cut_so_far : (before mid : Asked) (had left : Option (List ℕ)) (old now new : OutputState) (all : Bool) (e : Error)
+pub cut_so_far : (before mid : AskedFile) (had left : Option (List ℕ)) (old now new : OutputState) (all : Bool) (e : Error)
     → AreReadSoFar before mid had left old now all → IsCutShort [] now new e
     → AsksAll before.form before.file.source.items before.file.head had left old new (Err e)
 cut_so_far before mid had left old now new all e so_far cut =
@@ -410,7 +410,7 @@ cut_so_far before mid had left old now new all e so_far cut =
     )
 
 -- no more could be read
-pub unread_so_far : (before mid : Asked) (had left : Option (List ℕ)) (old now : OutputState) (all : Bool) (e : Error)
+pub unread_so_far : (before mid : AskedFile) (had left : Option (List ℕ)) (old now : OutputState) (all : Bool) (e : Error)
     → AreReadSoFar before mid had left old now all → IsUnread e
     → AsksAll before.form before.file.source.items before.file.head had left old now (Err e)
 unread_so_far before mid had left old now all e so_far unread =
@@ -430,8 +430,8 @@ asks_all form file head had end text old new (Ok all) read is_end answers = (tex
 asks_all form file head had end text old new (Err e) read is_end (part, cause) = (text, end, read, part, inl cause)
 
 -- the input has ended, and the last line is answered
-pub ends_so_far : (before mid : Asked) (had left end : Option (List ℕ)) (old now new : OutputState) (all : Bool)
-    (result : Result Bool Error) → StaysOpen before mid → AreReadSoFar before mid had left old now all
+pub ends_so_far : (before mid : AskedFile) (had left end : Option (List ℕ)) (old now new : OutputState) (all : Bool)
+    (result : Result Bool Error) → IsKeptOpen before mid → AreReadSoFar before mid had left old now all
     → Consumes left end [] → IsAtEnd end
     → AnswersAll mid.form mid.file.source.items mid.file.head (questions_of (mid.rest.items ∷ [])) now new result
     → AsksAll before.form before.file.source.items before.file.head had end old new (and_then all result)
@@ -441,8 +441,8 @@ ends_so_far before mid had left end old now new all result kept so_far read is_e
     (last_line _ _ _ _ _ old now new all result so_far.lines (rw (kept.form, kept.bytes, kept.head) at answers))
 
 -- a block more
-pub more_so_far : (before mid after : Asked) (had left end : Option (List ℕ)) (block : List ℕ)
-    (old now new : OutputState) (all next : Bool) → StaysOpen before mid → AreReadSoFar before mid had left old now all
+pub more_so_far : (before mid after : AskedFile) (had left end : Option (List ℕ)) (block : List ℕ)
+    (old now new : OutputState) (all next : Bool) → IsKeptOpen before mid → AreReadSoFar before mid had left old now all
     → Consumes left end block → IsBlockAnswered mid after block now new (Ok next)
     → AreReadSoFar before after had end old new (all && next)
 more_so_far before mid after had left end block old now new all next kept so_far read these = record {
@@ -452,8 +452,8 @@ more_so_far before mid after had left end block old now new all next kept so_far
       (rw (kept.form, kept.bytes, kept.head) at these);
 }
 
-pub more_in_part : (before mid after : Asked) (had left end : Option (List ℕ)) (block : List ℕ)
-    (old now new : OutputState) (all : Bool) (e : Error) → StaysOpen before mid
+pub more_in_part : (before mid after : AskedFile) (had left end : Option (List ℕ)) (block : List ℕ)
+    (old now new : OutputState) (all : Bool) (e : Error) → IsKeptOpen before mid
     → AreReadSoFar before mid had left old now all → Consumes left end block
     → IsBlockAnswered mid after block now new (Err e)
     → AsksAll before.form before.file.source.items before.file.head had end old new (Err e)

@@ -17,7 +17,7 @@ use Rattle.pdbdump_rows.specs.declared.form.Form.{Form}
 use Rattle.pdb_output.specs.Output.{OutputState, Gets, IsOutputFailure, IsPrefix}
 use Rattle.pdbdump_cli.specs.Answers.{answered_text, is_answer}
 use Rattle.pdbdump_cli.specs.Questions.{Asking, ends_line, questions_in, questions_of}
-use Rattle.pdbdump_cli.specs.declared.answers.Asked.{Asked}
+use Rattle.pdbdump_cli.specs.declared.answers.AskedFile.{AskedFile}
 
 -- What a file replies to a question: nothing if the line asks nothing, and else what the file says, or
 -- its refusal.
@@ -60,8 +60,8 @@ pub record AreFirstAnswered (form : Form) (file : List ℕ) (head : Head) (quest
 abbrev pub AnswersAll : Form → List ℕ → Head → List Asking → OutputState → OutputState → Result Bool Error → Type 0
 AnswersAll form file head questions old new (Ok all) = (lines : List ℕ)
     × AreAnswered form file head questions lines all × Gets old new lines
-AnswersAll form file head questions old new (Err e) = AreFirstAnswered form file head questions old.contents new.contents
-    × IsOutputFailure old new e
+AnswersAll form file head questions old new (Err e) =
+    AreFirstAnswered form file head questions old.contents new.contents × IsOutputFailure old new e
 
 -- Why asking ends early: the output failed, or memory ran out, or the questions can't be read.
 abbrev pub IsAskingFailure : OutputState → OutputState → Error → Type 0
@@ -89,12 +89,12 @@ pub data IsAsked (form : Form) (file : List ℕ) (had left : Option (List ℕ)) 
 -- ---- a file between two questions
 
 -- The open tables are those of the file, and what was read of a line has no end of a line in it.
-pub record IsReady (asked : Asked) : Type 0 where
+pub record IsReady (asked : AskedFile) : Type 0 where
   pub tables : AreOf (stream_of asked.file.source.items asked.file.head) asked.tables
   pub unended : slice_split ends_line asked.rest.items ≡ asked.rest.items ∷ []
 
 -- A file that stays open to be asked keeps its form, its bytes and its header.
-pub record StaysOpen (old new : Asked) : Type 0 where
+pub record IsKeptOpen (old new : AskedFile) : Type 0 where
   pub form : new.form ≡ old.form
   pub bytes : new.file.source.items ≡ old.file.source.items
   pub head : new.file.head ≡ old.file.head
@@ -109,7 +109,7 @@ pub record AreLinesAnswered (form : Form) (file : List ℕ) (head : Head) (text 
 
 -- The questions of the lines that end in a block were answered, the first of them as what was read before continues in
 -- the block; or answering ended early.
-abbrev pub IsBlockAnswered : Asked → Asked → List ℕ → OutputState → OutputState → Result Bool Error → Type 0
+abbrev pub IsBlockAnswered : AskedFile → AskedFile → List ℕ → OutputState → OutputState → Result Bool Error → Type 0
 IsBlockAnswered before after block old new (Ok all) =
     AreLinesAnswered before.form before.file.source.items before.file.head (before.rest.items ++ block) old new
     after.rest.items all

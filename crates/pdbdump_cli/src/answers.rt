@@ -4,7 +4,7 @@ ghost use Rattle.std.specs.Prelude.{◌≡◌, ◌<◌, ◌≤◌, [], ◌∷◌
 ghost use Rattle.std.specs.Io.KnownBytes.{Consumes, IsAtEnd, Keeps};
 ghost use Rattle.pdb_cli.specs.Channels.{IsUnread};
 ghost use Rattle.pdb_base.specs.Memory.{FailsOnlyForMemory};
-ghost use Rattle.pdbdump_cli.specs.Asked.{AnswersAll, AsksAll, IsAsked, IsBlockAnswered, IsReady, IsReplied, StaysOpen};
+ghost use Rattle.pdbdump_cli.specs.Asked.{AnswersAll, AsksAll, IsAsked, IsBlockAnswered, IsReady, IsReplied, IsKeptOpen};
 ghost use Rattle.pdbdump_cli.specs.Questions.{query_in, questions_of};
 
 use crate::answer::{is_answer, write_answered};
@@ -20,10 +20,10 @@ use std::io::{ErrorKind, Read, Write};
 /// The number of bytes of questions that are requested at a time.
 const BLOCK_SIZE: usize = 65_536;
 
-/// A file that is asked, the tables that stay open between its questions, and what was read of a
-/// line that has not ended.
+/// A file that stays open for questions, the tables that stay open between them, and what was read
+/// of a line that has not ended.
 #[derive(Drop)]
-pub struct Asked {
+pub struct AskedFile {
     alloc: Global,
     form: Form,
     file: BigMSF<Vec<u8>>,
@@ -38,7 +38,8 @@ pub struct Asked {
 /// Fails with `IoError` if a read fails, or if too many are interrupted.
 fn read_block<R: Read>(input: &mut R, block: &mut [u8]) -> Result<usize>
     requires room { 0 < length block.old }
-    ensures bytes { IfOk result (λ count. Consumes (R.remaining input.old) (R.remaining input.new) (take count block.new)
+    ensures bytes { IfOk result (λ count.
+        Consumes (R.remaining input.old) (R.remaining input.new) (take count block.new)
         × (count ≤ length block.new) × (count ≡ 0 → IsAtEnd (R.remaining input.new))) }
     ensures kept { OnErr result (Keeps (R.remaining input.old) (R.remaining input.new)) }
     ensures unread { IfErr result IsUnread }
@@ -53,14 +54,14 @@ fn read_block<R: Read>(input: &mut R, block: &mut [u8]) -> Result<usize>
     Err(io::Error::other("each read was interrupted").into())
 }
 
-impl Asked {
+impl AskedFile {
     /// Returns the reply to the question of the line, or None if the line has no question.
     fn reply(&mut self) -> Result<Option<Reply>>
         requires ready { IsReady self.old }
         ensures reply { IfOk result (IsReplied self.old.file.source.items self.old.file.head
             (query_in self.old.rest.items)) }
         ensures memory { FailsOnlyForMemory result }
-        ensures kept { StaysOpen self.old self.new }
+        ensures kept { IsKeptOpen self.old self.new }
         ensures rest { self.new.rest ≡ self.old.rest }
     {
         match query_in(self.alloc, &self.rest)? {
@@ -75,7 +76,7 @@ impl Asked {
         requires ready { IsReady self.old }
         ensures answer { AnswersAll self.old.form self.old.file.source.items self.old.file.head
             (questions_of (self.old.rest.items ∷ [])) out.old out.new result }
-        ensures kept { OnOk result (StaysOpen self.old self.new) }
+        ensures kept { OnOk result (IsKeptOpen self.old self.new) }
         ensures rest { OnOk result (self.new.rest.items ≡ []) }
     {
         if self.rest.is_empty() {
@@ -99,7 +100,7 @@ impl Asked {
     fn take_byte<W: Write>(&mut self, byte: u8, out: &mut Output<W>) -> Result<bool>
         requires ready { IsReady self.old }
         ensures answers { IsBlockAnswered self.old self.new (byte ∷ []) out.old out.new result }
-        ensures kept { OnOk result (StaysOpen self.old self.new) }
+        ensures kept { OnOk result (IsKeptOpen self.old self.new) }
     {
         if is_line_end(byte) {
             return self.answer_line(out);
@@ -113,7 +114,7 @@ impl Asked {
     fn answer_block<W: Write>(&mut self, block: &[u8], out: &mut Output<W>) -> Result<bool>
         requires ready { IsReady self.old }
         ensures answers { IsBlockAnswered self.old self.new block.now out.old out.new result }
-        ensures kept { OnOk result (StaysOpen self.old self.new) }
+        ensures kept { OnOk result (IsKeptOpen self.old self.new) }
     {
         let mut all = true;
         for byte in block {
@@ -176,7 +177,7 @@ pub fn ask<Q: Read, W: Write>(
         Err(fault) => return Err(fault),
     };
     let mut block = vec![in alloc; 0; BLOCK_SIZE]?;
-    let mut asked = Asked {
+    let mut asked = AskedFile {
         alloc,
         form,
         file,

@@ -68,7 +68,7 @@ fn tell_misuse<P: Eprint + AllocGlobal>(process: &P, misuse: Misuse, words: &[&s
     Ok(MISUSED)
 }
 
-/// What is asked of one file.
+/// A command for one file.
 #[derive(Clone, Copy)]
 enum Work<'w> {
     /// What a command lists.
@@ -83,7 +83,7 @@ enum Work<'w> {
     Layout(Layouts<'w>),
 }
 
-/// Does what is asked of the file in an input, and returns the status for that file.
+/// Runs a command for the file in an input, and returns the status for that file.
 fn serve_work<I: Read, O: Write, E: Write>(
     alloc: Global,
     work: &Work<'_>,
@@ -103,7 +103,7 @@ fn serve_work<I: Read, O: Write, E: Write>(
     }
 }
 
-/// Does what is asked of the file at a path, or of the one in standard input if the path is `-`.
+/// Runs a command for the file at a path, or for the one in standard input if the path is `-`.
 fn serve_file<P: Files + Input + Print + Eprint + AllocGlobal>(
     process: &P,
     path: &str,

@@ -2,7 +2,7 @@ use Rattle.std.proofs.Common.{Err, Ok, refl, rules}
 use Rattle.pdb_base.proofs.lemmas.Refused.{passed_on}
 use Rattle.pdbdump_cli.proofs.AnsweredLemmas.{cut_so_far, ends_so_far, flushed_so_far}
 use Rattle.pdbdump_cli.proofs.AnsweredLemmas.{more_in_part, more_so_far, nothing_read, stays, unread_so_far}
-use Rattle.pdbdump_cli.proofs.answers.Asked.answer_all.Goals as goal
+use Rattle.pdbdump_cli.proofs.answers.AskedFile.answer_all.Goals as goal
 
 pub loop-init : goal.loop-init
 loop-init g c = record {

@@ -1,7 +1,7 @@
 use Rattle.std.proofs.Common.{refl, sym, ◌∙◌}
 use Rattle.pdb_base.proofs.lemmas.Refused.{passed_on}
 use Rattle.pdbdump_cli.proofs.AnsweredLemmas.{byte_lacks, line_goes_on, line_taken, no_line}
-use Rattle.pdbdump_cli.proofs.answers.Asked.take_byte.Goals as goal
+use Rattle.pdbdump_cli.proofs.answers.AskedFile.take_byte.Goals as goal
 
 pub returns-then-is_line_end-clause-answers : goal.returns-then-is_line_end-clause-answers
 returns-then-is_line_end-clause-answers g c =
@@ -11,7 +11,8 @@ returns-then-is_line_end-clause-answers g c =
 pub returns-clause-answers : goal.returns-clause-answers
 returns-clause-answers g c =
     rw c.in_ok-push.ensures.items
-    (no_line _ _ _ _ _ (line_goes_on _ c.args.byte c.requires.ready.unended (sym c.is_line_end.ensures ∙ c.if-is_line_end.false)))
+    (no_line _ _ _ _ _
+    (line_goes_on _ c.args.byte c.requires.ready.unended (sym c.is_line_end.ensures ∙ c.if-is_line_end.false)))
 
 pub returns-clause-kept : goal.returns-clause-kept
 returns-clause-kept g c = record {

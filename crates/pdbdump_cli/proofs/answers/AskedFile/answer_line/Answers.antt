@@ -1,6 +1,6 @@
 use Rattle.pdb_base.proofs.lemmas.Refused.{passed_on}
 use Rattle.pdbdump_cli.proofs.AnsweredLemmas.{none_answered, one_cut}
-use Rattle.pdbdump_cli.proofs.answers.Asked.answer_line.Goals as goal
+use Rattle.pdbdump_cli.proofs.answers.AskedFile.answer_line.Goals as goal
 
 pub returns-in_err-reply-clause-answer : goal.returns-in_err-reply-clause-answer
 returns-in_err-reply-clause-answer g c =

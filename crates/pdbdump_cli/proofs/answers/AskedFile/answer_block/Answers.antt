@@ -1,6 +1,6 @@
 use Rattle.pdb_base.proofs.lemmas.Refused.{passed_on}
 use Rattle.pdbdump_cli.proofs.AnsweredLemmas.{block_cut, block_more, stays}
-use Rattle.pdbdump_cli.proofs.answers.Asked.answer_block.Goals as goal
+use Rattle.pdbdump_cli.proofs.answers.AskedFile.answer_block.Goals as goal
 
 pub returns-in_err-all-clause-answers : goal.returns-in_err-all-clause-answers
 returns-in_err-all-clause-answers g c =
