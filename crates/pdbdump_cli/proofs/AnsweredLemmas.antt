@@ -253,8 +253,10 @@ module _ (form : Form) (file : List ℕ) (head : Head) where
         (answers_then _ _ old now new all (Ok next) before.answers these.answers);
   }
   lines_then text more rest left old now new all (Err e) whole before part =
-      rw (split_behind ends_line text more rest before.ended before.split whole,
-      questions_append before.ended (slice_split ends_line (rest ++ more)))
+      rw (
+        split_behind ends_line text more rest before.ended before.split whole,
+        questions_append before.ended (slice_split ends_line (rest ++ more)),
+      )
       (answers_then _ _ old now new all (Err e) before.answers part)
 
   -- one line that ends
@@ -374,8 +376,8 @@ consumes_front (Some bytes) None text rest is = absurd is
 consumes_front (Some bytes) (Some more) text rest is = (Some (rest ++ more), is ∙ append_assoc text rest more)
 
 -- the lines of what was read from an input so far
-pub record AreReadSoFar (before now : AskedFile) (had left : Option (List ℕ)) (old new : OutputState) (all : Bool) : Type 0
-    where
+pub record AreReadSoFar (before now : AskedFile) (had left : Option (List ℕ)) (old new : OutputState) (all : Bool)
+    : Type 0 where
   pub text : List ℕ
   pub read : Consumes had left text
   pub lines : AreLinesAnswered before.form before.file.source.items before.file.head text old new now.rest.items all
@@ -397,8 +399,8 @@ flushed_so_far before mid had left old now new all so_far flushed = record {
   lines = lines_flushed _ _ _ _ _ old now new all so_far.lines flushed;
 }
 
-pub cut_so_far : (before mid : AskedFile) (had left : Option (List ℕ)) (old now new : OutputState) (all : Bool) (e : Error)
-    → AreReadSoFar before mid had left old now all → IsCutShort [] now new e
+pub cut_so_far : (before mid : AskedFile) (had left : Option (List ℕ)) (old now new : OutputState) (all : Bool)
+    (e : Error) → AreReadSoFar before mid had left old now all → IsCutShort [] now new e
     → AsksAll before.form before.file.source.items before.file.head had left old new (Err e)
 cut_so_far before mid had left old now new all e so_far cut =
     let after = flushed_after old now new _ e so_far.lines.answers.2 cut in (
@@ -410,8 +412,8 @@ cut_so_far before mid had left old now new all e so_far cut =
     )
 
 -- no more could be read
-pub unread_so_far : (before mid : AskedFile) (had left : Option (List ℕ)) (old now : OutputState) (all : Bool) (e : Error)
-    → AreReadSoFar before mid had left old now all → IsUnread e
+pub unread_so_far : (before mid : AskedFile) (had left : Option (List ℕ)) (old now : OutputState) (all : Bool)
+    (e : Error) → AreReadSoFar before mid had left old now all → IsUnread e
     → AsksAll before.form before.file.source.items before.file.head had left old now (Err e)
 unread_so_far before mid had left old now all e so_far unread =
     let got = so_far.lines.answers.2 in (

@@ -4,7 +4,8 @@ ghost use Rattle.std.specs.Prelude.{◌≡◌, ◌<◌, ◌≤◌, [], ◌∷◌
 ghost use Rattle.std.specs.Io.KnownBytes.{Consumes, IsAtEnd, Keeps};
 ghost use Rattle.pdb_cli.specs.Channels.{IsUnread};
 ghost use Rattle.pdb_base.specs.Memory.{FailsOnlyForMemory};
-ghost use Rattle.pdbdump_cli.specs.Asked.{AnswersAll, AsksAll, IsAsked, IsBlockAnswered, IsReady, IsReplied, IsKeptOpen};
+ghost use Rattle.pdbdump_cli.specs.Asked.{AnswersAll, AsksAll, IsAsked, IsBlockAnswered, IsKeptOpen, IsReady};
+ghost use Rattle.pdbdump_cli.specs.Asked.{IsReplied};
 ghost use Rattle.pdbdump_cli.specs.Questions.{query_in, questions_of};
 
 use crate::answer::{is_answer, write_answered};
