@@ -159,13 +159,14 @@ impl Write for Seen<'_> {
 /// Questions that are written one after another, each once so many bytes of answers are seen.
 #[derive(Drop)]
 struct Talk<'t> {
-    left: &'t [(&'t [u8], usize)],
+    parts: &'t [(&'t [u8], usize)],
+    at: usize,
     seen: &'t RefCell<Vec<u8>>,
 }
 
 impl Read for Talk<'_> {
     fn read(&mut self, room: &mut [u8]) -> io::Result<usize> {
-        let Some(((part, length), rest)) = self.left.split_first() else {
+        let Some((part, length)) = self.parts.get(self.at) else {
             return Ok(0);
         };
         let is_seen = matches!(self.seen.try_borrow(), Ok(seen) if seen.len() == *length);
@@ -173,7 +174,7 @@ impl Read for Talk<'_> {
             return Err(io::Error::from(ErrorKind::WouldBlock));
         }
         room[..part.len()].copy_from_slice(part);
-        self.left = rest;
+        self.at = self.at.saturating_add(1);
         Ok(part.len())
     }
 }
@@ -190,7 +191,8 @@ const TALK: &[(&[u8], usize)] = &[
 fn answers_before_the_next(rt: HostRuntime) -> std::result::Result<(), Fail> {
     let seen = RefCell::new(Vec::new(rt.alloc()));
     let mut questions = Talk {
-        left: TALK,
+        parts: TALK,
+        at: 0,
         seen: &seen,
     };
     let buffer = BufWriter::with_capacity(rt.alloc(), 1000, Seen(&seen))?;
@@ -198,7 +200,7 @@ fn answers_before_the_next(rt: HostRuntime) -> std::result::Result<(), Fail> {
     let file = s1(rt.alloc())?;
     let answered = ask(rt.alloc(), file, &mut questions, Form::Text, &mut out);
     assert!(rt;
-        matches!(answered, Ok(false)) && questions.left.is_empty(),
+        matches!(answered, Ok(false)) && questions.at == TALK.len(),
         "{answered:?}"
     );
     Ok(())
