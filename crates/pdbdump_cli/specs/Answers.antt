@@ -41,17 +41,21 @@ record_shown index leaf name = (codes "index", hexadecimal index) ∷ (codes "ki
 abbrev pub range_shown : Range ℕ → ShownRow
 range_shown range = (codes "start", hexadecimal range.start) ∷ (codes "end", hexadecimal range.end) ∷ []
 
+-- the row of a reply that is no list
+abbrev pub reply_shown : Reply → ShownRow
+reply_shown (replies.Bytes stream) = bytes_shown stream.items
+reply_shown (replies.Record index leaf name) = record_shown index leaf (option_map (λ copy. copy.items) name)
+reply_shown (replies.Name name) = (codes "string", text name.items) ∷ []
+reply_shown (replies.Refused e) = refusal_shown (refusal_of e) ∷ []
+reply_shown reply = []
+
 -- The lines of a reply: for a list, one line for each field; for ranges, one line for each. In text a line begins with
 -- an index, or with the key of its field, which is never that of a question.
 abbrev pub reply_text : Form → Reply → List ℕ
-reply_text form (replies.Bytes stream) = row_text form (bytes_shown stream.items)
-reply_text form (replies.Record index leaf name) =
-    row_text form (record_shown index leaf (option_map (λ copy. copy.items) name))
 reply_text form (replies.Fields names) = flat_map
     (λ name. row_text form (name_field (codes "field") (option_map (λ copy. copy.items) name) ∷ [])) names.items
-reply_text form (replies.Name name) = row_text form ((codes "string", text name.items) ∷ [])
 reply_text form (replies.Ranges ranges) = flat_map (λ range. row_text form (range_shown range)) ranges.items
-reply_text form (replies.Refused e) = row_text form (refusal_shown (refusal_of e) ∷ [])
+reply_text form reply = row_text form (reply_shown reply)
 
 -- the lines of an answer: those of the reply, or a line that says that nothing was asked
 abbrev pub answer_text : Form → Option Reply → List ℕ

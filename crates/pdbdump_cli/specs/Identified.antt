@@ -1,11 +1,10 @@
 -- What `id` does with a file, and how the program ends.
 use Rattle.std.specs.Prelude.{◌≡◌, ◌⊎◌, ◌↔◌, ℕ, Bool, false, IsTrue, ⊤, List, codes, Option, Some, None, Result, Ok}
-use Rattle.std.specs.Prelude.{Err, IfOk, IfSome}
+use Rattle.std.specs.Prelude.{Err, IfOk}
 use Rattle.pdb_base.specs.declared.error.Error.{Error}
 use Rattle.pdb_base.specs.declared.error.Error.TheVariants.{OutOfMemory}
 use Rattle.pdb_base.specs.Answer.{Answer, ◌>>=◌}
 use Rattle.pdb_base.specs.Refusal.{refusal_of}
-use Rattle.pdb_cli.specs.Channels.{IsFaultReported, IsUnread}
 use Rattle.pdb_identity.specs.Format.{format_of}
 use Rattle.pdb_identity.specs.Identity.{file_identity}
 use Rattle.pdb_identity.specs.declared.format.Format.{Format}
@@ -65,17 +64,12 @@ pub data IsConcluded (result : Result Bool Error) (written out' err err' : Outpu
       → GetsUnlessFailed told err' unexpected_line → status ≡ 1
       → IsConcluded result written out' err err' status
 
--- What the program did for `id`: it reported why the input can't be read, or what else the file is, and wrote
--- no output; or it identified the file, flushed the output, and ended. If the bytes of the input are known, these
--- are the file.
-pub data IsIdServed (form : Form) (asked : IdentifyValue) (had : Option (List ℕ)) (out out' err err' : OutputState)
-    (status : ℕ) : Type 0 where
-  unread : (fault : Error) → IsUnread fault → out' ≡ out → IsFaultReported fault err err' status
-      → IsIdServed form asked had out out' err err' status
-  other : (file text : List ℕ) → IfSome had (λ bytes. file ≡ bytes) → other_format (format_of file) ≡ Some text → out'
-      ≡ out → GetsUnlessFailed err err' text → status ≡ 1
-      → IsIdServed form asked had out out' err err' status
-  identified : (file : List ℕ) (written : OutputState) (result : Result Bool Error) → IfSome had (λ bytes. file ≡ bytes)
-      → other_format (format_of file) ≡ None
+-- What `id` does with a file: it reports what else the file is, and writes no output; or it identifies the file,
+-- flushes the output, and ends.
+pub data IsIdDone (form : Form) (asked : IdentifyValue) (file : List ℕ) (out out' err err' : OutputState) (status : ℕ)
+    : Type 0 where
+  other : (text : List ℕ) → other_format (format_of file) ≡ Some text → out' ≡ out → GetsUnlessFailed err err' text
+      → status ≡ 1 → IsIdDone form asked file out out' err err' status
+  identified : (written : OutputState) (result : Result Bool Error) → other_format (format_of file) ≡ None
       → IsIdentified form asked file out written result → IsConcluded result written out' err err' status
-      → IsIdServed form asked had out out' err err' status
+      → IsIdDone form asked file out out' err err' status

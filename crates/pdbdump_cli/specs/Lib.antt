@@ -6,6 +6,7 @@ pub mod LayoutWords
 pub mod Listed
 pub mod Served
 pub mod Asking
+pub mod IdOptions
 pub mod IdWords
 pub mod Identified
 pub mod FindingLines
@@ -13,3 +14,4 @@ pub mod ValidateWords
 pub mod Validated
 pub mod Extracted
 pub mod LaidOut
+pub mod Requests

@@ -1,4 +1,4 @@
--- What a command lists of a file.
+-- What a command writes of a file.
 use Rattle.std.specs.Prelude.{◌≡◌, ◌⊎◌, ℕ, List, Option, Some, None, Result, Ok, Err, unwrap_or}
 use Rattle.pdb_base.specs.declared.error.Error.{Error}
 use Rattle.pdb_base.specs.declared.error.Error.TheVariants.{OutOfMemory}
@@ -15,6 +15,8 @@ use Rattle.pdbdump_tables.specs.Summary.{summary_listing}
 use Rattle.pdbdump_tables.specs.Files.{file_frames, file_names, file_omap, file_sections, frames_in}
 use Rattle.pdb_output.specs.Output.{OutputState}
 use Rattle.pdbdump_tables.specs.Listing.{IsListed}
+use Rattle.pdbdump_cli.specs.Extracted.{extraction_in}
+use Rattle.pdbdump_cli.specs.Words.{extract_view}
 use Rattle.pdbdump_cli.specs.declared.command.Command.{Command}
 use Rattle.pdbdump_cli.specs.declared.command.Command.TheVariants as commands
 
@@ -50,6 +52,7 @@ DoesIn form (commands.Omap stream) file head = IsListed (file_omap form file hea
 DoesIn form commands.Frames file head = IsListed (file_frames form file head)
 DoesIn form (commands.FramesIn old new) file head = IsListed (frames_in form file head old new)
 DoesIn form (commands.Map address streams) file head = IsMapped form (map_in file head streams) address
+DoesIn form (commands.Extract asked) file head = IsListed (extraction_in file head (extract_view asked))
 
 -- What a command does with a file; or the header is refused, or memory for it, and nothing is written.
 pub data Does (form : Form) (command : Command) (file : List ℕ) (out out' : OutputState)

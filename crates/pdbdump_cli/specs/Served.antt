@@ -1,15 +1,12 @@
--- What the program does with a command and an input, and how it ends.
-use Rattle.std.specs.Prelude.{◌≡◌, ℕ, List, Option, Result, Ok, Err, IfSome}
+-- What the program does with the file in an input, and how it ends.
+use Rattle.std.specs.Prelude.{◌≡◌, ℕ, Bool, true, false, List, Option, Result, Ok, Err, IfSome}
 use Rattle.std.specs.Result.{result_and}
 use Rattle.std.specs.declared.io.ErrorKind.TheVariants as kinds
 use Rattle.std.specs.IoError.{error_kind}
 use Rattle.pdb_base.specs.declared.error.Error.{Error}
 use Rattle.pdb_base.specs.declared.error.Error.TheVariants.{IoError}
 use Rattle.pdb_cli.specs.Channels.{IsFaultReported, IsUnread}
-use Rattle.pdb_output.specs.Output.{OutputState, Flushes}
-use Rattle.pdbdump_rows.specs.declared.form.Form.{Form}
-use Rattle.pdbdump_cli.specs.Listed.{Does}
-use Rattle.pdbdump_cli.specs.declared.command.Command.{Command}
+use Rattle.pdb_output.specs.Output.{OutputState, Flushes, done_of}
 
 -- the reader of the output has closed it
 abbrev pub IsClosed : Error → Type 0
@@ -35,14 +32,23 @@ pub record IsEnded (listed : Result (Unit {0}) Error) (written out' err err' : O
   pub flushes : Flushes written out' flushed
   pub ends : EndsProgram (result_and listed flushed) err err' status
 
--- What the program did with a command and an input: it reported why the input can't be read, and wrote no
--- output; or it listed what the command asks of the file in the input, flushed the output, and ended. If
--- the bytes of the input are known, these are the file.
-pub data IsCommandServed (form : Form) (command : Command) (had : Option (List ℕ)) (out out' err err' : OutputState)
-    (status : ℕ) : Type 0 where
+-- the status behind an answer: 1 if it is no, and else that of the end of the program
+abbrev pub status_of : Result Bool Error → ℕ → ℕ
+status_of (Ok false) ended = 1
+status_of (Ok true) ended = ended
+status_of (Err fault) ended = ended
+
+-- The program ended behind what answers yes or no, as behind a listing, but with status 1 for a no.
+pub record IsEndedAs (answer : Result Bool Error) (written out' err err' : OutputState) (status : ℕ) : Type 0 where
+  pub ended : ℕ
+  pub ends : IsEnded (done_of answer) written out' err err' ended
+  pub is_status : status ≡ status_of answer ended
+
+-- What the program did with the file in an input: it reported why the file can't be read, and wrote no output; or it
+-- did with the file what is meant. If the bytes of the input are known, they are the file.
+pub data IsFileServed (does : List ℕ → Type 0) (had : Option (List ℕ)) (out out' err err' : OutputState) (status : ℕ)
+    : Type 0 where
   unread : (fault : Error) → IsUnread fault → out' ≡ out → IsFaultReported fault err err' status
-      → IsCommandServed form command had out out' err err' status
-  listed : (file : List ℕ) (written : OutputState) (result : Result (Unit {0}) Error)
-      → IfSome had (λ bytes. file ≡ bytes)
-      → Does form command file out written result → IsEnded result written out' err err' status
-      → IsCommandServed form command had out out' err err' status
+      → IsFileServed does had out out' err err' status
+  read : (file : List ℕ) → IfSome had (λ bytes. file ≡ bytes) → does file
+      → IsFileServed does had out out' err err' status

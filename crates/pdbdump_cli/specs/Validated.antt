@@ -1,8 +1,8 @@
 -- What `validate` does with a file, and how the program ends.
-use Rattle.std.specs.Prelude.{◌≡◌, ◌↔◌, ℕ, Bool, IsTrue, List, Option, Result, IfSome}
+use Rattle.std.specs.Prelude.{◌≡◌, ◌↔◌, ℕ, Bool, IsTrue, List, Result}
 use Rattle.pdb_base.specs.declared.error.Error.{Error}
 use Rattle.pdb_base.specs.declared.error.Error.TheVariants.{OutOfMemory}
-use Rattle.pdb_cli.specs.Channels.{IsFaultReported, IsUnread}
+use Rattle.pdb_cli.specs.Channels.{IsFaultReported}
 use Rattle.pdb_output.specs.Output.{OutputState, Writes}
 use Rattle.pdbdump_rows.specs.declared.form.Form.{Form}
 use Rattle.pdb_validation.specs.Finding.{FaultPlace, error_count, warning_count}
@@ -34,21 +34,11 @@ pub record IsConcluded (options : ValidateOptions) (form : Form) (path file : Li
   pub judged : IsJudged options.is_strict (faults_of options.extent file) ended status
   pub whole : (error_count (faults_of options.extent file) ≡ 0) ↔ IsWhole file
 
--- What is done with a file: faults are looked for, and the program ends as above; or memory is refused, which is
--- reported, and no output is written.
+-- What `validate` does with a file: faults are looked for, and the program ends as above; or memory is refused, which
+-- is reported, and no output is written.
 pub data IsValidated (options : ValidateOptions) (form : Form) (path file : List ℕ) (out out' err err' : OutputState)
     (status : ℕ) : Type 0 where
   concluded : IsConcluded options form path file out out' err err' status
       → IsValidated options form path file out out' err err' status
   lacking : out' ≡ out → IsFaultReported OutOfMemory err err' status
       → IsValidated options form path file out out' err err' status
-
--- What the program did for `validate`: it reported why the input can't be read, and wrote no output; or it validated
--- the file. If the bytes of the input are known, these are the file.
-pub data IsValidateServed (options : ValidateOptions) (form : Form) (path : List ℕ) (had : Option (List ℕ))
-    (out out' err err' : OutputState) (status : ℕ) : Type 0 where
-  unread : (fault : Error) → IsUnread fault → out' ≡ out → IsFaultReported fault err err' status
-      → IsValidateServed options form path had out out' err err' status
-  validated : (file : List ℕ) → IfSome had (λ bytes. file ≡ bytes)
-      → IsValidated options form path file out out' err err' status
-      → IsValidateServed options form path had out out' err err' status

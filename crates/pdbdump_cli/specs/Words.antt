@@ -5,6 +5,7 @@ use Rattle.std.specs.List.{starts_with}
 use Rattle.std.specs.Option.{is_none, option_map, option_map_or}
 use Rattle.pdb_cli.specs.Words.{number_of, same}
 use Rattle.pdbdump_tables.specs.declared.map_source.MapStreams.{MapStreams}
+use Rattle.pdbdump_cli.specs.IdOptions.{IdGiven, id_view, no_options, with_id_option}
 use Rattle.pdbdump_cli.specs.declared.command.Verb.{Verb}
 use Rattle.pdbdump_cli.specs.declared.command.Verb.TheVariants as verbs
 use Rattle.pdbdump_cli.specs.declared.command.Command.{Command}
@@ -103,22 +104,19 @@ with_option verbs.Id options option value = None
 with_option verbs.Validate options option value = None
 with_option verbs.Layout options option value = None
 
--- the options with the one that its name and the number in the word after it give
-unfoldable pub option_given : Verb → Options → List ℕ → List ℕ → Option Options
-option_given verb options option value =
-    option_and_then (λ number. with_option verb options option number) (number_of value)
-
 -- ---- arguments
 
 -- what stands behind the name of a command: its options, the path of the file, and what is asked of the file
 pub record Given : Type 0 where
   pub options : Options
+  pub id : IdGiven
   pub path : Option (List ℕ)
   pub operand : Option (List ℕ)
 
 abbrev pub arguments_view : Arguments → Given
 arguments_view arguments = record {
   options = arguments.options;
+  id = id_view arguments.id;
   path = option_map (λ word. word.now) arguments.path;
   operand = option_map (λ word. word.now) arguments.operand;
 }
@@ -135,6 +133,7 @@ none_given = record {
     limit = None;
     map = record { sections = None; transformed = None; to_original = None; to_transformed = None };
   };
+  id = no_options;
   path = None;
   operand = None;
 }
@@ -148,17 +147,24 @@ operand_behind given word (Some path) (Some operand) = None
 abbrev pub with_operand : Given → List ℕ → Option Given
 with_operand given word = operand_behind given word given.path given.operand
 
+-- with the option that a name and the word behind it give, which is a number for other commands than `id`
+unfoldable pub option_given : Verb → Given → List ℕ → List ℕ → Option Given
+option_given verbs.Id given option value =
+    option_map (λ id. record given { id = id }) (with_id_option given.id option value)
+option_given verb given option value =
+    option_and_then (λ number. option_map (λ options. record given { options = options })
+    (with_option verb given.options option number)) (number_of value)
+
 -- whether a word is the name of an option
 abbrev pub is_option : List ℕ → Bool
 is_option word = starts_with nat_eq word (codes "--")
 
--- With all these words, in any order: options, each with its number behind it, and the others.
+-- With all these words, in any order: options, each with a word behind it, and the others.
 unfoldable pub arguments_with : Verb → Given → List (List ℕ) → Option Given
 arguments_with verb given [] = Some given
 arguments_with verb given (word ∷ []) = if is_option word then None else with_operand given word
 arguments_with verb given (word ∷ next ∷ words) =
-    if is_option word then option_and_then (λ options. arguments_with verb (record given { options = options }) words)
-    (option_given verb given.options word next)
+    if is_option word then option_and_then (λ more. arguments_with verb more words) (option_given verb given word next)
     else option_and_then (λ more. arguments_with verb more (next ∷ words)) (with_operand given word)
 
 -- ---- calls

@@ -4,17 +4,15 @@
 ghost use Rattle.std.specs.Prelude.{◌≡◌, ◌∷◌, [], codes};
 ghost use Rattle.std.specs.List.{flat_map};
 ghost use Rattle.std.specs.Option.{option_copied, option_map};
-ghost use Rattle.pdb_base.specs.Refusal.{refusal_of};
 ghost use Rattle.pdb_output.specs.Output.{Writes};
 ghost use Rattle.pdbdump_rows.specs.Line.{ShowsFields};
 ghost use Rattle.pdbdump_rows.specs.Lines.{row_text};
-ghost use Rattle.pdbdump_rows.specs.Refused.{refusal_shown};
 ghost use Rattle.pdbdump_rows.specs.Row.{text as shown_text};
 ghost use Rattle.pdbdump_cli.specs.Answers.{answer_text, answered_text, bytes_shown, is_answer, name_field};
-ghost use Rattle.pdbdump_cli.specs.Answers.{range_shown, record_shown, reply_text};
+ghost use Rattle.pdbdump_cli.specs.Answers.{range_shown, record_shown, reply_shown, reply_text};
 
 use pdb_base::RawString;
-use pdb_container::{Error, Reply, Result};
+use pdb_container::{Reply, Result};
 use pdb_output::Output;
 use pdbdump_rows::{Form, Line, Value, optional_text, show_error, write_line};
 use std::alloc::Global;
@@ -50,39 +48,6 @@ fn show_record(line: &mut Line, index: u32, leaf: u16, name: Option<&[u8]>) -> R
     line.field("name", optional_text(name.map(RawString::from)))
 }
 
-/// Writes a record as a line.
-fn write_record<W: Write>(
-    form: Form,
-    index: u32,
-    leaf: u16,
-    name: Option<&[u8]>,
-    line: &mut Line,
-    out: &mut Output<W>,
-) -> Result<()>
-    ensures { Writes (row_text form (record_shown index leaf (option_map (λ name. name.now) name.entry)))
-        out.old out.new result }
-{
-    line.begin(form);
-    let added = show_record(line, index, leaf, name);
-    write_line(added, line, out)
-}
-
-/// Writes why there is no answer.
-fn write_refused<W: Write>(
-    alloc: Global,
-    form: Form,
-    error: &Error,
-    line: &mut Line,
-    out: &mut Output<W>,
-) -> Result<()>
-    ensures { Writes (row_text form (refusal_shown (refusal_of error.now) ∷ []))
-        out.old out.new result }
-{
-    line.begin(form);
-    let added = show_error(alloc, line, error);
-    write_line(added, line, out)
-}
-
 /// Adds the bytes of a stream, in hexadecimal digits.
 fn show_bytes(alloc: Global, line: &mut Line, stream: &[u8]) -> Result<()>
     ensures { ShowsFields (bytes_shown stream.now) line.old line.new result }
@@ -91,34 +56,12 @@ fn show_bytes(alloc: Global, line: &mut Line, stream: &[u8]) -> Result<()>
     line.field("bytes", Value::Text(RawString::from(digits.as_bytes())))
 }
 
-/// Writes the bytes of a stream as a line.
-fn write_stream<W: Write>(
-    alloc: Global,
-    form: Form,
-    stream: &[u8],
-    line: &mut Line,
-    out: &mut Output<W>,
-) -> Result<()>
-    ensures { Writes (row_text form (bytes_shown stream.now)) out.old out.new result }
+/// Adds the name of a field.
+fn show_name(line: &mut Line, name: Option<&[u8]>) -> Result<()>
+    ensures { ShowsFields (name_field (codes "field") (option_map (λ name. name.now) name.entry) ∷ [])
+        line.old line.new result }
 {
-    line.begin(form);
-    let added = show_bytes(alloc, line, stream);
-    write_line(added, line, out)
-}
-
-/// Writes the name of a field as a line.
-fn write_name<W: Write>(
-    form: Form,
-    name: Option<&[u8]>,
-    line: &mut Line,
-    out: &mut Output<W>,
-) -> Result<()>
-    ensures { Writes (row_text form (name_field (codes "field") (option_map (λ name. name.now) name.entry) ∷ []))
-        out.old out.new result }
-{
-    line.begin(form);
-    let added = line.field("field", optional_text(name.map(RawString::from)));
-    write_line(added, line, out)
+    line.field("field", optional_text(name.map(RawString::from)))
 }
 
 /// Writes the names of fields, each as a line.
@@ -133,7 +76,9 @@ fn write_names<W: Write>(
         out.old out.new result }
 {
     for name in names {
-        write_name(form, name.as_deref(), line, out)?;
+        line.begin(form);
+        let added = show_name(line, name.as_deref());
+        write_line(added, line, out)?;
     }
     Ok(())
 }
@@ -144,20 +89,6 @@ fn show_range(line: &mut Line, range: &Range<u32>) -> Result<()>
 {
     line.field("start", Value::Hexadecimal(range.start))?;
     line.field("end", Value::Hexadecimal(range.end))
-}
-
-/// Writes a range as a line.
-fn write_range<W: Write>(
-    form: Form,
-    range: &Range<u32>,
-    line: &mut Line,
-    out: &mut Output<W>,
-) -> Result<()>
-    ensures { Writes (row_text form (range_shown range.now)) out.old out.new result }
-{
-    line.begin(form);
-    let added = show_range(line, range);
-    write_line(added, line, out)
 }
 
 /// Writes ranges, each as a line.
@@ -171,9 +102,24 @@ fn write_ranges<W: Write>(
         out.old out.new result }
 {
     for range in ranges {
-        write_range(form, range, line, out)?;
+        line.begin(form);
+        let added = show_range(line, range);
+        write_line(added, line, out)?;
     }
     Ok(())
+}
+
+/// Adds the fields of a reply that has one line.
+fn show_reply(alloc: Global, line: &mut Line, reply: &Reply) -> Result<()>
+    ensures { ShowsFields (reply_shown reply.now) line.old line.new result }
+{
+    match reply {
+        Reply::Bytes(stream) => show_bytes(alloc, line, stream),
+        Reply::Record { index, kind, name } => show_record(line, *index, *kind, name.as_deref()),
+        Reply::Name(name) => line.field("string", Value::Text(RawString::from(name.as_slice()))),
+        Reply::Refused(error) => show_error(alloc, line, error),
+        Reply::Fields(_) | Reply::Ranges(_) => Ok(()),
+    }
 }
 
 /// Writes the lines of a reply.
@@ -187,14 +133,13 @@ fn write_reply<W: Write>(
     ensures { Writes (reply_text form reply.now) out.old out.new result }
 {
     match reply {
-        Reply::Bytes(stream) => write_stream(alloc, form, stream, line, out),
-        Reply::Record { index, kind, name } => {
-            write_record(form, *index, *kind, name.as_deref(), line, out)
-        }
         Reply::Fields(names) => write_names(form, names, line, out),
-        Reply::Name(name) => write_text(form, "string", name, line, out),
         Reply::Ranges(ranges) => write_ranges(form, ranges, line, out),
-        Reply::Refused(error) => write_refused(alloc, form, error, line, out),
+        Reply::Bytes(_) | Reply::Record { .. } | Reply::Name(_) | Reply::Refused(_) => {
+            line.begin(form);
+            let added = show_reply(alloc, line, reply);
+            write_line(added, line, out)
+        }
     }
 }
 

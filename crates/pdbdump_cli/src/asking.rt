@@ -1,9 +1,10 @@
 //! Questions about a file, read and answered on the program's channels.
 
-ghost use Rattle.pdbdump_cli.specs.Asking.{AreServed};
+ghost use Rattle.pdbdump_cli.specs.Asking.{IsAskingDone};
+ghost use Rattle.pdbdump_cli.specs.Served.{IsFileServed};
 
 use crate::ask;
-use crate::served::end;
+use crate::served::end_as;
 use pdb_cli::{read_all, tell};
 use pdb_output::Output;
 use pdbdump_rows::Form;
@@ -22,19 +23,14 @@ pub fn serve_questions<I: Read, Q: Read, O: Write, E: Write>(
     out: &mut Output<O>,
     err: &mut Output<E>,
 ) -> u8
-    ensures { AreServed form (I.remaining input.old) (Q.remaining questions.old) out.old out.new
-        err.old err.new result }
+    ensures { IsFileServed (λ file. IsAskingDone form file (Q.remaining questions.old) out.old out.new
+        err.old err.new result) (I.remaining input.old) out.old out.new err.old err.new result }
 {
-    let file = match read_all(alloc, input) {
-        Ok(file) => file,
-        Err(fault) => return tell(alloc, &fault, err),
-    };
-    match ask(alloc, file, questions, form, out) {
-        Ok(true) => end(alloc, Ok(()), out, err),
-        Ok(false) => {
-            end(alloc, Ok(()), out, err);
-            1
+    match read_all(alloc, input) {
+        Ok(file) => {
+            let answered = ask(alloc, file, questions, form, out);
+            end_as(alloc, answered, out, err)
         }
-        Err(fault) => end(alloc, Err(fault), out, err),
+        Err(unread) => tell(alloc, &unread, err),
     }
 }

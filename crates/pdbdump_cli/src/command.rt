@@ -35,9 +35,9 @@ pub enum Verb {
     Layout,
 }
 
-/// What the program lists of a file. A stream that isn't given is found by its role.
+/// What the program writes of a file that is opened. A stream that isn't given is found by its role.
 #[derive(Clone, Copy)]
-pub enum Command {
+pub enum Command<'w> {
     /// What the file is made of.
     Summary,
     /// Each type of a table in the stream, or in stream 2; or only the one of an index.
@@ -85,13 +85,15 @@ pub enum Command {
         /// The streams of the map, or none of them for the file's own map.
         streams: MapStreams,
     },
+    /// A part of the bytes of a stream.
+    Extract(Extract<'w>),
 }
 
 /// What the program does with a file.
 #[derive(Clone, Copy)]
-pub enum Task {
+pub enum Task<'w> {
     /// To list what a command says.
-    List(Command),
+    List(Command<'w>),
     /// To answer the questions on standard input.
     Answer,
 }
@@ -102,7 +104,7 @@ pub struct Call<'w> {
     /// The path of the file.
     pub path: &'w str,
     /// What to do with it.
-    pub task: Task,
+    pub task: Task<'w>,
 }
 
 /// The arguments of `extract`, which writes a part of the bytes of a stream.
@@ -160,6 +162,19 @@ pub struct Layouts<'w> {
     pub names: &'w [&'w str],
     /// Which layouts are shown, and how.
     pub options: Options,
+}
+
+/// A request for one file.
+#[derive(Clone, Copy)]
+pub enum Request<'w> {
+    /// What a command writes.
+    List(Command<'w>),
+    /// What identifies the file.
+    Identify(Identify<'w>),
+    /// What is found wrong in the file, and the path that it is called by.
+    Validate(ValidateOptions, &'w str),
+    /// Layouts of its types.
+    Layout(Layouts<'w>),
 }
 
 /// Why words ask nothing of a file.

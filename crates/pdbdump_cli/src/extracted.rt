@@ -1,19 +1,18 @@
-//! What `extract` does with a file.
+//! What `extract` writes of a file.
 
 ghost use Rattle.std.specs.Prelude.{◌≡◌};
 ghost use Rattle.pdb_msf.specs.File.{ReadsFile};
 ghost use Rattle.pdbdump_tables.specs.Listing.{IsListed};
-ghost use Rattle.pdbdump_cli.specs.Extracted.{IsExtractServed, IsExtracted, extraction_in, number_meant};
+ghost use Rattle.pdbdump_cli.specs.Extracted.{extraction_in, number_meant};
 ghost use Rattle.pdbdump_cli.specs.Words.{extract_view};
 
 use crate::command::Extract;
-use crate::served::end;
-use pdb_cli::{number, read_all, tell};
+use pdb_cli::number;
 use pdb_container::{PDB, Result, Source};
 use pdb_output::Output;
 use pdbdump_tables::{extract, stream_meant};
 use std::alloc::Global;
-use std::io::{Read, Write};
+use std::io::Write;
 
 /// Returns the number of the stream that a word means: the number that it spells, or else that of
 /// its role or name.
@@ -30,7 +29,7 @@ fn number_meant<S: Source>(alloc: Global, file: &mut PDB<S>, word: &str) -> Resu
 
 /// Writes a part of the bytes of a stream of a file that was opened.
 #[tactic(auto, unfolding(crate::specs::Extracted::extraction_in))]
-fn extract_opened<W: Write>(
+pub(crate) fn extract_opened<W: Write>(
     alloc: Global,
     file: &mut PDB<Vec<u8>>,
     asked: &Extract<'_>,
@@ -42,42 +41,5 @@ fn extract_opened<W: Write>(
     match number_meant(alloc, file, asked.stream) {
         Ok(number) => extract(alloc, file, number, asked.skip, asked.limit, out),
         Err(fault) => Err(fault),
-    }
-}
-
-/// Writes a part of the bytes of a stream.
-fn extract_from<W: Write>(
-    alloc: Global,
-    file: Vec<u8>,
-    asked: &Extract<'_>,
-    out: &mut Output<W>,
-) -> Result<()>
-    ensures { IsExtracted (extract_view asked.now) file.items out.old out.new result }
-{
-    match PDB::open(alloc, file) {
-        Ok(mut file) => extract_opened(alloc, &mut file, asked, out),
-        Err(fault) => Err(fault),
-    }
-}
-
-/// Reads a file from the input and writes a part of the bytes of a stream to the output. Returns
-/// the status with which the program ends. A fault is written to the error channel, unless it is
-/// that the output was closed.
-pub fn serve_extract<I: Read, O: Write, E: Write>(
-    alloc: Global,
-    asked: &Extract<'_>,
-    input: &mut I,
-    out: &mut Output<O>,
-    err: &mut Output<E>,
-) -> u8
-    ensures { IsExtractServed (extract_view asked.now) (I.remaining input.old) out.old out.new
-        err.old err.new result }
-{
-    match read_all(alloc, input) {
-        Ok(file) => {
-            let extracted = extract_from(alloc, file, asked, out);
-            end(alloc, extracted, out, err)
-        }
-        Err(unread) => tell(alloc, &unread, err),
     }
 }

@@ -1,6 +1,6 @@
 //! What `validate` writes of a file.
 
-ghost use Rattle.std.specs.Prelude.{◌≡◌, ◌≤◌, ◌++◌, length, map, string_bytes, IfOk, OnOk};
+ghost use Rattle.std.specs.Prelude.{◌≡◌, ◌≤◌, length, map, string_bytes, IfOk};
 ghost use Rattle.std.specs.List.{flat_map};
 ghost use Rattle.pdb_base.specs.Memory.{FailsOnlyForMemory};
 ghost use Rattle.pdbdump_rows.specs.Fields.{optional_number};
@@ -27,8 +27,7 @@ use std::alloc::Global;
 /// Appends a label and a number behind it in hexadecimal digits.
 #[tactic(auto, unfolding(crate::specs::FindingLines::label_and_number))]
 fn push_number(alloc: Global, label: &str, number: u64, out: &mut Vec<u8>) -> Result<()>
-    ensures ok { OnOk result (out.new.items ≡ out.old.items ++ label_and_number label.now number) }
-    ensures memory { FailsOnlyForMemory result }
+    ensures { Adds (label_and_number label.now number) out.old.items out.new.items result }
 {
     let text = format!(in alloc; "{label}0x{number:x}")?;
     out.extend_from_slice(text.as_bytes())?;
@@ -37,8 +36,7 @@ fn push_number(alloc: Global, label: &str, number: u64, out: &mut Vec<u8>) -> Re
 
 /// Appends a label and a number behind it, if there is one.
 fn push_labelled(alloc: Global, label: &str, number: Option<u64>, out: &mut Vec<u8>) -> Result<()>
-    ensures ok { OnOk result (out.new.items ≡ out.old.items ++ labelled_number label.now number) }
-    ensures memory { FailsOnlyForMemory result }
+    ensures { Adds (labelled_number label.now number) out.old.items out.new.items result }
 {
     match number {
         Some(number) => push_number(alloc, label, number, out),
@@ -49,9 +47,8 @@ fn push_labelled(alloc: Global, label: &str, number: Option<u64>, out: &mut Vec<
 /// Appends where a fault in a stream is, as far as it has a place there.
 #[tactic(auto, unfolding(crate::specs::FindingLines::finding_place))]
 fn push_place_in(alloc: Global, stream: u32, finding: &Finding, out: &mut Vec<u8>) -> Result<()>
-    ensures ok { OnOk result (out.new.items
-        ≡ out.old.items ++ finding_place stream finding.now.index finding.now.byte finding.now.file_byte) }
-    ensures memory { FailsOnlyForMemory result }
+    ensures { Adds (finding_place stream finding.now.index finding.now.byte finding.now.file_byte)
+        out.old.items out.new.items result }
 {
     let text = format!(in alloc; " [stream {stream}")?;
     out.extend_from_slice(text.as_bytes())?;
@@ -64,8 +61,7 @@ fn push_place_in(alloc: Global, stream: u32, finding: &Finding, out: &mut Vec<u8
 
 /// Appends where a fault is, as far as it has a place.
 fn push_place(alloc: Global, finding: &Finding, out: &mut Vec<u8>) -> Result<()>
-    ensures ok { OnOk result (out.new.items ≡ out.old.items ++ place_text (finding_view finding.now)) }
-    ensures memory { FailsOnlyForMemory result }
+    ensures { Adds (place_text (finding_view finding.now)) out.old.items out.new.items result }
 {
     match finding.stream {
         Some(stream) => push_place_in(alloc, stream, finding, out),
@@ -106,8 +102,7 @@ fn severity(problem: &Problem) -> &'static str
 /// Appends what is said of a finding before its place.
 #[tactic(auto, unfolding(crate::specs::FindingLines::finding_text))]
 fn push_words(severity: &str, code: &str, words: &[u8], out: &mut Vec<u8>) -> Result<()>
-    ensures ok { OnOk result (out.new.items ≡ out.old.items ++ finding_text severity.now code.now words.now) }
-    ensures memory { FailsOnlyForMemory result }
+    ensures { Adds (finding_text severity.now code.now words.now) out.old.items out.new.items result }
 {
     out.extend_from_slice(b": ")?;
     out.extend_from_slice(severity.as_bytes())?;
@@ -237,8 +232,7 @@ pub(crate) fn counts_of(findings: &[Finding]) -> Tally
 /// Appends a number of things.
 #[tactic(auto, unfolding(crate::specs::FindingLines::count_of_things))]
 fn push_counted(alloc: Global, count: usize, thing: &str, out: &mut Vec<u8>) -> Result<()>
-    ensures ok { OnOk result (out.new.items ≡ out.old.items ++ count_of_things count thing.now) }
-    ensures memory { FailsOnlyForMemory result }
+    ensures { Adds (count_of_things count thing.now) out.old.items out.new.items result }
 {
     let ending = if count == 1 { "" } else { "s" };
     let text = format!(in alloc; "{count} {thing}{ending}")?;
@@ -249,8 +243,7 @@ fn push_counted(alloc: Global, count: usize, thing: &str, out: &mut Vec<u8>) -> 
 /// Appends how many errors and warnings there are.
 #[tactic(auto, unfolding(crate::specs::FindingLines::counts_text))]
 fn push_counts(alloc: Global, tally: Tally, out: &mut Vec<u8>) -> Result<()>
-    ensures ok { OnOk result (out.new.items ≡ out.old.items ++ counts_text (tally_view tally)) }
-    ensures memory { FailsOnlyForMemory result }
+    ensures { Adds (counts_text (tally_view tally)) out.old.items out.new.items result }
 {
     push_counted(alloc, tally.errors, "error", out)?;
     out.extend_from_slice(b", ")?;
@@ -259,8 +252,7 @@ fn push_counts(alloc: Global, tally: Tally, out: &mut Vec<u8>) -> Result<()>
 
 /// Appends how many errors and warnings there are behind a colon, if there are any.
 fn push_counts_if_any(alloc: Global, tally: Tally, out: &mut Vec<u8>) -> Result<()>
-    ensures ok { OnOk result (out.new.items ≡ out.old.items ++ counts_if_any (tally_view tally)) }
-    ensures memory { FailsOnlyForMemory result }
+    ensures { Adds (counts_if_any (tally_view tally)) out.old.items out.new.items result }
 {
     if tally.errors == 0 && tally.warnings == 0 {
         return Ok(());

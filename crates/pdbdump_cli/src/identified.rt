@@ -5,19 +5,18 @@ ghost use Rattle.std.specs.Option.{option_map};
 ghost use Rattle.pdb_base.specs.Answer.{Answers};
 ghost use Rattle.pdb_base.specs.Memory.{FailsOnlyForMemory};
 ghost use Rattle.pdbdump_cli.specs.IdWords.{identify_view};
-ghost use Rattle.pdbdump_cli.specs.Identified.{IsConcluded, IsExpected, IsIdentityShown, IsIdServed, IsIdentified};
+ghost use Rattle.pdbdump_cli.specs.Identified.{IsConcluded, IsExpected, IsIdDone, IsIdentified, IsIdentityShown};
 ghost use Rattle.pdbdump_cli.specs.Identified.{identity_in, other_format};
 
 use crate::command::Identify;
 use crate::served::end;
-use pdb_cli::{read_all, tell};
 use pdb_container::{PDB, Result};
 use pdb_identity::{Format, Identity};
 use pdb_output::Output;
 use pdbdump_rows::Form;
 use pdbdump_tables::{is_key, write_identity};
 use std::alloc::Global;
-use std::io::{Read, Write};
+use std::io::Write;
 
 /// What is written if the file is not the expected one.
 const UNEXPECTED: &[u8] = b"the file has another key than the expected one\n";
@@ -113,32 +112,23 @@ fn conclude<O: Write, E: Write>(
     }
 }
 
-/// Reads a file from the input and writes to the output what identifies it. Returns the status with
-/// which the program ends: 1 if the file is of another format, or not the expected one, or after a
-/// fault of the file or of a channel, which is written to the error channel, unless it is that the
-/// output was closed.
-pub fn serve_id<I: Read, O: Write, E: Write>(
+/// Writes to the output what identifies a file. Returns the status with which the program ends: 1
+/// if the file is of another format, or not the expected one, or after a fault of the file or of a
+/// channel, which is written to the error channel, unless it is that the output was closed.
+pub(crate) fn serve_id<O: Write, E: Write>(
     alloc: Global,
+    file: Vec<u8>,
     asked: &Identify<'_>,
     form: Form,
-    input: &mut I,
     out: &mut Output<O>,
     err: &mut Output<E>,
 ) -> u8
-    ensures { IsIdServed form (identify_view asked.now) (I.remaining input.old) out.old out.new
-        err.old err.new result }
+    ensures { IsIdDone form (identify_view asked.now) file.items out.old out.new err.old err.new result }
 {
-    match read_all(alloc, input) {
-        Ok(file) => match other_format(Format::of(&file)) {
-            Some(text) => {
-                err.report(text.as_bytes());
-                1
-            }
-            None => {
-                let identified = identify(alloc, file, asked, form, out);
-                conclude(alloc, identified, out, err)
-            }
-        },
-        Err(unread) => tell(alloc, &unread, err),
+    if let Some(text) = other_format(Format::of(&file)) {
+        err.report(text.as_bytes());
+        return 1;
     }
+    let identified = identify(alloc, file, asked, form, out);
+    conclude(alloc, identified, out, err)
 }

@@ -9,6 +9,7 @@ mod command;
 mod extracted;
 mod finding_lines;
 mod help;
+mod id_options;
 mod id_words;
 mod identified;
 mod laid_out;
@@ -17,6 +18,7 @@ mod listed;
 mod names;
 mod process;
 mod question;
+mod request;
 mod served;
 mod validate_words;
 mod validated;
@@ -25,16 +27,13 @@ mod words;
 pub use answers::ask;
 pub use asking::serve_questions;
 pub use command::{
-    Call, Command, Extract, Identify, Layouts, Misuse, Task, Validate, ValidateOptions, Verb,
+    Call, Command, Extract, Identify, Layouts, Misuse, Request, Task, Validate, ValidateOptions,
+    Verb,
 };
-pub use extracted::serve_extract;
 pub use id_words::identify_of;
-pub use identified::serve_id;
-pub use laid_out::serve_layout;
 pub use layout_words::layouts_of;
 pub use listed::list;
 pub use process::program;
-pub use served::serve;
+pub use request::serve;
 pub use validate_words::validate_of;
-pub use validated::serve_validate;
 pub use words::{any_is, call_of, extract_of, first_verb, plain_words, verb_named};

@@ -1,9 +1,10 @@
-//! What a command lists of a file.
+//! What a command writes of a file.
 
 ghost use Rattle.std.specs.Prelude.{◌≡◌, unwrap_or};
 ghost use Rattle.pdbdump_cli.specs.Listed.{AreIds, AreTypes, Does, DoesIn, IsListedIn};
 
 use crate::command::Command;
+use crate::extracted::extract_opened;
 use pdb_container::{PDB, Result};
 use pdb_file::{ID_STREAM, TYPE_STREAM};
 use pdb_output::Output;
@@ -57,15 +58,15 @@ fn list_ids<W: Write>(
     }
 }
 
-/// Lists what a command asks of a file that was opened.
+/// Writes what a command asks of a file that was opened.
 fn list_opened<W: Write>(
     alloc: Global,
     mut file: PDB<Vec<u8>>,
-    command: Command,
+    command: Command<'_>,
     form: Form,
     out: &mut Output<W>,
 ) -> Result<()>
-    ensures { DoesIn form command file.source.items file.head out.old out.new result }
+    ensures { DoesIn form command.entry file.source.items file.head out.old out.new result }
 {
     match command {
         Command::Summary => list_summary(alloc, &mut file, form, out),
@@ -83,10 +84,11 @@ fn list_opened<W: Write>(
         Command::Frames => list_frames(alloc, file, form, out),
         Command::FramesIn { old, new } => list_frames_in(alloc, file, old, new, form, out),
         Command::Map { address, streams } => list_map(alloc, file, address, streams, form, out),
+        Command::Extract(asked) => extract_opened(alloc, &mut file, &asked, out),
     }
 }
 
-/// Lists what a command asks of a file, a line for each record.
+/// Writes what a command asks of a file: a line for each record, or the bytes of a stream.
 ///
 /// # Errors
 /// Fails with the errors of `PDB::open`, and then with those of the command, after the lines up to
@@ -95,11 +97,11 @@ fn list_opened<W: Write>(
 pub fn list<W: Write>(
     alloc: Global,
     file: Vec<u8>,
-    command: Command,
+    command: Command<'_>,
     form: Form,
     out: &mut Output<W>,
 ) -> Result<()>
-    ensures { Does form command file.items out.old out.new result }
+    ensures { Does form command.entry file.items out.old out.new result }
 {
     match PDB::open(alloc, file) {
         Ok(file) => list_opened(alloc, file, command, form, out),

@@ -1,18 +1,12 @@
 //! The program on the channels of its process.
 
 use crate::asking::serve_questions;
-use crate::command::{
-    Call, Command, Extract, Identify, Layouts, Misuse, Task, Validate, ValidateOptions, Verb,
-};
-use crate::extracted::serve_extract;
+use crate::command::{Call, Command, Misuse, Request, Task, Validate, Verb};
 use crate::help::{HELP, meaning_of, usage_of};
 use crate::id_words::{WordsApart, identify_of, words_apart};
-use crate::identified::serve_id;
-use crate::laid_out::serve_layout;
 use crate::layout_words::layouts_of;
-use crate::served::serve;
+use crate::request::serve;
 use crate::validate_words::validate_of;
-use crate::validated::serve_validate;
 use crate::words::{any_is, call_of, extract_of, first_verb, plain_words};
 use pdb_cli::{Errors, tell, texts_of, words_of};
 use pdb_container::{Error, Result};
@@ -68,46 +62,11 @@ fn tell_misuse<P: Eprint + AllocGlobal>(process: &P, misuse: Misuse, words: &[&s
     Ok(MISUSED)
 }
 
-/// A command for one file.
-#[derive(Clone, Copy)]
-enum Work<'w> {
-    /// What a command lists.
-    List(Command),
-    /// What identifies the file.
-    Identify(Identify<'w>),
-    /// The bytes of a stream.
-    Extract(Extract<'w>),
-    /// What is found wrong in the file, and the path that it is called by.
-    Validate(ValidateOptions, &'w str),
-    /// Layouts of its types.
-    Layout(Layouts<'w>),
-}
-
-/// Runs a command for the file in an input, and returns the status for that file.
-fn serve_work<I: Read, O: Write, E: Write>(
-    alloc: Global,
-    work: &Work<'_>,
-    form: Form,
-    input: &mut I,
-    out: &mut Output<O>,
-    err: &mut Output<E>,
-) -> u8 {
-    match work {
-        Work::List(command) => serve(alloc, *command, form, input, out, err),
-        Work::Identify(asked) => serve_id(alloc, asked, form, input, out, err),
-        Work::Extract(asked) => serve_extract(alloc, asked, input, out, err),
-        Work::Validate(options, path) => {
-            serve_validate(alloc, *options, form, path, input, out, err)
-        }
-        Work::Layout(asked) => serve_layout(alloc, asked, form, input, out, err),
-    }
-}
-
-/// Runs a command for the file at a path, or for the one in standard input if the path is `-`.
+/// Serves a request for the file at a path, or for the one in standard input if the path is `-`.
 fn serve_file<P: Files + Input + Print + Eprint + AllocGlobal>(
     process: &P,
     path: &str,
-    work: &Work<'_>,
+    request: &Request<'_>,
     form: Form,
 ) -> Result<u8> {
     let alloc = process.alloc();
@@ -116,10 +75,10 @@ fn serve_file<P: Files + Input + Print + Eprint + AllocGlobal>(
     let mut err = Output::new(Errors { process });
     if path == "-" {
         let mut input = process.reader();
-        return Ok(serve_work(alloc, work, form, &mut input, &mut out, &mut err));
+        return Ok(serve(alloc, request, form, &mut input, &mut out, &mut err));
     }
     match fs::open(process, path) {
-        Ok(mut input) => Ok(serve_work(alloc, work, form, &mut input, &mut out, &mut err)),
+        Ok(mut input) => Ok(serve(alloc, request, form, &mut input, &mut out, &mut err)),
         Err(fault) => Ok(tell(alloc, &Error::from(fault), &mut err)),
     }
 }
@@ -160,7 +119,7 @@ fn call_validate<P: Files + Input + Print + Eprint + AllocGlobal>(
     };
     let mut status = 0;
     for path in paths.iter() {
-        status = status.max(serve_file(process, path, &Work::Validate(options, path), form)?);
+        status = status.max(serve_file(process, path, &Request::Validate(options, path), form)?);
     }
     Ok(status)
 }
@@ -173,7 +132,7 @@ fn call_layout<P: Files + Input + Print + Eprint + AllocGlobal>(
     form: Form,
 ) -> Result<u8> {
     match layouts_of(plain) {
-        Some(asked) => serve_file(process, asked.path, &Work::Layout(asked), form),
+        Some(asked) => serve_file(process, asked.path, &Request::Layout(asked), form),
         None => tell_misuse(process, Misuse::Arguments(Verb::Layout), words),
     }
 }
@@ -195,7 +154,7 @@ fn call_id<P: Files + Input + Print + Eprint + AllocGlobal>(
         let Some(asked) = identify_of(&options) else {
             return tell_misuse(process, Misuse::Arguments(Verb::Id), words);
         };
-        status = status.max(serve_file(process, asked.path, &Work::Identify(asked), form)?);
+        status = status.max(serve_file(process, asked.path, &Request::Identify(asked), form)?);
         options.pop();
     }
     Ok(status)
@@ -210,7 +169,12 @@ fn call_extract<P: Files + Input + Print + Eprint + AllocGlobal>(
 ) -> Result<u8> {
     match (extract_of(plain), form) {
         (Some(asked), Form::Text) => {
-            serve_file(process, asked.path, &Work::Extract(asked), form)
+            serve_file(
+                process,
+                asked.path,
+                &Request::List(Command::Extract(asked)),
+                form,
+            )
         }
         _ => tell_misuse(process, Misuse::Arguments(Verb::Extract), words),
     }
@@ -225,7 +189,7 @@ fn call_listing<P: Files + Input + Print + Eprint + AllocGlobal>(
 ) -> Result<u8> {
     match call_of(plain) {
         Ok(Call { path, task }) => match task {
-            Task::List(command) => serve_file(process, path, &Work::List(command), form),
+            Task::List(command) => serve_file(process, path, &Request::List(command), form),
             Task::Answer => answer_questions(process, path, form),
         },
         Err(misuse) => tell_misuse(process, misuse, words),

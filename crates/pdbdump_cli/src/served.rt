@@ -1,16 +1,13 @@
-//! The program between its channels: what it reads, what it writes, and how it ends.
+//! How the program ends.
 
 ghost use Rattle.std.specs.Prelude.{◌↔◌, IsTrue};
-ghost use Rattle.pdbdump_cli.specs.Served.{IsClosed, IsEnded, IsCommandServed};
+ghost use Rattle.pdbdump_cli.specs.Served.{IsClosed, IsEnded, IsEndedAs};
 
-use crate::command::Command;
-use crate::listed::list;
-use pdb_cli::{read_all, tell};
+use pdb_cli::tell;
 use pdb_container::{Error, Result};
 use pdb_output::Output;
-use pdbdump_rows::Form;
 use std::alloc::Global;
-use std::io::{ErrorKind, Read, Write};
+use std::io::{ErrorKind, Write};
 
 /// Returns whether a fault is that the reader of the output has closed it.
 fn is_closed(fault: &Error) -> bool
@@ -39,24 +36,21 @@ pub(crate) fn end<O: Write, E: Write>(
     }
 }
 
-/// Reads a file from the input and lists on the output what a command asks of it. Returns the
-/// status with which the program ends. A fault is written to the error channel, after what was
-/// listed before it, unless it is that the output was closed.
-pub fn serve<I: Read, O: Write, E: Write>(
+/// Ends the program behind what answers yes or no: as `end` does, but with status 1 for a no.
+pub(crate) fn end_as<O: Write, E: Write>(
     alloc: Global,
-    command: Command,
-    form: Form,
-    input: &mut I,
+    answer: Result<bool>,
     out: &mut Output<O>,
     err: &mut Output<E>,
 ) -> u8
-    ensures { IsCommandServed form command (I.remaining input.old) out.old out.new err.old err.new result }
+    ensures { IsEndedAs answer out.old out.new err.old err.new result }
 {
-    match read_all(alloc, input) {
-        Ok(file) => {
-            let listed = list(alloc, file, command, form, out);
-            end(alloc, listed, out, err)
+    match answer {
+        Ok(true) => end(alloc, Ok(()), out, err),
+        Ok(false) => {
+            end(alloc, Ok(()), out, err);
+            1
         }
-        Err(unread) => tell(alloc, &unread, err),
+        Err(fault) => end(alloc, Err(fault), out, err),
     }
 }

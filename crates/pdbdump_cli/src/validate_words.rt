@@ -22,12 +22,7 @@ fn is_unknown(word: &str) -> bool
 fn any_unknown(words: &[&str]) -> bool
     ensures { result ≡ list_any (λ word. is_unknown word.now) words.now }
 {
-    for word in words {
-        if is_unknown(word) {
-            return true;
-        }
-    }
-    false
+    words.iter().any(|word| is_unknown(word))
 }
 
 /// Returns the words that are no options, which are paths.

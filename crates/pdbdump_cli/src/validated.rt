@@ -6,18 +6,18 @@ ghost use Rattle.pdb_validation.specs.Finding.{error_count, finding_view};
 ghost use Rattle.pdb_validation.specs.IsWhole.{IsWhole};
 ghost use Rattle.pdb_validation.specs.Whole.{faults_of};
 ghost use Rattle.pdbdump_cli.specs.FindingLines.{lines_unless};
-ghost use Rattle.pdbdump_cli.specs.Validated.{HasPassed, IsConcluded, IsValidateServed, IsValidated};
+ghost use Rattle.pdbdump_cli.specs.Validated.{HasPassed, IsConcluded, IsValidated};
 
 use crate::command::ValidateOptions;
 use crate::finding_lines::{counts_of, validate_lines};
 use crate::served::end;
-use pdb_cli::{read_all, tell};
+use pdb_cli::tell;
 use pdb_container::{Error, Result};
 use pdb_output::Output;
 use pdb_validation::{Finding, validate};
 use pdbdump_rows::Form;
 use std::alloc::Global;
-use std::io::{Read, Write};
+use std::io::Write;
 
 /// Writes what was found in the file at a path.
 #[tactic(auto, using(pdb_output::proofs::lemmas::Written::writing))]
@@ -67,9 +67,11 @@ fn conclude<O: Write, E: Write>(
     1
 }
 
-/// Writes what is found wrong in the file with a path, and returns the status with which the
-/// program ends.
-fn judge<O: Write, E: Write>(
+/// Writes what is found wrong in the file with a path. Returns the status with which the program
+/// ends: 0 if there is no error, and no warning where that counts too; and 1 if there is, or after a
+/// fault of a channel, which is written to the error channel, unless it is that the output was
+/// closed.
+pub(crate) fn judge<O: Write, E: Write>(
     alloc: Global,
     options: ValidateOptions,
     form: Form,
@@ -83,27 +85,5 @@ fn judge<O: Write, E: Write>(
     match validate(alloc, file, options.extent) {
         Ok(findings) => conclude(alloc, options, form, path, &findings, out, err),
         Err(_) => tell(alloc, &Error::OutOfMemory, err),
-    }
-}
-
-/// Reads a file from the input and writes to the output what is found wrong in it, under the path
-/// that it has. Returns the status with which the program ends: 0 if there is no error, and no
-/// warning where that counts too; and 1 if there is, or after a fault of a channel, which is written
-/// to the error channel, unless it is that the output was closed.
-pub fn serve_validate<I: Read, O: Write, E: Write>(
-    alloc: Global,
-    options: ValidateOptions,
-    form: Form,
-    path: &str,
-    input: &mut I,
-    out: &mut Output<O>,
-    err: &mut Output<E>,
-) -> u8
-    ensures { IsValidateServed options form path.now (I.remaining input.old) out.old out.new
-        err.old err.new result }
-{
-    match read_all(alloc, input) {
-        Ok(file) => judge(alloc, options, form, path, &file, out, err),
-        Err(unread) => tell(alloc, &unread, err),
     }
 }

@@ -12,6 +12,7 @@ ghost use Rattle.pdbdump_cli.specs.Words.{result_view, stream_option, task_with,
 ghost use Rattle.pdbdump_cli.specs.Words.{with_option, with_stream};
 
 use crate::command::{Call, Command, Extract, Misuse, Task, Verb};
+use crate::id_options::{IdOptions, with_id_option};
 use pdb_cli::number;
 use pdb_container::Error;
 use pdbdump_tables::MapStreams;
@@ -21,12 +22,7 @@ use std::alloc::Global;
 pub fn any_is(words: &[&str], wanted: &str) -> bool
     ensures { result ≡ list_any (λ word. same word.now wanted.now) words.now }
 {
-    for word in words {
-        if *word == wanted {
-            return true;
-        }
-    }
-    false
+    words.iter().any(|word| *word == wanted)
 }
 
 /// Returns the words without `--json`, which may be anywhere among them.
@@ -97,17 +93,19 @@ struct Options {
 
 /// The arguments of a command, which follow its name.
 #[derive(Clone, Copy)]
-struct Arguments<'w> {
-    /// The options.
+pub(crate) struct Arguments<'w> {
+    /// The options of other commands than `id`.
     options: Options,
+    /// The options of `id`.
+    pub id: IdOptions<'w>,
     /// The path of the file.
-    path: Option<&'w str>,
+    pub path: Option<&'w str>,
     /// The address of `map`, or the stream of `extract`.
-    operand: Option<&'w str>,
+    pub operand: Option<&'w str>,
 }
 
 /// Returns the arguments of a command with no word behind its name.
-fn none_given<'w>() -> Arguments<'w>
+pub(crate) fn none_given<'w>() -> Arguments<'w>
     ensures { arguments_view result ≡ none_given }
 {
     let map = MapStreams {
@@ -125,8 +123,14 @@ fn none_given<'w>() -> Arguments<'w>
         limit: None,
         map,
     };
+    let id = IdOptions {
+        style: None,
+        name: None,
+        expected: None,
+    };
     Arguments {
         options,
+        id,
         path: None,
         operand: None,
     }
@@ -243,13 +247,27 @@ fn with_option(verb: Verb, options: Options, option: &str, value: u32) -> Option
     }
 }
 
-/// Returns the options with the one that an option's name and the word after it give.
+/// Returns the arguments with the one that an option's name and the word after it give.
 #[tactic(auto, unfolding(crate::specs::Words::option_given))]
-fn option_given(verb: Verb, options: Options, option: &str, value: &str) -> Option<Options>
-    ensures { result ≡ option_given verb options option.now value.now }
+fn option_given<'w>(
+    verb: Verb,
+    arguments: Arguments<'w>,
+    option: &str,
+    value: &'w str,
+) -> Option<Arguments<'w>>
+    ensures { option_map arguments_view result ≡
+        option_given verb (arguments_view arguments.entry) option.now value.now }
 {
+    if let Verb::Id = verb {
+        let id = with_id_option(arguments.id, option, value)?;
+        return Some(Arguments { id, ..arguments });
+    }
     let value = number(value)?;
-    with_option(verb, options, option, value)
+    let options = with_option(verb, arguments.options, option, value)?;
+    Some(Arguments {
+        options,
+        ..arguments
+    })
 }
 
 /// Returns the arguments with one more word that is no option: first the path, then the operand.
@@ -277,10 +295,10 @@ pub(crate) fn is_option(word: &str) -> bool
     word.as_bytes().starts_with(b"--")
 }
 
-/// Returns the arguments with all these words, in any order: options, each with a number behind it,
+/// Returns the arguments with all these words, in any order: options, each with a word behind it,
 /// and the others. Since none may be given twice, there is a call for each of ten words at most.
 #[tactic(auto, unfolding(crate::specs::Words::arguments_with))]
-fn arguments_with<'w>(
+pub(crate) fn arguments_with<'w>(
     verb: Verb,
     arguments: Arguments<'w>,
     words: &[&'w str],
@@ -296,16 +314,12 @@ fn arguments_with<'w>(
         return arguments_with(verb, arguments, words);
     }
     let (value, words) = words.split_first()?;
-    let options = option_given(verb, arguments.options, word, value)?;
-    let arguments = Arguments {
-        options,
-        ..arguments
-    };
+    let arguments = option_given(verb, arguments, word, value)?;
     arguments_with(verb, arguments, words)
 }
 
 /// Returns what a command lists with these options and this operand, if it takes them.
-fn command_with(verb: Verb, options: Options, operand: Option<&str>) -> Option<Command>
+fn command_with<'w>(verb: Verb, options: Options, operand: Option<&'w str>) -> Option<Command<'w>>
     ensures { result ≡ command_with verb options (option_map (λ word. word.now) operand.entry) }
 {
     let Options {
@@ -337,7 +351,7 @@ fn command_with(verb: Verb, options: Options, operand: Option<&str>) -> Option<C
 }
 
 /// Returns what a command does with these options and this operand, if it takes them.
-fn task_with(verb: Verb, options: Options, operand: Option<&str>) -> Option<Task>
+fn task_with<'w>(verb: Verb, options: Options, operand: Option<&'w str>) -> Option<Task<'w>>
     ensures { result ≡ task_with verb options (option_map (λ word. word.now) operand.entry) }
 {
     match (verb, operand) {

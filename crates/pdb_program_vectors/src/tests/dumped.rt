@@ -168,7 +168,7 @@ fn is_told(alloc: Global, answer: Result<()>, refusal: &str) -> Result<bool> {
 }
 
 /// Whether a command lists this of S1 with these bytes as its stream 3, up to this error.
-fn is_listed(alloc: Global, command: Command, form: Form, row: &Listed) -> Result<bool> {
+fn is_listed(alloc: Global, command: Command<'_>, form: Form, row: &Listed) -> Result<bool> {
     let (_, stream, lines, refusal) = *row;
     let mut out = Output::new(Vec::new(alloc));
     let answer = list(alloc, s1_with(alloc, stream)?, command, form, &mut out);

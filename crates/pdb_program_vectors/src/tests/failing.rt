@@ -5,8 +5,7 @@ use pdb_base::Result;
 use pdb_output::Output;
 use pdb_vectors::s1_with;
 use pdbdump_cli::{
-    Command, extract_of, identify_of, layouts_of, serve, serve_extract, serve_id, serve_layout,
-    serve_questions, serve_validate, validate_of,
+    Command, Request, extract_of, identify_of, layouts_of, serve, serve_questions, validate_of,
 };
 use pdbdump_rows::Form;
 use std::alloc::Global;
@@ -113,45 +112,35 @@ fn run(
             Ok(pdb_cli::serve(alloc, Ok(words.into_iter()), input, out, err))
         }
         Served::Records(form) => {
-            let command = Command::Omap { stream: Some(7) };
-            Ok(serve(alloc, command, form, input, out, err))
+            let request = Request::List(Command::Omap { stream: Some(7) });
+            Ok(serve(alloc, &request, form, input, out, err))
         }
         Served::Answers(form) => {
             let mut questions = b"stream 3\nstream 1 2\n".as_slice();
             Ok(serve_questions(alloc, form, input, &mut questions, out, err))
         }
-        served => run_parsed(alloc, served, input, out, err),
-    }
-}
-
-/// Runs a command of `pdbdump` whose words are parsed apart, and returns its status.
-fn run_parsed(
-    alloc: Global,
-    served: Served,
-    input: &mut Failing,
-    out: &mut Output<Failing>,
-    err: &mut Output<Failing>,
-) -> Result<u8> {
-    match served {
         Served::Key(form) => match identify_of(&["a.pdb"]) {
-            Some(asked) => Ok(serve_id(alloc, &asked, form, input, out, err)),
+            Some(asked) => Ok(serve(alloc, &Request::Identify(asked), form, input, out, err)),
             None => Ok(MISUSED),
         },
         Served::Stream => match extract_of(&["a.pdb", "1"]) {
-            Some(asked) => Ok(serve_extract(alloc, &asked, input, out, err)),
+            Some(asked) => {
+                let request = Request::List(Command::Extract(asked));
+                Ok(serve(alloc, &request, Form::Text, input, out, err))
+            }
             None => Ok(MISUSED),
         },
         Served::Findings(form) => match validate_of(alloc, &["a.pdb"])? {
             Some(asked) => {
-                Ok(serve_validate(alloc, asked.options, form, "a.pdb", input, out, err))
+                let request = Request::Validate(asked.options, "a.pdb");
+                Ok(serve(alloc, &request, form, input, out, err))
             }
             None => Ok(MISUSED),
         },
         Served::Layout(form) => match layouts_of(&["a.pdb", "S"]) {
-            Some(asked) => Ok(serve_layout(alloc, &asked, form, input, out, err)),
+            Some(asked) => Ok(serve(alloc, &Request::Layout(asked), form, input, out, err)),
             None => Ok(MISUSED),
         },
-        _ => Ok(MISUSED),
     }
 }
 

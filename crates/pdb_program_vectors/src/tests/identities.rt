@@ -2,7 +2,7 @@
 
 use pdb_container::Result;
 use pdb_output::Output;
-use pdbdump_cli::{extract_of, identify_of, serve_extract, serve_id};
+use pdbdump_cli::{Command, Request, extract_of, identify_of, serve};
 use pdbdump_rows::Form;
 use std::alloc::Global;
 use std::io::Cursor;
@@ -188,7 +188,8 @@ fn is_identified(alloc: Global, row: &Identified) -> Result<bool> {
     let mut input = Cursor::new(file.as_slice());
     let mut out = Output::new(Vec::new(alloc));
     let mut err = Output::new(Vec::new(alloc));
-    let status = serve_id(alloc, &asked, Form::Text, &mut input, &mut out, &mut err);
+    let request = Request::Identify(asked);
+    let status = serve(alloc, &request, Form::Text, &mut input, &mut out, &mut err);
     let is_written = out.into_inner().as_slice() == line.as_bytes();
     let is_told = err.into_inner().as_slice() == told.as_bytes();
     Ok(status == wanted && is_written && is_told)
@@ -249,7 +250,8 @@ fn is_extracted(alloc: Global, row: &Extracted) -> Result<bool> {
     let mut input = Cursor::new(file.as_slice());
     let mut out = Output::new(Vec::new(alloc));
     let mut err = Output::new(Vec::new(alloc));
-    let status = serve_extract(alloc, &asked, &mut input, &mut out, &mut err);
+    let request = Request::List(Command::Extract(asked));
+    let status = serve(alloc, &request, Form::Text, &mut input, &mut out, &mut err);
     let is_written = out.into_inner().as_slice() == bytes;
     let is_told = err.into_inner().as_slice() == told.as_bytes();
     Ok((status == 0) == told.is_empty() && is_written && is_told)

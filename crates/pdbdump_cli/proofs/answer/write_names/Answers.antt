@@ -14,13 +14,15 @@ loop-name-preserved g c =
     (λ copy. copy.items) name) c.name-item.is in
     let next = flat_next _ c.args.names.now c.loop-name.name-index c.name-item.result _ c.loop-name-test.true
     (ap (λ (name : Option (List ℕ)). row_text c.args.form (name_field (codes "field") name ∷ [])) (sym same)) in
-    written_more _ _ _ _ _ _ _ next c.loop-name.invariant c.in_ok-write_name.ensures
+    written_more _ _ _ _ _ _ _ next c.loop-name.invariant
+    (c.in_ok-write_line.ensures.row _ _ _ c.show_name-added.ensures c.begin.ensures)
 
-pub returns-in_err-write_name : goal.returns-in_err-write_name
-returns-in_err-write_name g c =
+pub returns-in_err-write_line : goal.returns-in_err-write_line
+returns-in_err-write_line g c =
     let same = c.as_deref.ensures.value ∙ ap (λ (name : Option (Vec ℕ)). option_map
     (λ copy. copy.items) name) c.name-item.is in
     let next = flat_next _ c.args.names.now c.loop-name.name-index c.name-item.result _ c.loop-name-test.true
     (ap (λ (name : Option (List ℕ)). row_text c.args.form (name_field (codes "field") name ∷ [])) (sym same)) in
     rw (passed_on _ _ c.from_residual.ensures.1)
-    (cut_more _ _ _ _ _ _ _ _ next c.loop-name.invariant c.in_err-write_name.ensures)
+    (cut_more _ _ _ _ _ _ _ _ next c.loop-name.invariant
+    (c.in_err-write_line.ensures.row _ _ _ c.show_name-added.ensures c.begin.ensures))

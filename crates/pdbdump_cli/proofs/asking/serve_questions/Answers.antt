@@ -1,21 +1,15 @@
-use Rattle.std.proofs.Common.{refl, Ok, Err}
-use Rattle.pdbdump_cli.specs.Asking.{asked, unread}
+use Rattle.std.proofs.Common.{refl}
+use Rattle.pdbdump_cli.specs.Served.{read, unread}
 use Rattle.pdbdump_cli.proofs.asking.serve_questions.Goals as goal
 
+pub returns-in-Ok : goal.returns-in-Ok
+returns-in-Ok g c = read c.in-Ok.file.items c.in-Ok.ensures.bytes (record {
+  left = _;
+  written = c.ask-answered.new.out;
+  answer = c.ask-answered.result;
+  asked = c.ask-answered.ensures;
+  ends = c.end_as.ensures;
+})
+
 pub returns-in-Err : goal.returns-in-Err
-returns-in-Err g c = unread c.in-Err.fault c.in-Err.ensures.refused refl c.tell.ensures
-
-pub returns-in-Ok-true : goal.returns-in-Ok-true
-returns-in-Ok-true g c =
-    asked c.in-Ok.file.items _ c.ask.new.out (Ok c.in-Ok-true.field-0) c.end.result c.in-Ok.ensures.bytes
-    c.in-Ok-true.ensures c.end.ensures (rw c.in-Ok-true.field-0-test refl)
-
-pub returns-in-Ok-false : goal.returns-in-Ok-false
-returns-in-Ok-false g c =
-    asked c.in-Ok.file.items _ c.ask.new.out (Ok c.in-Ok-false.field-0) c.end-in-Ok-false.result c.in-Ok.ensures.bytes
-    c.in-Ok-false.ensures c.end-in-Ok-false.ensures (rw c.in-Ok-false.field-0-test refl)
-
-pub returns-in-Err-ask : goal.returns-in-Err-ask
-returns-in-Err-ask g c =
-    asked c.in-Ok.file.items _ c.ask.new.out (Err c.in-Err-ask.fault) c.end-in-Err-ask.result c.in-Ok.ensures.bytes
-    c.in-Err-ask.ensures c.end-in-Err-ask.ensures refl
+returns-in-Err g c = unread c.in-Err.unread c.in-Err.ensures.refused refl c.tell.ensures

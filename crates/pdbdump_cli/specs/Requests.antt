@@ -1,0 +1,32 @@
+-- What the program does for a request, and how it ends.
+use Rattle.std.specs.Prelude.{ℕ, List, Result}
+use Rattle.pdb_base.specs.declared.error.Error.{Error}
+use Rattle.pdb_output.specs.Output.{OutputState}
+use Rattle.pdbdump_rows.specs.declared.form.Form.{Form}
+use Rattle.pdbdump_cli.specs.Identified.{IsIdDone}
+use Rattle.pdbdump_cli.specs.IdWords.{identify_view}
+use Rattle.pdbdump_cli.specs.LaidOut.{IsLayoutDone}
+use Rattle.pdbdump_cli.specs.Listed.{Does}
+use Rattle.pdbdump_cli.specs.Served.{IsEnded}
+use Rattle.pdbdump_cli.specs.Validated.{IsValidated}
+use Rattle.pdbdump_cli.specs.declared.command.Command.{Command}
+use Rattle.pdbdump_cli.specs.declared.command.Request.{Request}
+use Rattle.pdbdump_cli.specs.declared.command.Request.TheVariants as requests
+
+-- What a command asks of a file was written, or cut short; the output was flushed, and the program ended.
+pub record IsCommandDone (form : Form) (command : Command) (file : List ℕ) (out out' err err' : OutputState)
+    (status : ℕ) : Type 0 where
+  pub written : OutputState
+  pub result : Result (Unit {0}) Error
+  pub does : Does form command file out written result
+  pub ends : IsEnded result written out' err err' status
+
+-- what is done for a request with a file
+abbrev pub IsDone : Form → Request → List ℕ → OutputState → OutputState → OutputState → OutputState → ℕ → Type 0
+IsDone form (requests.List command) file out out' err err' status =
+    IsCommandDone form command file out out' err err' status
+IsDone form (requests.Identify asked) file out out' err err' status =
+    IsIdDone form (identify_view asked) file out out' err err' status
+IsDone form (requests.Validate options path) file out out' err err' status =
+    IsValidated options form path.now file out out' err err' status
+IsDone form (requests.Layout asked) file out out' err err' status = IsLayoutDone file out' err err' status
