@@ -28,7 +28,7 @@ identify_view asked = record {
   expected = option_map (λ word. word.now) asked.expected;
 }
 
--- the same with a path and options, if nothing else is given
+-- what `id` is asked with a path and options, if nothing else is given
 abbrev pub identify_with : List ℕ → IdGiven → Option (List ℕ) → Option IdentifyValue
 identify_with path given None = Some (record {
   path = path;
