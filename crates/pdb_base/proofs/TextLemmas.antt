@@ -1,9 +1,8 @@
 -- A text ends at the first NUL.
 use Rattle.std.proofs.Common.{◌≡◌, ℕ, zero, suc, ◌+◌, ◌<◌, ◌==◌, true, List, [], ◌∷◌, length, take, drop, refl, sym, ap}
-use Rattle.std.proofs.Common.{◌∙◌, arith, slice_index, Some, None, Ok, Err, inl, inr}
+use Rattle.std.proofs.Common.{◌∙◌, arith, slice_index, Some, None, Ok, Err, inl, inr, min}
 use Rattle.memchr.specs.Find.{IsFirstByte, is_byte}
 use Rattle.pdb_base.specs.Refusal.{Refusal, unexpected_eof}
-use Rattle.std.proofs.Common.{min}
 use Rattle.std.proofs.lemmas.Bool.{cases_Bool, cases_lt}
 use Rattle.std.proofs.lemmas.List.{length-drop}
 use Rattle.byteorder.specs.Endian.{little_number}

@@ -24,7 +24,7 @@ macro_rules! open_stream {
     };
 }
 
-/// Tells how a call ended that asks for what a handle holds: as an expression of its content says,
+/// Tells how a call ended that is about what a handle holds: as an expression of its content says,
 /// or with `NOT_OPEN` if the handle holds nothing of that kind.
 macro_rules! ask {
     ($handle:ident, $alloc:ident, $fault:ident, $kind:ident($content:ident) => $told:expr) => {

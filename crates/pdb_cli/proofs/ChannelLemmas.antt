@@ -16,7 +16,7 @@ shown_of words texts had file outcome same whole shows =
           subst (λ (ws : List (List ℕ)). Shows (question_of ws file) outcome) (sym same) shows;
     }
 
--- without words no input is asked
+-- without words no input is read
 pub shown_of_nothing : (words : List (List ℕ)) (had : Option (List ℕ)) (outcome : Outcome) → words ≡ []
     → Shows (question_of [] []) outcome → IsShownOf words had outcome
 shown_of_nothing words None outcome none shows = shown_of words [] None [] outcome none tt shows

@@ -1,17 +1,15 @@
 -- Lines of hexadecimal digits, one after another.
 use Rattle.std.specs.Int.{div_ceil}
-use Rattle.std.proofs.Common.{◌≡◌, ℕ, ◌+◌, ◌-◌, ◌*◌, ◌^◌, ◌<◌, ◌≤◌, List, [], ◌∷◌, ◌++◌, length, map, replicate, take}
-use Rattle.std.proofs.Common.{drop, false, sym, ap, ◌∙◌, arith, min, Option}
+use Rattle.std.proofs.Common.{◌≡◌, ℕ, ◌+◌, ◌-◌, ◌*◌, ◌<◌, ◌≤◌, List, [], ◌∷◌, ◌++◌, length, map, take}
+use Rattle.std.proofs.Common.{drop, sym, ap, ◌∙◌, arith, min, Option}
 use Rattle.std.specs.Global.{Vec}
 use Rattle.std.specs.Option.{option_map}
-use Rattle.std.specs.Fmt.{padded_integral, format_spec}
 use Rattle.std.specs.List.{flat_map, range_with_len}
 use Rattle.std.proofs.lemmas.Grind.{flat_map-append}
 use Rattle.std.proofs.lemmas.List.Folds.{flat_map-map}
 use Rattle.std.proofs.Math.Seq.{take-append_seam, drop-append_seam}
 use Rattle.std.proofs.lemmas.List.{append-nil, take_all, map-id, take_min, drop_min, drop-drop, length-drop}
 use Rattle.std.proofs.lemmas.List.FromFn.{map-range_with_len_more}
-use Rattle.pdb_base.proofs.lemmas.Padding.{padded_with_zeros}
 use Rattle.pdb_cli.specs.Lines.{line, hex_line, line_of, name_text, name_lines}
 
 range_more : (n : ℕ) → range_with_len 0 (n + 1) ≡ range_with_len 0 n ++ n ∷ []
@@ -46,11 +44,6 @@ piece_is_line all piece rest n is long =
 pub line_left : (all : List ℕ) (n : ℕ) → 0 < length (drop (32 * n) all) → n ≤ div_ceil (length all) 32
     → n + 1 ≤ div_ceil (length all) 32
 line_left all n some most = omega (arith, some, most, length-drop (32 * n) all)
-
--- what `{:04x}` writes
-pub four_digits : (digits : List ℕ) → padded_integral (format_spec 32 0 4 4 (2 ^ 64 - 1)) false [] digits
-    ≡ replicate (4 - length digits) 48 ++ digits
-four_digits digits = padded_with_zeros digits
 
 -- the line of a name that a reply holds
 abbrev pub held_line : Option (Vec ℕ) → List ℕ

@@ -70,7 +70,7 @@ pub record IsFaultReported (fault : Error) (err err' : OutputState) (status : â„
   pub is_line : IsLineOf (refusal_of reason) line
   pub told : GetsUnlessFailed err err' line
 
--- What the program did: it showed what was asked, each part on its output; or it reported why there was
+-- What the program did: it showed the answer, each part on its output; or it reported why there was
 -- nothing to show, and wrote no output; or it reported that standard output failed, which received a
 -- prefix of what was to be shown.
 pub data IsServed (call : Result Arguments io.Error) (had : Option (List â„•)) (out out' err err' : OutputState)

@@ -40,7 +40,7 @@ pub record IsAnsweredBy (lines : List ℕ) (outcome : Outcome) : Type 0 where
   pub err : outcome.err.items ≡ []
 
 -- The text of a refusal is the library's own. An `io::Error` has a text that isn't the library's, and
--- that text stands behind the library's words.
+-- that text follows the library's words.
 pub record IsTextOf (refusal : Refusal) (text : List ℕ) : Type 0 where
   pub own : IfSome (text_of refusal) (λ own. text ≡ own)
   pub front : (kind : ErrorKind) → refusal ≡ io_error kind → (cause : List ℕ) × (text ≡ io_error_front ++ cause)
@@ -77,13 +77,13 @@ abbrev pub IsOutcomeOf : Answer ReplyValue → Outcome → Type 0
 IsOutcomeOf (Ok said) outcome = IsAnswered said outcome
 IsOutcomeOf (Err refusal) outcome = IsRefused refusal outcome
 
--- the query that the words form, and the file that it asks; without words, these are stream 1 and the
+-- the query that the words form, and the file that it is about; without words, these are stream 1 and the
 -- file S1
 abbrev pub question_of : List (List ℕ) → List ℕ → Option (Query × List ℕ)
 question_of [] file = Some (queries.Stream 1 None, s1_bytes)
 question_of words file = option_map (λ query. (query, file)) (query_of words)
 
--- what the program shows: the answer to what was asked, or that memory ran out, or else the usage
+-- what the program shows: the answer to the query, or that memory ran out, or else the usage
 abbrev pub Shows : Option (Query × List ℕ) → Outcome → Type 0
 Shows (Some question) outcome = IsOutcomeOf (answer_of question.1 question.0) outcome ⊎ IsRefused out_of_memory outcome
 Shows None outcome = IsUsage outcome

@@ -50,7 +50,7 @@ struct Kind(u16);
 impl fmt::Display for Kind {
     ghost output = { λ kind. Some (hexadecimal_of_four kind.0) };
 
-    #[tactic(auto, using(crate::proofs::LineLemmas::four_digits))]
+    #[tactic(auto, using(pdb_base::proofs::lemmas::Padding::padded_with_zeros))]
     fn fmt<W: fmt::Write>(&self, f: &mut fmt::Formatter<W>) -> fmt::Result {
         let kind = self.0;
         write!(f, "0x{kind:04x}")

@@ -4,8 +4,7 @@ use Rattle.std.specs.Option.{option_to_list}
 use Rattle.pdb_tpi.specs.declared.header.Header.{Header}
 use Rattle.pdb_tpi.specs.Table.{Table, count_in_header}
 use Rattle.pdb_consistency.specs.Hashes.{count_mismatch_of, hashes_mismatches, offsets_mismatches, part_in}
-use Rattle.pdb_consistency.specs.Hashes.{value_mismatch}
-use Rattle.pdb_consistency.specs.Hashes.{values_mismatches}
+use Rattle.pdb_consistency.specs.Hashes.{value_mismatch, values_mismatches}
 use Rattle.pdb_consistency.specs.Mismatch.{asked_of, with_further}
 use Rattle.pdb_consistency.specs.Words.{mismatches_at}
 use Rattle.pdb_consistency.specs.declared.mismatch.Extent.{Extent}

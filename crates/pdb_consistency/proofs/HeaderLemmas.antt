@@ -3,19 +3,13 @@ use Rattle.std.proofs.Common.{◌≡◌, ℕ, ◌<◌, ◌≤◌, Bool, true, fa
 use Rattle.std.proofs.Common.{Ok}
 use Rattle.std.proofs.lemmas.Bool.{cases_lt, leb-true, lt-ltb}
 use Rattle.pdb_base.specs.Answer.{ok_if}
-use Rattle.pdb_base.specs.Refusal.{Refusal}
-use Rattle.pdb_base.proofs.lemmas.Collected.{bind_ok, ok_is}
+use Rattle.pdb_base.proofs.lemmas.Collected.{bind_ok, ok_is, required_holds}
 use Rattle.pdb_msf.specs.Directory.{directory_of}
 use Rattle.pdb_msf.specs.Header.{Head, fields_of_header, geometry_of, head_of, is_page_size, location_pages, magic_of}
-use Rattle.pdb_msf.specs.Header.{file_head}
-use Rattle.pdb_msf.specs.Header.{opening}
+use Rattle.pdb_msf.specs.Header.{file_head, opening}
 use Rattle.pdb_msf.specs.Layout.{LayoutValue, layout_of}
 use Rattle.pdb_msf.specs.Pages.{page_numbers, words}
 use Rattle.pdb_msf.specs.declared.header.Geometry.{Geometry}
-
-holds : (test : Bool) (refusal : Refusal) (done : Unit {0}) → ok_if test refusal ≡ Ok done → test ≡ true
-holds true refusal done is = refl
-holds false refusal done is = absurd cc
 
 middle : (a b c : Bool) → (a && (b && c)) ≡ true → b ≡ true
 middle true true c is = refl
@@ -30,7 +24,7 @@ geometry_sized view fields is =
     let read = bind_ok (fields_of_header view) _ fields magic.2 in
     let sized = bind_ok (ok_if (is_page_size read.0.0.page_size) _) _ fields read.2 in
     let same = ok_is read.0 fields sized.2 in
-    rw (← same) (holds _ _ sized.0 sized.1)
+    rw (← same) (required_holds _ _ sized.0 sized.1)
 
 head_sized : (view : List ℕ) (head : Head) → head_of view ≡ Ok head → is_page_size head.geometry.page_size ≡ true
 unfolding head_of

@@ -52,7 +52,7 @@ first_kept : (kept : Mismatch) (xs : List Mismatch) (warning : Bool) → warns k
 first_kept kept xs true is = first_warning kept xs is ∙ rw is refl
 first_kept kept xs false is = first_error kept xs is ∙ rw is refl
 
--- those that are kept are those that are asked for
+-- those that are kept are those that are looked for
 pub asked_are : (extent : Extent) (all : List Mismatch) → with_further extent [] all ≡ asked_of extent all
 asked_are All all = all_kept [] all
 asked_are First [] = refl
@@ -76,7 +76,7 @@ pub further_end : (extent : Extent) (before left all : List Mismatch) → with_f
 further_end extent before left all so_far none =
     let same = rw none at so_far in ap told (sym same ∙ refl)
 
--- all that are asked for were added, some after others
+-- all that are looked for were added, some after others
 pub asked_in_two : (extent : Extent) (first second one both : List Mismatch)
     → told (with_further extent [] first) ≡ Ok one
     → told (with_further extent one second) ≡ Ok both → told (asked_of extent (first ++ second)) ≡ Ok both
@@ -91,7 +91,7 @@ pub asked_end : (extent : Extent) (kept left all : List Mismatch)
 asked_end extent kept left all so_far none =
     ap told (sym (asked_are extent all)) ∙ further_end extent kept left (with_further extent [] all) so_far none
 
--- all that are asked for were added at once
+-- all that are looked for were added at once
 pub asked_in_one : (extent : Extent) (none all kept : List Mismatch) → none ≡ []
     → told (with_further extent none all) ≡ Ok kept → told (asked_of extent all) ≡ Ok kept
 asked_in_one extent none all kept empty added = ap told (sym (asked_are extent all)) ∙ rw empty at added

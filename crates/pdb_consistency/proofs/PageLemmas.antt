@@ -52,7 +52,7 @@ marked_more count before owned new owner are is = rw is (record {
   each = λ page below. one_marked count before owned owner page (eqb owner.page page) are below refl;
 })
 
--- what is asked of the marks is what the definition asks
+-- what is tested of the marks is what the definition says
 owned_by_mark : (page_size count : ℕ) (before : List PageOwner) (owned : List Bool) (page : ℕ) (marked : Bool)
     → IsMarked count before owned → marked ≡ get_or owned page false
     → (nat_lt page count && (is_reserved page_size page || marked)) ≡ is_owned page_size count before page

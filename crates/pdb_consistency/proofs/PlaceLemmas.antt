@@ -1,7 +1,6 @@
 -- What stands at one place more.
 use Rattle.std.proofs.Common.{◌≡◌, ◌≢◌, ℕ, ◌+◌, zero, suc, Bool, true, false, not, eqb, List, [], ◌∷◌, ◌++◌, length}
-use Rattle.std.proofs.Common.{refl, sym}
-use Rattle.std.proofs.Common.{ap, ◌∙◌, arith, Option, Ok, cond}
+use Rattle.std.proofs.Common.{refl, sym, ap, ◌∙◌, arith, Option, Ok, cond}
 use Rattle.std.specs.List.{flat_map, range_with_len}
 use Rattle.std.specs.Option.{option_to_list}
 use Rattle.std.proofs.lemmas.Bool.{ne_eqb}

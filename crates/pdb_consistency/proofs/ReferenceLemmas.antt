@@ -1,7 +1,6 @@
 -- The first of two lists of numbers that is not below another number.
 use Rattle.std.proofs.Common.{◌≡◌, ℕ, ◌+◌, ◌<◌, Bool, true, false, nat_le, List, [], ◌∷◌, ◌++◌, length, drop, get_or}
-use Rattle.std.proofs.Common.{refl, sym, ap, ◌∙◌}
-use Rattle.std.proofs.Common.{Option, Some, None, append_assoc, if◌then◌else◌}
+use Rattle.std.proofs.Common.{refl, sym, ap, ◌∙◌, Option, Some, None, append_assoc, if◌then◌else◌}
 use Rattle.std.proofs.lemmas.List.{at_drop_more}
 use Rattle.pdb_values.specs.TypeView.{fields_value, type_value}
 use Rattle.pdb_values.specs.declared.type_data.TypeData.{TypeData}

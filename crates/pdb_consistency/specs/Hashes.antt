@@ -1,8 +1,7 @@
 -- The hash stream of a table of types or of ids (`TpiHash` in Microsoft's tpi.h): the hash values of the records, four
 -- bytes each, and the places of some records, each its index and its offset behind the header of the table.
 use Rattle.std.specs.Prelude.{ℕ, ℤ, pos, negsuc, ◌+◌, ◌*◌, ◌/◌, ◌==◌, Bool, false, not, nat_le, List, [], ◌++◌, length}
-use Rattle.std.specs.Prelude.{take, drop}
-use Rattle.std.specs.Prelude.{Option, Some, None, Ok}
+use Rattle.std.specs.Prelude.{take, drop, Option, Some, None, Ok}
 use Rattle.std.specs.Bool.{then_some}
 use Rattle.std.specs.Option.{option_to_list}
 use Rattle.pdb_base.specs.Answer.{Answer}

@@ -7,8 +7,7 @@ use Rattle.pdb_consistency.specs.declared.inconsistency.Inconsistency.TheVariant
 use Rattle.pdb_consistency.specs.declared.inconsistency.Inconsistency.TheVariants.{ReferenceNotBelow, RecordUnaligned}
 use Rattle.pdb_consistency.specs.declared.inconsistency.Inconsistency.TheVariants.{KindNotRead, HashCount, HashTooLarge}
 use Rattle.pdb_consistency.specs.declared.inconsistency.Inconsistency.TheVariants.{IndexOffset, BucketsCut, NameOffset}
-use Rattle.pdb_consistency.specs.declared.inconsistency.Inconsistency.TheVariants.{NameCount}
-use Rattle.pdb_consistency.specs.declared.inconsistency.Inconsistency.TheVariants.{SectionsOverlap}
+use Rattle.pdb_consistency.specs.declared.inconsistency.Inconsistency.TheVariants.{NameCount, SectionsOverlap}
 
 -- the code of an inconsistency, under which programs tell of it
 abbrev pub inconsistency_code : Inconsistency → List ℕ

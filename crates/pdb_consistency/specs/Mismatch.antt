@@ -1,4 +1,4 @@
--- What is inconsistent, and how much of it is asked for.
+-- What is inconsistent, and how much of it is looked for.
 use Rattle.std.specs.Prelude.{Bool, ◌&&◌, not, if◌then◌else◌, List, [], ◌∷◌, ◌++◌, filter, take}
 use Rattle.std.specs.List.{fold}
 use Rattle.pdb_consistency.specs.Inconsistency.{is_warning}
@@ -9,7 +9,7 @@ use Rattle.pdb_consistency.specs.declared.mismatch.Mismatch.{Mismatch}
 abbrev pub warns : Mismatch → Bool
 warns mismatch = is_warning mismatch.what
 
--- Those of all mismatches that are asked for: all, or the first error, and where there is none the first warning.
+-- Those of all mismatches that are looked for: all, or the first error, and where there is none the first warning.
 abbrev pub asked_of : Extent → List Mismatch → List Mismatch
 asked_of All all = all
 asked_of First all = take 1 (filter (λ mismatch. not (warns mismatch)) all ++ filter warns all)

@@ -1,7 +1,6 @@
 -- Who owns the pages of a file (Microsoft's msf.cpp): each page has at most one owner, and none of a stream is free.
 use Rattle.std.specs.Prelude.{ℕ, ◌+◌, ◌*◌, ◌/◌, ◌%◌, ◌^◌, ◌==◌, Bool, false, ◌&&◌, ◌||◌, not, nat_lt, List, [], ◌∷◌}
-use Rattle.std.specs.Prelude.{◌++◌}
-use Rattle.std.specs.Prelude.{length, slice_get, Option, Some, None, Ok, Err}
+use Rattle.std.specs.Prelude.{◌++◌, length, slice_get, Option, Some, None, Ok, Err}
 use Rattle.std.specs.Bool.{then_some}
 use Rattle.std.specs.Int.{div_ceil}
 use Rattle.std.specs.List.{flat_map, list_any}

@@ -1,8 +1,7 @@
 -- The buckets of a string table (`NMT` in Microsoft's nmt.h): behind the names stand a u32 count of buckets, so many
 -- u32 offsets of names, of which 0 stands for none, and a u32 count of names.
 use Rattle.std.specs.Prelude.{ℕ, ◌+◌, ◌*◌, ◌==◌, Bool, ◌&&◌, not, nat_lt, if◌then◌else◌, List, [], ◌∷◌, ◌++◌, filter}
-use Rattle.std.specs.Prelude.{length, map}
-use Rattle.std.specs.Prelude.{slice_index, Option, Some, None}
+use Rattle.std.specs.Prelude.{length, map, slice_index, Option, Some, None}
 use Rattle.std.specs.Bool.{then_some}
 use Rattle.std.specs.List.{range_with_len}
 use Rattle.std.specs.Option.{option_to_list}

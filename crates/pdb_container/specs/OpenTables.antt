@@ -1,6 +1,7 @@
 -- Tables that stay open between queries, each the one that a stream of the file holds.
-use Rattle.std.specs.Prelude.{◌≡◌, ℕ, List, Option, None, Ok, IfSome}
-use Rattle.pdb_base.specs.Answer.{Answer, ◌>>=◌}
+use Rattle.std.specs.Prelude.{◌≡◌, ℕ, List, Option, None, Result, Ok, IfOk, IfSome}
+use Rattle.pdb_base.specs.declared.error.Error.{Error}
+use Rattle.pdb_base.specs.Answer.{Answer, AnswersUnless, ◌>>=◌}
 use Rattle.pdb_space.specs.StringTable.{names_of}
 use Rattle.pdb_space.specs.Omap.{omap_table_of}
 use Rattle.pdb_tpi.specs.Table.{table_of}
@@ -16,6 +17,14 @@ items_in stream = table_of stream >>= λ table. Ok (first_stand table)
 -- the table in the stream of a number
 abbrev pub table_of_stream : {T : Type 0} → (List ℕ → Answer T) → (ℕ → Option ℕ → Answer (List ℕ)) → ℕ → Answer T
 table_of_stream table_in streams number = streams number None >>= table_in
+
+-- A call returns the table in the stream of a number, with this number; or it fails as reading the stream does, or as
+-- the table does.
+abbrev pub OpensTable : {T : Type 0} → Type 0 → (List ℕ → Answer T) → (ℕ → Option ℕ → Answer (List ℕ)) → ℕ
+    → Result (Numbered T) Error → Type 0
+OpensTable failed table_in streams number result =
+    AnswersUnless failed (λ opened. opened.table.value) result (table_of_stream table_in streams number)
+    × IfOk result (λ opened. opened.number ≡ number)
 
 -- An open table, if there is one, is the one in the stream of its number.
 abbrev pub IsOf : {T : Type 0} → (List ℕ → Answer T) → (ℕ → Option ℕ → Answer (List ℕ)) → Option (Numbered T) → Type 0

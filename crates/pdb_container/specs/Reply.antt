@@ -82,7 +82,7 @@ moved_within asked stream = do
   table ← omap.omap_table_of stream
   Ok (moved table asked)
 
--- the stream that a query asks, and at most how many of its bytes
+-- the stream that a query is about, and at most how many of its bytes
 abbrev pub stream_asked : Query → ℕ × Option ℕ
 stream_asked (queries.Stream number limit) = (number, limit)
 stream_asked (queries.TypeRecord stream index) = (stream, None)
@@ -100,7 +100,7 @@ said_within (queries.Name number offset) stream = name_within offset stream
 said_within (queries.Ranges number start end) stream = moved_within (record { start = start; end = end }) stream
 said_within (queries.Fields number index) stream = fields_within index stream
 
--- The reply to a query: what the stream that it asks answers. The first fault is that of the stream, then of
+-- The reply to a query: what the bytes of its stream answer. The first fault is that of the stream, then of
 -- the table in it, then of the look-up, then of the record that was looked up.
 abbrev pub reply_by : (ℕ → Option ℕ → Answer (List ℕ)) → Query → Answer ReplyValue
 reply_by streams query = streams (stream_asked query).0 (stream_asked query).1 >>= said_within query

@@ -1,11 +1,10 @@
 //! The tables that a run keeps open, and replies from them.
 
-ghost use Rattle.std.specs.Prelude.{◌≡◌, List, ℕ, None, IfOk};
-ghost use Rattle.pdb_base.specs.Answer.{Answer, Answers, AnswersUnless};
-ghost use Rattle.pdb_container.specs.OpenTables.{AreOf, IsOf, items_in, table_of_stream};
+ghost use Rattle.std.specs.Prelude.{List, ℕ};
+ghost use Rattle.pdb_base.specs.Answer.{Answer, Answers};
+ghost use Rattle.pdb_container.specs.OpenTables.{AreOf, IsOf, OpensTable, items_in};
 ghost use Rattle.pdb_container.specs.Reply.{IsReply, RepliesUnless, reply_by};
-ghost use Rattle.pdb_space.specs.Omap.{omap_table_of};
-ghost use Rattle.pdb_space.specs.StringTable.{names_of};
+ghost use Rattle.pdb_space.specs.{Omap.omap_table_of, StringTable.names_of};
 
 use crate::query::{Query, Reply};
 use crate::read_streams::ReadStreams;
@@ -66,9 +65,7 @@ fn read_table<T: Table, F: ReadStreams>(
     number: u32,
 ) -> Result<Numbered<T>>
     requires { F.can_read file.old }
-    ensures table { AnswersUnless (F.failed file.old file.new) (λ opened. opened.table.value) result
-        (table_of_stream T.table_in (F.stream file.old) number) }
-    ensures number { IfOk result (λ opened. opened.number ≡ number) }
+    ensures table { OpensTable (F.failed file.old file.new) T.table_in (F.stream file.old) number result }
     ensures kept { F.kept file.old file.new }
 {
     let stream = file.read(alloc, number, None)?;
@@ -87,9 +84,7 @@ fn table_of_stream<T: Table, F: ReadStreams>(
 ) -> Result<Numbered<T>>
     requires can_read { F.can_read file.old }
     requires of { IsOf T.table_in (F.stream file.old) last }
-    ensures table { AnswersUnless (F.failed file.old file.new) (λ opened. opened.table.value) result
-        (table_of_stream T.table_in (F.stream file.old) number) }
-    ensures number { IfOk result (λ opened. opened.number ≡ number) }
+    ensures table { OpensTable (F.failed file.old file.new) T.table_in (F.stream file.old) number result }
     ensures kept { F.kept file.old file.new }
 {
     if let Some(last) = last {
@@ -98,16 +93,6 @@ fn table_of_stream<T: Table, F: ReadStreams>(
         }
     }
     read_table(alloc, file, number)
-}
-
-/// Learns where items begin, up to the one of an index, if another query can follow. The last query
-/// learns nothing, so that it takes no memory beyond the file.
-fn learn_for_later<F: ReadStreams, I: ItemIndex>(table: &mut OpenTable<I>, index: I)
-    ensures { table.new ≡ table.old }
-{
-    if F::STAYS_OPEN {
-        table.learn(index);
-    }
 }
 
 /// The last table of each kind that was opened.
@@ -120,7 +105,8 @@ pub struct OpenTables {
 }
 
 impl OpenTables {
-    /// Answers a query from the table that it is about, which is opened if it is not open yet.
+    /// Answers a query from the table that it is about, which is opened if it is not open yet. The
+    /// last query learns no places of items, so that it takes no memory beyond the file.
     #[tactic(auto, unfolding(crate::specs::Reply::type_within, crate::specs::Reply::id_within, crate::specs::Reply::fields_within, crate::specs::Reply::name_within, crate::specs::Reply::moved_within, crate::specs::OpenTables::items_in))]
     fn attempt<F: ReadStreams>(
         &mut self,
@@ -141,7 +127,9 @@ impl OpenTables {
             }
             Query::TypeRecord { stream, index } => {
                 let mut types = table_of_stream(alloc, file, stream, self.types.take())?;
-                learn_for_later::<F, TypeIndex>(&mut types.table, TypeIndex(index));
+                if F::STAYS_OPEN {
+                    types.table.learn(TypeIndex(index));
+                }
                 let reply = type_reply(alloc, &types.table, index);
                 self.types = Some(types);
                 reply
@@ -154,7 +142,9 @@ impl OpenTables {
             }
             Query::IdRecord { stream, index } => {
                 let mut ids = table_of_stream(alloc, file, stream, self.ids.take())?;
-                learn_for_later::<F, IdIndex>(&mut ids.table, IdIndex(index));
+                if F::STAYS_OPEN {
+                    ids.table.learn(IdIndex(index));
+                }
                 let reply = id_reply(alloc, &ids.table, index);
                 self.ids = Some(ids);
                 reply

@@ -13,7 +13,6 @@ pub enum Query {
         /// How many bytes to return at most, or None for all of them.
         limit: Option<usize>,
     },
-
     /// A type: its kind, and its name if it has one.
     TypeRecord {
         /// The number of the stream that holds the table of types.
@@ -21,7 +20,6 @@ pub enum Query {
         /// The type's index.
         index: u32,
     },
-
     /// An id: its kind, and its name if it has one.
     IdRecord {
         /// The number of the stream that holds the table of ids.
@@ -29,7 +27,6 @@ pub enum Query {
         /// The id's index.
         index: u32,
     },
-
     /// A name in a string table.
     Name {
         /// The number of the stream that holds the string table.
@@ -37,7 +34,6 @@ pub enum Query {
         /// The name's offset in bytes from the start of the names.
         offset: u32,
     },
-
     /// Where an OMAP table moves the addresses of a range.
     Ranges {
         /// The number of the stream that holds the OMAP table.
@@ -47,7 +43,6 @@ pub enum Query {
         /// The address behind the last.
         end: u32,
     },
-
     /// The names of the fields of a class, a union or an enumeration.
     Fields {
         /// The number of the stream that holds the table of types.
@@ -62,7 +57,6 @@ pub enum Query {
 pub enum Reply {
     /// The bytes of a stream.
     Bytes(Vec<u8>),
-
     /// A type or an id.
     Record {
         /// The index of the item that is looked up.
@@ -72,17 +66,13 @@ pub enum Reply {
         /// The bytes of the name, if it has one.
         name: Option<Vec<u8>>,
     },
-
     /// The bytes of a name.
     Name(Vec<u8>),
-
     /// Where the addresses are moved: one range for each record that moves some of them.
     Ranges(Vec<Range<u32>>),
-
     /// The name of each field of a list and of the lists that continue it, in order, with None for
     /// a field that has no name.
     Fields(Vec<Option<Vec<u8>>>),
-
     /// Why there is no answer: the first error of the stream, of the table in it, of the look-up
     /// and of the record, tried in this order; or an allocation that failed on the way.
     Refused(Error),

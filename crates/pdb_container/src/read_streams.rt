@@ -2,8 +2,7 @@
 
 ghost use Rattle.std.specs.Prelude.{◌≡◌, ℕ, List, Option, Some, None, IsSome, IsTrue};
 ghost use Rattle.pdb_base.specs.Answer.{Answer, AnswersUnless};
-ghost use Rattle.pdb_msf.specs.File.{stream_of};
-ghost use Rattle.pdb_msf.specs.Source.{HasFailed};
+ghost use Rattle.pdb_msf.specs.{File.stream_of, Source.HasFailed};
 ghost use Rattle.pdb_container.specs.ReadStreams.{StaysOpen, WasSound, stays_open, stream_once};
 
 use pdb_base::{Error, Result, Stream};

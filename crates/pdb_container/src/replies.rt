@@ -3,17 +3,14 @@
 ghost use Rattle.std.specs.Prelude.{◌≡◌, map, IfOk, Ok};
 ghost use Rattle.std.specs.Option.{option_map};
 ghost use Rattle.pdb_base.specs.Memory.{FailsOnlyForMemory};
-ghost use Rattle.pdb_values.specs.IdValue.{id_name, id_value};
-ghost use Rattle.pdb_values.specs.Text.{text_bytes};
-ghost use Rattle.pdb_values.specs.TypeValue.{name_of_type};
-ghost use Rattle.pdb_values.specs.TypeView.{type_value};
+ghost use Rattle.pdb_values.specs.{Text.text_bytes, TypeValue.name_of_type, TypeView.type_value};
 ghost use Rattle.pdb_container.specs.Reply.{Replies, fields_in, id_in, moved, name_in, type_in};
 
 use crate::query::Reply;
 use pdb_base::{IdIndex, RawString, Result, TypeIndex};
 use pdb_space::{OMAPTable, StringRef, StringTable};
 use pdb_tpi::OpenTable;
-use pdb_values::{IdData, TypeData};
+use pdb_values::TypeData;
 use std::alloc::Global;
 use std::ops::Range;
 
@@ -43,18 +40,6 @@ pub fn type_reply(alloc: Global, types: &OpenTable<TypeIndex>, index: u32) -> Re
     })
 }
 
-/// Returns the name of a function, a method or a text, or None for any other id.
-fn name_of_id<'t>(id: &IdData<'t>) -> Option<RawString<'t>>
-    ensures { option_map text_bytes result ≡ id_name (id_value id.now) }
-{
-    match id {
-        IdData::Function(function) => Some(function.name),
-        IdData::MemberFunction(method) => Some(method.name),
-        IdData::String(text) => Some(text.name),
-        _ => None,
-    }
-}
-
 /// Replies with the id of an index: its kind, and its name if it has one.
 #[inline(never)]
 #[tactic(auto, unfolding(crate::specs::Reply::id_in))]
@@ -66,7 +51,7 @@ pub fn id_reply(alloc: Global, ids: &OpenTable<IdIndex>, index: u32) -> Result<R
     Ok(Reply::Record {
         index,
         kind: item.raw_kind(),
-        name: owned_name(alloc, name_of_id(&value))?,
+        name: owned_name(alloc, value.name())?,
     })
 }
 

@@ -1,12 +1,12 @@
 -- Which header and which debug header a stream holds.
-use Rattle.std.proofs.Common.{◌≡◌, ℕ, ◌+◌, ◌<◌, ◌≤◌, ◌==◌, nat_le, inl, inr, true, false, Bool, List, ◌++◌, length}
+use Rattle.std.proofs.Common.{◌≡◌, ℕ, ◌+◌, ◌<◌, ◌≤◌, ◌==◌, nat_le, inl, inr, true, false, List, ◌++◌, length}
 use Rattle.std.proofs.Common.{take, drop, sum, refl, sym, ap, ◌∙◌, arith, eq-eqb, Ok, Err, codes}
 use Rattle.std.proofs.lemmas.Bool.{cases_lt, ne_eqb}
 use Rattle.std.proofs.lemmas.Bool.Decides.{nat_tests}
 use Rattle.pdb_base.specs.Refusal.{Refusal, unexpected_eof, unimplemented_feature}
 use Rattle.pdb_base.specs.Answer.{◌>>=◌, ok_if}
 use Rattle.pdb_base.specs.Reading.{front_at}
-use Rattle.pdb_base.proofs.lemmas.Collected.{ok, ok_is, ok_is_no_err, bind_ok}
+use Rattle.pdb_base.proofs.lemmas.Collected.{ok, ok_is, ok_is_no_err, bind_ok, required_holds}
 use Rattle.pdb_base.proofs.lemmas.Reading.{front_cut, number_whole, number_cut}
 use Rattle.pdb_file.specs.Fields.{u32_in}
 use Rattle.pdb_file.specs.DbiHeader.{dbi_signature, header_size, dbi_header, dbi_header_of}
@@ -24,10 +24,6 @@ by_first : (stream : List ℕ) → 4 ≤ length stream →
     >>= λ signed. ok_if (nat_le header_size (length stream)) unexpected_eof >>= λ whole. Ok (dbi_header stream))
 unfolding dbi_header_of
 by_first stream long = rw (number_whole 4 stream long) refl
-
-required_holds : (test : Bool) (e : Refusal) (x : Unit {0}) → ok_if test e ≡ Ok x → test ≡ true
-required_holds true e x h = refl
-required_holds false e x h = absurd (ok_is_no_err x e (sym h))
 
 -- the first field is the signature of the header
 first_field : (stream : List ℕ) → u32_in 0 stream ≡ (dbi_header stream).signature
@@ -137,7 +133,6 @@ pub finds_debug_header : (stream : List ℕ) → FindsDebugHeader stream
 finds_debug_header stream = record {
   found = debug_found stream;
   only = debug_only stream;
-  refused =
-      debug_refused stream;
+  refused = debug_refused stream;
   cut = debug_cut stream;
 }

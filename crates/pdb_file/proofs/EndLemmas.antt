@@ -1,16 +1,13 @@
 -- What is refused only since the bytes end too soon.
-use Rattle.std.proofs.Common.{◌≡◌, ℕ, ◌*◌, ◌/◌, List, [], ◌∷◌, length, take, drop, map, refl, sym}
-use Rattle.std.proofs.Common.{ap, ◌∙◌, inl, inr, Ok, Err, Result}
-use Rattle.std.proofs.lemmas.Bool.{cases_lt}
+use Rattle.std.proofs.Common.{◌≡◌, ℕ, ◌*◌, ◌/◌, List, [], ◌∷◌, length, map, refl, sym, ap, ◌∙◌, Ok, Err, Result}
 use Rattle.std.specs.List.{range_with_len}
 use Rattle.pdb_base.specs.Answer.{Answer, ◌>>=◌, values_of_all}
-use Rattle.pdb_base.specs.Endian.{little_number}
 use Rattle.pdb_base.specs.Reading.{front_at, number_at}
-use Rattle.pdb_base.specs.Refusal.{refusal_of, unexpected_eof}
+use Rattle.pdb_base.specs.Refusal.{refusal_of}
 use Rattle.pdb_base.specs.declared.error.Error.{Error}
 use Rattle.pdb_base.specs.declared.error.Error.TheVariants.{OutOfMemory}
 use Rattle.pdb_base.proofs.lemmas.Collected.{err_is, ok_is_no_err}
-use Rattle.pdb_base.proofs.lemmas.Reading.{front_whole, front_cut, number_whole, number_cut}
+use Rattle.pdb_base.proofs.lemmas.Reading.{front_ends, number_ends}
 use Rattle.pdb_space.specs.StringTable.{name_of}
 use Rattle.pdb_space.proofs.NameLemmas.{finds_name}
 use Rattle.pdb_file.specs.StreamNames.{Map, behind_set, entries_at, map_of, named_at, named_in, stream_names_of}
@@ -24,19 +21,6 @@ pub then_ends : {A B : Type 0} (r : Answer A) (f : A → Answer B) → EndsTooSo
     → EndsTooSoon (r >>= f)
 then_ends (Ok x) f here behind e h = behind x e h
 then_ends {A} {B} (Err d) f here behind e h = sym (err_is {A = B} d e h) ∙ here d refl
-
-pub front_ends : (count : ℕ) (bytes : List ℕ) → EndsTooSoon (front_at count bytes)
-front_ends count bytes e h = elim (cases_lt (length bytes) count) [
-  | inl short ↦ sym (err_is {A = List ℕ × List ℕ} unexpected_eof e (sym (front_cut count bytes short) ∙ h))
-  | inr long ↦ absurd (ok_is_no_err (take count bytes, drop count bytes) e (sym (front_whole count bytes long) ∙ h))
-]
-
-pub number_ends : (width : ℕ) (bytes : List ℕ) → EndsTooSoon (number_at width bytes)
-number_ends width bytes e h = elim (cases_lt (length bytes) width) [
-  | inl short ↦ sym (err_is {A = ℕ × List ℕ} unexpected_eof e (sym (number_cut width bytes short) ∙ h))
-  | inr long ↦ absurd (ok_is_no_err (little_number width (take width bytes), drop width bytes) e
-      (sym (number_whole width bytes long) ∙ h))
-]
 
 name_ends : (names : List ℕ) (offset : ℕ) → EndsTooSoon (name_of names offset)
 name_ends names offset e h = ((finds_name names offset).missing e h).0

@@ -1,8 +1,9 @@
 -- Which features the numbers after the table tell.
 use Rattle.std.proofs.Common.{◌≡◌, ◌≢◌, ◌⊎◌, ◌↔◌, ◌<◌, ◌||◌, ◌==◌, if◌then◌else◌, ℕ, zero, suc, inl, inr}
-use Rattle.std.proofs.Common.{Bool, true, false, IsTrue, List, [], ◌∷◌, refl, sym, ap, ◌∙◌, arith, Option, Some, None}
+use Rattle.std.proofs.Common.{Bool, true, false, IsTrue, List, [], ◌∷◌, refl, sym, ap, ◌∙◌, arith, Some, None}
 use Rattle.std.specs.List.{slice_get}
-use Rattle.std.proofs.lemmas.Bool.{eqb-true, eq-eqb, ne_eqb}
+use Rattle.std.proofs.lemmas.Bool.{cases_Bool, eqb-true, eq-eqb, ne_eqb}
+use Rattle.std.proofs.lemmas.Option.{none-some, same_Some}
 use Rattle.pdb_base.proofs.lemmas.Collected.{ok}
 use Rattle.pdb_file.specs.Features.{features_in, features_of, is_among, minimal_number, no_type_merge_number}
 use Rattle.pdb_file.specs.Features.{numbers_in, up_to, vc110_number, vc140_number}
@@ -12,22 +13,9 @@ use Rattle.pdb_file.specs.Laws.{FindsFeatures, IsFeatureTold, TellFeatures}
 use Rattle.pdb_file.proofs.EndLemmas.{ok_ends, then_ends, map_ends}
 use Rattle.pdb_file.proofs.NamedLaws.{map_only}
 
-abbrev some : ℕ → Option ℕ
-some x = Some x
-
-some_is : (x y : ℕ) → some x ≡ Some y → x ≡ y
-some_is x y e = cc
-
 nothing_is : (x : ℕ) → slice_get {X = ℕ} [] x ≡ None
 nothing_is zero = refl
 nothing_is (suc x) = refl
-
-none_is_not_some : (x : ℕ) → None ≡ some x → ⊥
-none_is_not_some x e = cc
-
-test_cases : (test : Bool) → (test ≡ true) ⊎ (test ≡ false)
-test_cases true = inl refl
-test_cases false = inr refl
 
 either : (a b : Bool) → (a || b) ≡ true → (a ≡ true) ⊎ (b ≡ true)
 either true b e = inl refl
@@ -43,7 +31,7 @@ told_first sought numbers = record { place = 0; there = refl; before = λ k belo
 before_later : (first : ℕ) (numbers : List ℕ) (place : ℕ) → first ≢ vc110_number
     → ((k : ℕ) → k < place → slice_get numbers k ≢ Some vc110_number)
     → (k : ℕ) → k < suc place → slice_get (first ∷ numbers) k ≢ Some vc110_number
-before_later first numbers place other before zero below is = other (some_is first vc110_number is)
+before_later first numbers place other before zero below is = other (same_Some first vc110_number is)
 before_later first numbers place other before (suc k) below is = before k (omega (arith, below)) is
 
 told_later : (first sought : ℕ) (numbers : List ℕ) → first ≢ vc110_number → IsFeatureTold numbers sought
@@ -76,9 +64,9 @@ among_is first sought numbers false is_first last test =
 among_told : (sought : ℕ) (numbers : List ℕ) → is_among sought (up_to vc110_number numbers) ≡ true
     → IsFeatureTold numbers sought
 among_told sought [] e = absurd cc
-among_told sought (first ∷ numbers) e = elim (test_cases (first == sought)) [
+among_told sought (first ∷ numbers) e = elim (cases_Bool (first == sought)) [
   | inl same ↦ rw (eqb-true first sought same) (told_first sought numbers)
-  | inr differs ↦ elim (test_cases (first == vc110_number)) [
+  | inr differs ↦ elim (cases_Bool (first == vc110_number)) [
     | inl last ↦ absurd (bool_differs (sym e ∙ among_is first sought numbers true false last differs))
     | inr other ↦ told_later first sought numbers
         (λ is. bool_differs (sym (eq-eqb first vc110_number is) ∙ other))
@@ -90,16 +78,16 @@ among_told sought (first ∷ numbers) e = elim (test_cases (first == sought)) [
 told_among : (sought : ℕ) (numbers : List ℕ) (place : ℕ) → slice_get numbers place ≡ Some sought
     → ((k : ℕ) → k < place → slice_get numbers k ≢ Some vc110_number)
     → is_among sought (up_to vc110_number numbers) ≡ true
-told_among sought [] place there before = absurd (none_is_not_some sought (sym (nothing_is place) ∙ there))
+told_among sought [] place there before = absurd (none-some sought (sym (nothing_is place) ∙ there))
 told_among sought (first ∷ numbers) zero there before =
-    let same : (first == sought) ≡ true = eq-eqb first sought (some_is first sought there) in
-    elim (test_cases (first == vc110_number)) [
+    let same : (first == sought) ≡ true = eq-eqb first sought (same_Some first sought there) in
+    elim (cases_Bool (first == vc110_number)) [
       | inl last ↦ among_is first sought numbers true true last same
       | inr other ↦ among_is first sought numbers false true other same
     ]
 told_among sought (first ∷ numbers) (suc place) there before =
     let other : (first == vc110_number) ≡ false =
-    ne_eqb first vc110_number (λ is. before 0 (omega arith) (ap some is)) in
+    ne_eqb first vc110_number (λ is. before 0 (omega arith) (ap (λ (n : ℕ). Some n) is)) in
     let more = told_among sought numbers place there (λ k below. before (suc k) (omega (arith, below))) in
     among_is first sought numbers false (first == sought) other refl ∙ or_right (first == sought) _ more
 

@@ -1,8 +1,8 @@
 -- Which streams stream 1 names.
 use Rattle.std.proofs.Common.{◌≡◌, ℕ, zero, suc, ◌+◌, ◌*◌, ◌/◌, min, List, [], ◌∷◌, ◌++◌, length, map, refl, sym, ap}
-use Rattle.std.proofs.Common.{subst, ◌∙◌, arith, Option, Some, Ok}
+use Rattle.std.proofs.Common.{subst, ◌∙◌, arith, Some, Ok}
 use Rattle.std.specs.List.{range_with_len, slice_get}
-use Rattle.std.proofs.lemmas.Option.{slice_get_past}
+use Rattle.std.proofs.lemmas.Option.{same_Some, slice_get_past}
 use Rattle.pdb_base.specs.Index.{no_stream}
 use Rattle.pdb_base.specs.Answer.{Answer}
 use Rattle.pdb_base.specs.Reading.{front_at, number_at}
@@ -134,12 +134,6 @@ entry_only table k one is =
     rw ((finds_name table.names (u32_in (8 * k) table.entries)).only one.name is.name)
     (ap (λ (s : ℕ). ok (record { name = one.name; stream = s })) (sym is.stream))
 
-abbrev some : {A : Type 0} → A → Option A
-some x = Some x
-
-some_is : {A : Type 0} {x y : A} → some x ≡ Some y → x ≡ y
-some_is e = cc
-
 nothing_there : {A : Type 0} (k : ℕ) (x : A) → slice_get {X = A} [] k ≡ Some x → ⊥
 nothing_there {A} k x is = let none = slice_get_past {X = A} [] k (omega arith) in cc
 
@@ -151,7 +145,7 @@ each_step : {A : Type 0} (f : ℕ → Answer A) (from : ℕ) (x : A) (xs : List 
     → (k : ℕ) (y : A) → slice_get (x ∷ xs) k ≡ Some y → f (from + k) ≡ Ok y
 each_step {A} f from x xs first more zero y is =
     let start : from + 0 ≡ from = omega arith in
-    ap f start ∙ first ∙ ap (λ (z : A). ok z) (some_is is)
+    ap f start ∙ first ∙ ap (λ (z : A). ok z) (same_Some _ _ is)
 each_step f from x xs first more (suc k) y is =
     let place : from + suc k ≡ from + 1 + k = omega arith in
     ap f place ∙ more k y is

@@ -1,7 +1,7 @@
 -- Which roles a list gives.
 use Rattle.std.proofs.Common.{◌≡◌, ◌≢◌, ℕ, ◌+◌, ◌*◌, ◌%◌, ◌<◌, ◌≤◌, ◌⊎◌, nat_le, inl, inr, true, false, Bool, List}
 use Rattle.std.proofs.Common.{length, drop, refl, sym, ap, subst, ◌∙◌, arith, Ok}
-use Rattle.std.proofs.lemmas.Bool.{cases_lt}
+use Rattle.std.proofs.lemmas.Bool.{cases_Bool, cases_lt}
 use Rattle.std.proofs.lemmas.Bool.Decides.{nat_tests}
 use Rattle.std.proofs.lemmas.List.{length-drop, length-append}
 use Rattle.pdb_base.specs.Index.{no_stream}
@@ -76,8 +76,7 @@ place_only list place index (inl begins) =
           there list place long ∙ index_is _ index (ap (λ (p : ℕ × List ℕ). p.0)
           (ok_is (u16_in (2 * place) list, drop 2 (drop (2 * place) list)) (index.0, begins.0) (sym whole ∙ read)))
     ]
-place_only list place index (inr behind) =
-    past list place (omega (arith, behind.0)) ∙ index_is _ index (sym behind.1)
+place_only list place index (inr behind) = past list place (omega (arith, behind.0)) ∙ index_is _ index (sym behind.1)
 
 -- ---- all places
 
@@ -147,10 +146,6 @@ whole_of list roles are halved =
     let l = no_half list 10 roles.original_section_headers are.original_section_headers in
     grind (arith, odd.0, odd.1, a, b, c, d, e, f, g, h, j, k, l)
 
-whole_or_not : (test : Bool) → (test ≡ true) ⊎ (test ≡ false)
-whole_or_not true = inl refl
-whole_or_not false = inr refl
-
 by_test : (list : List ℕ) (test : Bool) → is_whole list ≡ test
     → extra_streams list ≡ (ok_if test unexpected_eof >>= λ whole. Ok (roles_in list))
 unfolding extra_streams
@@ -158,18 +153,18 @@ by_test list test is = rw is refl
 
 pub finds_roles : (list : List ℕ) → FindsRoles list
 finds_roles list = record {
-  found = λ roles e. elim (whole_or_not (is_whole list)) [
+  found = λ roles e. elim (cases_Bool (is_whole list)) [
     | inl whole ↦
         let is : roles_in list ≡ roles = ok_is (roles_in list) roles (sym (by_test list true whole) ∙ e) in
         subst (AreListed list) is (all_found list (whole_cases list whole))
     | inr halved ↦ absurd (ok_is_no_err roles unexpected_eof (sym e ∙ by_test list false halved))
   ];
-  only = λ roles are. elim (whole_or_not (is_whole list)) [
+  only = λ roles are. elim (cases_Bool (is_whole list)) [
     | inl whole ↦ by_test list true whole ∙ ap ok (all_only list roles are)
     | inr halved ↦ absurd (whole_of list roles are halved)
   ];
   halved = λ few odd. by_test list false (is_halved list few odd);
-  refused = λ e h. elim (whole_or_not (is_whole list)) [
+  refused = λ e h. elim (cases_Bool (is_whole list)) [
     | inl whole ↦ absurd (ok_is_no_err (roles_in list) e (sym (by_test list true whole) ∙ h))
     | inr halved ↦
         let cases = halved_cases list halved in

@@ -1,8 +1,7 @@
 -- The word of 16 bits that says how a function is called: the calling convention in the low byte, by the
 -- numbers of `CV_call_e` in Microsoft's cvinfo.h, and above it the bits of `CV_funcattr_t`.
 use Rattle.std.specs.Prelude.{ℕ, Bool}
-use Rattle.pdb_base.specs.Bits.{bits}
-use Rattle.pdb_base.specs.Bits.{is_bit_set}
+use Rattle.pdb_base.specs.Bits.{bits, is_bit_set}
 
 -- the number of the calling convention, 8 bits
 abbrev pub calling_convention : ℕ → ℕ

@@ -1,8 +1,7 @@
 -- The word of 32 bits that says what a pointer is. Its parts are in this order from the lowest bit on, as in
 -- `lfPointerAttr` of Microsoft's cvinfo.h.
 use Rattle.std.specs.Prelude.{ℕ, Bool, ◌==◌, ◌||◌, ◌&&◌, nat_le, if◌then◌else◌, Option, Some, None}
-use Rattle.pdb_base.specs.Bits.{bits}
-use Rattle.pdb_base.specs.Bits.{is_bit_set}
+use Rattle.pdb_base.specs.Bits.{bits, is_bit_set}
 use Rattle.pdb_flags.specs.declared.pointer_kind.PointerKind.TheVariants.{Near32, Far32, Ptr64}
 use Rattle.pdb_flags.specs.declared.pointer_mode.PointerMode.TheVariants.{LValueReference, Member, MemberFunction}
 use Rattle.pdb_flags.specs.declared.pointer_mode.PointerMode.TheVariants.{RValueReference}

@@ -1,8 +1,7 @@
 -- The word of 16 bits that says properties of a class, a union or an enumeration. Its parts are in this order
 -- from the lowest bit on, as in `CV_prop_t` of Microsoft's cvinfo.h.
 use Rattle.std.specs.Prelude.{ℕ, Bool}
-use Rattle.pdb_base.specs.Bits.{bits}
-use Rattle.pdb_base.specs.Bits.{is_bit_set}
+use Rattle.pdb_base.specs.Bits.{bits, is_bit_set}
 
 -- whether the members of the type are packed
 abbrev pub packed : ℕ → Bool

@@ -110,6 +110,5 @@ count-by_start test (frame ∷ frames) = count-insert_by_start test frame (by_st
 pub sorted_by_start : (frames : List FrameData) → IsSortedByStart frames
 sorted_by_start frames = record {
   same = λ test. count-by_start test frames;
-  rises =
-      rises (by_start frames) (ordered-by_start frames);
+  rises = rises (by_start frames) (ordered-by_start frames);
 }

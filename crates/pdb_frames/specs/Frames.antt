@@ -1,7 +1,6 @@
 -- What the records of both formats say about a frame.
 use Rattle.std.specs.Prelude.{◌*◌, ◌%◌, ◌^◌, false, Some, None}
-use Rattle.pdb_base.specs.Bits.{bits}
-use Rattle.pdb_base.specs.Bits.{is_bit_set}
+use Rattle.pdb_base.specs.Bits.{bits, is_bit_set}
 use Rattle.pdb_frames.specs.FrameNumbers.{frame_type_of}
 use Rattle.pdb_frames.specs.declared.frame_type.FrameType.TheVariants as kinds
 use Rattle.pdb_frames.specs.declared.frame_data.FrameData.{FrameData}

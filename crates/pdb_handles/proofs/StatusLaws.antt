@@ -3,16 +3,13 @@ use Rattle.std.specs.{declared.io.ErrorKind.ErrorKind, Prelude.Contains, Option.
 use Rattle.std.specs.declared.io.ErrorKind.TheVariants as kinds
 use Rattle.std.proofs.Common.{◌≡◌, ap, sym, subst, refl, ℕ, zero, suc, ◌+◌, ◌==◌, ◌&&◌, Bool, true, List, [], ◌∷◌}
 use Rattle.std.proofs.Common.{length, slice_get, Option, Some, None, arith}
-use Rattle.std.proofs.lemmas.{Bool.Decides.nat_tests, Option.none-some, Option.cond_some, Option.slice_get_read}
+use Rattle.std.proofs.lemmas.{Bool.Decides.nat_tests, Option.none-some, Option.same_Some, Option.slice_get_read}
 use Rattle.pdb_base.specs.Refusal.{Refusal, invalid_stream_length, io_error, unimplemented_feature}
 use Rattle.pdb_base.specs.Refusal.{unimplemented_symbol_kind, invalid_type_information_header, unimplemented_type_kind}
 use Rattle.pdb_base.specs.Refusal.{unexpected_numeric_prefix, unimplemented_file_checksum_kind}
 use Rattle.pdb_handles.specs.declared.fault.Fault.{Fault}
 use Rattle.pdb_handles.specs.Fault.{fault_of_refusal, error_kind_number, text_number, texts}
 use Rattle.pdb_handles.specs.Told.{IsOurs, candidate, if_told, kind_numbered, refusal_told, text_numbered}
-
-inside : {X : Type 0} (x y : X) → Some x ≡ Some y → x ≡ y
-inside x y is = (cond_some true x y is).1
 
 -- whether texts have the numbers from `n` on
 abbrev are_numbered : ℕ → List (List ℕ) → Bool
@@ -23,7 +20,7 @@ number_at : (n : ℕ) (some : List (List ℕ)) (place : ℕ) (text : List ℕ) �
     → slice_get some place ≡ Some text → text_number text ≡ n + place
 number_at n [] place text are is = absurd (none-some text is)
 number_at n (first ∷ more) zero text are is =
-    let same : text_number first ≡ text_number text = ap text_number (inside first text is) in
+    let same : text_number first ≡ text_number text = ap text_number (same_Some first text is) in
     grind (arith, nat_tests, same, are)
 number_at n (first ∷ more) (suc place) text are is =
     let rest : are_numbered (suc n) more ≡ true = grind (arith, nat_tests, are) in

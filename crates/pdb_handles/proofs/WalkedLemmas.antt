@@ -39,7 +39,7 @@ pub stays : (stand : WalkPosition) (step : Placed) → step_located stand ≡ Ok
 unfolding step_of
 stays stand step is = stays_by stand (slice_get (walk stand.table) (steps_taken stand)) (walk_rest stand.table) step is
 
--- what is written of a record, where the walk then stands behind it
+-- what is written of a record, where the walk is then past it
 pub told_behind : (stand next : WalkPosition) (index : ℕ) (place : RecordPlace) (told : TypeRow) → index
     ≡ index_told stand.index → step_located stand ≡ Ok (Some place, next)
     → IsTypeRow index place (type_of index (record_bytes next.table place)) told → IsToldAt stand place told

@@ -27,7 +27,7 @@ abbrev pub answer_copied : {A : Type 0} → List A → Answer (List A) → Copie
 answer_copied room (Ok items) = items_copied room items
 answer_copied room (Err refusal) = nothing_copied (fault_of_refusal refusal) room
 
--- the answer for what a handle holds, if it holds what is asked, and else `not_open`
+-- the answer for what a handle holds, if it holds what the call is about, and else `not_open`
 abbrev pub copied_of : {A B : Type 0} → List B → (A → Answer (List B)) → Option A → Copied B
 copied_of room answer (Some held) = answer_copied room (answer held)
 copied_of room answer None = nothing_copied not_open room

@@ -13,7 +13,7 @@ abbrev pub value_or_fault : {A : Type 0} → Fault → A → Option A → Found 
 value_or_fault missing old (Some value) = record { fault = fine; value = value }
 value_or_fault missing old None = record { fault = missing; value = old }
 
--- the handle doesn't hold what is asked, and the variable stays as it was
+-- the handle doesn't hold what the call is about, and the variable stays as it was
 abbrev pub not_held : {A : Type 0} → A → Found A
 not_held old = record { fault = not_open; value = old }
 
@@ -22,17 +22,17 @@ abbrev pub answer_or_fault : {A : Type 0} → A → Answer A → Found A
 answer_or_fault old (Ok value) = record { fault = fine; value = value }
 answer_or_fault old (Err refusal) = record { fault = fault_of_refusal refusal; value = old }
 
--- the answer for what a handle holds, if it holds what is asked, and else `not_open`
+-- the answer for what a handle holds, if it holds what the call is about, and else `not_open`
 abbrev pub answered_of : {A B : Type 0} → B → (A → Answer B) → Option A → Found B
 answered_of old answer (Some held) = answer_or_fault old (answer held)
 answered_of old answer None = not_held old
 
--- a value of what a handle holds, if it holds what is asked, and else `not_open`
+-- a value of what a handle holds, if it holds what the call is about, and else `not_open`
 abbrev pub found_of : {A B : Type 0} → B → (A → B) → Option A → Found B
 found_of old number (Some held) = record { fault = fine; value = number held }
 found_of old number None = not_held old
 
--- What is said of a call is so of what a handle holds; or it doesn't hold what is asked, and the call ends as given.
+-- What is said of a call is so of what a handle holds; or it doesn't hold that, and the call ends as given.
 abbrev pub AsksContent : {A T : Type 0} → (A → T → Type 0) → T → Option A → T → Type 0
 AsksContent said closed (Some held) told = said held told
 AsksContent said closed None told = told ≡ closed

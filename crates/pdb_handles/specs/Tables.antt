@@ -55,7 +55,7 @@ pub record Step : Type 0 where
 abbrev pub step_to : Fault → Located → WalkPosition → Step
 step_to fault value stand = record { fault = fault; value = value; held = Some (contents.Table stand) }
 
--- A step returns the place of the next record, and the walk stands behind it; or it returns that no
+-- A step returns the place of the next record, and the walk is past it; or it returns that no
 -- record is left, or the fault of the next record.
 abbrev pub step_outcome : WalkPosition → Answer (Option RecordPlace × WalkPosition) → Step
 step_outcome stand (Ok (Some place, next)) = step_to fine (located_at (index_told stand.index) place) next

@@ -43,7 +43,7 @@ EndsWith count room end fault =
     ((count ≡ room) × (fault ≡ fine)) ⊎ ((count < room) × StopsWith (step_located end) fault)
 
 -- The next records of a walk are written at the front of an array, as many as it has room for or as are left
--- before the walk stops, and the items behind them stay as they were. The walk stands behind the last one.
+-- before the walk stops, and the items behind them stay as they were. The walk is past the last one.
 pub record WritesNext (old : List TypeRow) (stand : WalkPosition) (told : Copied TypeRow)
     (end : WalkPosition) : Type 0 where
   pub rows : List TypeRow

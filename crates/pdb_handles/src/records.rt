@@ -276,12 +276,7 @@ pub fn id_name_in<'t>(alloc: Global, bytes: &'t [u8]) -> Result<Option<RawString
     ensures { Answers (option_map text_bytes) result (of_id id_name bytes.now) }
 {
     let value = id_at(alloc, bytes)?;
-    match &value {
-        IdData::Function(id) => Ok(Some(id.name)),
-        IdData::MemberFunction(id) => Ok(Some(id.name)),
-        IdData::String(id) => Ok(Some(id.name)),
-        _ => Ok(None),
-    }
+    Ok(value.name())
 }
 
 /// Parses the record of an id and returns the indexes that it lists, or None if it isn't a list.

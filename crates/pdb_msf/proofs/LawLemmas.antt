@@ -1,21 +1,20 @@
 -- What the definitions say in other words.
-use Rattle.std.proofs.Common.{◌≡◌, ℕ, zero, suc, ◌+◌, ◌*◌, ◌<◌, ◌≤◌, ◌⊎◌, inl, inr, Bool, true, false, ltb, leb, cond}
+use Rattle.std.proofs.Common.{◌≡◌, ℕ, zero, suc, ◌+◌, ◌*◌, ◌<◌, ◌≤◌, inl, inr, Bool, true, false, ltb, leb, cond}
 use Rattle.std.proofs.Common.{◌&&◌, min, List, [], ◌∷◌, ◌++◌, length, get_or, take, drop, map, refl, sym, ap, ◌∙◌}
 use Rattle.std.proofs.Common.{arith, subst, slice_index, Option, Some, None, Ok, Err}
 use Rattle.std.proofs.lemmas.Bool.{cases_Bool, cases_lt, le-ltb, lt-ltb}
 use Rattle.std.proofs.lemmas.Bool.Decides.{nat_tests}
 use Rattle.std.proofs.lemmas.Nat.{mul-le}
-use Rattle.std.proofs.lemmas.List.{ext_get_or, get_or-map, get_or-take, length-map, length-take, length-drop, drop-drop}
+use Rattle.std.proofs.lemmas.List.{ext_get_or, get_or-map, get_or-take, length-map, length-take}
 use Rattle.std.proofs.lemmas.List.Folds.{list_all_at}
 use Rattle.std.proofs.lemmas.List.FromFn.{get_or-map-range_with_len, length-map-range_with_len}
-use Rattle.std.proofs.lemmas.Option.{slice_get-get_or, slice_get_within, get_or_from_slice_get}
+use Rattle.std.proofs.lemmas.Option.{none-some, same_Some, slice_get-get_or, slice_get_within, get_or_from_slice_get}
 use Rattle.std.specs.List.{list_all, range_with_len, slice_get}
 use Rattle.pdb_base.specs.Refusal.{Refusal, page_reference_out_of_range}
 use Rattle.pdb_base.specs.Answer.{Answer, values_of_all}
-use Rattle.pdb_base.specs.Reading.{number_at, word_at}
-use Rattle.pdb_base.proofs.lemmas.Reading.{front_whole, number_whole}
+use Rattle.pdb_base.proofs.lemmas.Reading.{front_whole, number_there}
 use Rattle.pdb_base.proofs.lemmas.Collected.{ok, err, ok_is, err_is, ok_is_no_err, bind_ok, collects_all}
-use Rattle.pdb_base.proofs.lemmas.Collected.{collected_more, collected_stops}
+use Rattle.pdb_base.proofs.lemmas.Collected.{answer_cases, collected_more, collected_stops, option_cases}
 use Rattle.pdb_msf.specs.declared.header.Geometry.{Geometry}
 use Rattle.pdb_msf.specs.Source.{bytes_at, bytes_or_eof}
 use Rattle.pdb_msf.specs.Pages.{pages, position_of, scatter, words, present, valid_page, page_number, page_numbers}
@@ -24,6 +23,7 @@ use Rattle.pdb_msf.specs.Directory.{PagesOfStream, directory_of, stream_entry_of
 use Rattle.pdb_msf.specs.File.{stream_of}
 use Rattle.pdb_msf.specs.Laws.{IsLeast, Scatters, HasHeaderAtOffsets, AreGood, FirstFault, CutsOnly}
 use Rattle.pdb_msf.proofs.PageLemmas.{pages_reach, pages_tight}
+use Rattle.pdb_msf.proofs.WordLemmas.{word_there}
 
 -- ---- pages
 
@@ -41,15 +41,6 @@ is_least page_size bytes positive = record {
 }
 
 -- ---- what is scattered
-
-abbrev some : {A : Type 0} → A → Option A
-some x = Some x
-
-some_is : {A : Type 0} (x y : A) → some x ≡ some y → x ≡ y
-some_is x y e = cc
-
-some_is_not_none : {A : Type 0} (x : A) → some x ≡ None → ⊥
-some_is_not_none x e = cc
 
 -- one place that is past the end
 place_past : (limit : ℕ) (at : List ℕ) → list_all (λ place. ltb place limit) at ≡ false → (i : ℕ) × (i < length at)
@@ -76,12 +67,12 @@ found_by_index : (file : List ℕ) (f : ℕ → ℕ) (size : ℕ) (bytes : List 
 unfolding bytes_at
 found_by_index file f size bytes e = elim
     (cases_Bool (list_all (λ place. ltb place (length file)) (map f (range_with_len 0 size)))) [
-      | inr none ↦ absurd (some_is_not_none bytes
-          (sym (subst (λ (b : Bool). cond b (Some (map (slice_index file) (map f (range_with_len 0 size)))) None
-          ≡ Some bytes) none e)))
+      | inr none ↦ absurd (none-some bytes
+          (subst (λ (b : Bool). cond b (Some (map (slice_index file) (map f (range_with_len 0 size)))) None
+          ≡ Some bytes) none e))
       | inl all ↦
           let is : map (slice_index file) (map f (range_with_len 0 size)) ≡ bytes =
-          some_is (map (slice_index file) (map f (range_with_len 0 size))) bytes
+          same_Some (map (slice_index file) (map f (range_with_len 0 size))) bytes
           (subst (λ (b : Bool). cond b (Some (map (slice_index file) (map f (range_with_len 0 size)))) None
           ≡ Some bytes) all e) in
           let long : length (map f (range_with_len 0 size)) ≡ size = length-map-range_with_len f 0 size in (
@@ -104,9 +95,9 @@ missing_by_index : (file : List ℕ) (f : ℕ → ℕ) (size : ℕ) → bytes_at
 unfolding bytes_at
 missing_by_index file f size e = elim (cases_Bool
     (list_all (λ place. ltb place (length file)) (map f (range_with_len 0 size)))) [
-      | inl all ↦ absurd (some_is_not_none (map (slice_index file) (map f (range_with_len 0 size)))
-          (subst (λ (b : Bool). cond b (Some (map (slice_index file) (map f (range_with_len 0 size)))) None
-          ≡ None) all e))
+      | inl all ↦ absurd (none-some (map (slice_index file) (map f (range_with_len 0 size)))
+          (sym (subst (λ (b : Bool). cond b (Some (map (slice_index file) (map f (range_with_len 0 size)))) None
+          ≡ None) all e)))
       | inr none ↦
           let past = place_past (length file) (map f (range_with_len 0 size)) none in
           let lt : past.0 < size = omega (arith, past.1, length-map-range_with_len f 0 size) in
@@ -115,22 +106,18 @@ missing_by_index file f size e = elim (cases_Bool
           (past.0, lt, omega (arith, at, past.2))
     ]
 
-option_cases : {A : Type 0} (o : Option A) → ((x : A) × (o ≡ Some x)) ⊎ (o ≡ None)
-option_cases None = inr refl
-option_cases (Some x) = inl (x, refl)
-
 -- bytes that stand so are found
 only_by_index : (file : List ℕ) (f : ℕ → ℕ) (size : ℕ) (bytes : List ℕ) → length bytes ≡ size
     → ((i : ℕ) → i < size → slice_get file (f i) ≡ Some (slice_index bytes i))
     → bytes_at file (map f (range_with_len 0 size)) ≡ Some bytes
 only_by_index file f size bytes len each = elim (option_cases (bytes_at file (map f (range_with_len 0 size)))) [
-  | inr none ↦ absurd (let past = missing_by_index file f size none in
+  | inl none ↦ absurd (let past = missing_by_index file f size none in
       let within : f past.0 < length file = slice_get_within file (f past.0) (slice_index bytes past.0)
       (each past.0 past.1) in omega (arith, past.2, within))
-  | inl there ↦ let are = found_by_index file f size there.0 there.1 in
+  | inr there ↦ let are = found_by_index file f size there.0 there.1 in
       there.1 ∙ ap (λ (r : List ℕ). Some r) (ext_get_or 0 there.0 bytes (are.0 ∙ sym len)
       (λ i lt. let inside : i < size = omega (arith, are.0, lt) in
-      some_is (slice_index there.0 i) (slice_index bytes i) (sym (are.1 i inside) ∙ each i inside)))
+      same_Some (slice_index there.0 i) (slice_index bytes i) (sym (are.1 i inside) ∙ each i inside)))
 ]
 
 pub scatters : (file : List ℕ) (page_size : ℕ) (numbers : List ℕ) (size : ℕ) → Scatters file page_size numbers size
@@ -144,29 +131,19 @@ scatters file page_size numbers size = record {
 
 -- ---- the header
 
-next_word : (view : List ℕ) (offset after : ℕ) → offset + 4 ≡ after → after ≤ length view
-    → number_at 4 (drop offset view) ≡ Ok (word_at offset view, drop after view)
-next_word view offset after is long =
-    number_whole 4 (drop offset view) (omega (arith, length-drop offset view))
-    ∙ ap (λ (n : List ℕ). Ok (word_at offset view, n)) (drop-drop 4 offset view ∙ ap (λ (n : ℕ). drop n view) is)
-
 pub stand_at_offsets : (view : List ℕ) → HasHeaderAtOffsets view
 unfolding fields_of_header
 stand_at_offsets view long =
     rw (
       front_whole 32 view (omega arith),
-      next_word view 32 36 refl (omega arith),
-      next_word view 36 40 refl (omega arith),
-      next_word view 40 44 refl (omega arith),
-      next_word view 44 48 refl (omega arith),
-      next_word view 48 52 refl (omega arith),
+      number_there 4 32 36 view refl (omega arith),
+      number_there 4 36 40 view refl (omega arith),
+      number_there 4 40 44 view refl (omega arith),
+      number_there 4 44 48 view refl (omega arith),
+      number_there 4 48 52 view refl (omega arith),
     ) refl
 
 -- ---- page numbers
-
-pub word_there : (o : Option ℕ) (word : ℕ) → present o ≡ Ok word → o ≡ Some word
-word_there None word e = absurd cc
-word_there (Some there) word e = ap (λ (n : ℕ). Some n) (ok_is there word e)
 
 judged_good : (pages_used word number : ℕ) → valid_page pages_used word ≡ Ok number → (word ≡ number) × (0 < word)
     × (word ≤ pages_used)
@@ -211,10 +188,6 @@ are_good pages_used count words numbers e =
           ∙ ap (λ (n : ℕ). ok n) (get_or_from_slice_get numbers i number 0 is) in
           good_number pages_used words i number here;
     }
-
-answer_cases : {A : Type 0} (r : Answer A) → ((x : A) × (r ≡ Ok x)) ⊎ ((e : Refusal) × (r ≡ Err e))
-answer_cases (Ok x) = inl (x, refl)
-answer_cases (Err e) = inr (e, refl)
 
 first_in : {A : Type 0} (f : ℕ → Answer A) (count : ℕ) (e : Refusal)
     → values_of_all (map f (range_with_len 0 count)) ≡ Err e

@@ -8,21 +8,21 @@ use Rattle.std.proofs.lemmas.Bool.{ltb-true, leb-true, lt-ltb, le-leb, eq-eqb}
 use Rattle.std.proofs.lemmas.List.{take_all, take_more}
 use Rattle.std.proofs.lemmas.Option.{slice_get-get_or}
 use Rattle.pdb_base.specs.declared.error.Error.{Error}
-use Rattle.pdb_base.specs.Refusal.{Refusal, refusal_of, unexpected_eof, stream_not_found}
+use Rattle.pdb_base.specs.Refusal.{refusal_of, unexpected_eof, stream_not_found}
 use Rattle.pdb_base.specs.Answer.{Answer, AnswersUnless, values_of_all, ok_if}
-use Rattle.pdb_base.proofs.lemmas.Collected.{ok_is, err_is, ok_is_no_err, bind_ok, collected_more}
+use Rattle.pdb_base.proofs.lemmas.Collected.{ok_is, err_is, ok_is_no_err, bind_ok, collected_more, required_holds}
 use Rattle.pdb_msf.specs.declared.directory.StreamPlace.{StreamPlace}
 use Rattle.pdb_msf.specs.Source.{HasFailed, bytes_or_eof}
 use Rattle.pdb_msf.specs.Pages.{pages, page_number, page_numbers, present, scatter, words}
 use Rattle.pdb_msf.specs.Header.{Head, directory_pages}
 use Rattle.pdb_msf.specs.Directory.{PagesOfStream, absent, directory_numbers, directory_of, stream_entry_of, limit_size}
-use Rattle.pdb_msf.specs.Directory.{stream_place_in, sizes_of}
-use Rattle.pdb_msf.specs.Directory.{start_of}
+use Rattle.pdb_msf.specs.Directory.{stream_place_in, sizes_of, start_of}
 use Rattle.pdb_msf.specs.File.{stream_of}
 use Rattle.pdb_msf.specs.Laws.{AreGood, IsDirectory, IsStream, Moment, IsLater, AnswersAlike, AgreeUnless}
 use Rattle.pdb_msf.proofs.lemmas.Kept.{kept_here, kept_then}
 use Rattle.pdb_msf.proofs.PlaceLemmas.{HasSize, entry_found, stands}
-use Rattle.pdb_msf.proofs.LawLemmas.{are_good, found_there, scatters, word_there}
+use Rattle.pdb_msf.proofs.LawLemmas.{are_good, found_there, scatters}
+use Rattle.pdb_msf.proofs.WordLemmas.{word_there}
 
 -- ---- where a stream stands
 
@@ -30,10 +30,6 @@ sizes_follow : (n : ℕ) (all : List ℕ) → slice_get (drop 1 all) n ≡ slice
 sizes_follow n [] = refl
 sizes_follow n (word ∷ all) = let next : 1 + n ≡ suc n = omega arith in
     ap (λ (i : ℕ). slice_get (word ∷ all) i) (sym next)
-
-passed : (b : Bool) (e : Refusal) (x : Unit {0}) → ok_if b e ≡ Ok x → b ≡ true
-passed true e x is = refl
-passed false e x is = absurd cc
 
 negated : (b : Bool) → not b ≡ true → b ≡ false
 negated true is = absurd cc
@@ -63,12 +59,12 @@ stands_where page_size n d place e =
     let same : meant ≡ place = ok_is meant place reached.2 in
     let size : sized.0 ≡ place.size = ap (λ (p : StreamPlace). p.size) same in
     let begins : start ≡ place.start = ap (λ (p : StreamPlace). p.start) same in
-    let within : start ≤ length d = leb-true start (length d) (passed _ unexpected_eof reached.0 reached.1) in
-    let other = negated (eqb sized.0 absent) (passed _ (stream_not_found n) there.0 there.1) in
+    let within : start ≤ length d = leb-true start (length d) (required_holds _ unexpected_eof reached.0 reached.1) in
+    let other = negated (eqb sized.0 absent) (required_holds _ (stream_not_found n) there.0 there.1) in
     record {
       count = counted.0;
       counted = word_there (slice_get (words d) 0) counted.0 counted.1;
-      known = ltb-true n counted.0 (passed _ (stream_not_found n) known.0 known.1);
+      known = ltb-true n counted.0 (required_holds _ (stream_not_found n) known.0 known.1);
       sized = word_there (slice_get (sizes_of d) n) sized.0 sized.1 ∙ ap (λ (k : ℕ). Some k) size;
       there = λ gone. let equal : eqb sized.0 absent ≡ true = eq-eqb sized.0 absent (size ∙ gone) in cc;
       is = sym begins;
@@ -175,11 +171,7 @@ only_stream file head n limit bytes is =
     let d = is.directory in
     let read = only_directory file head d is.has in
     let sized : HasSize n d is.count is.size =
-    record {
-      counted = record { has = record { is = is.counted }; known = is.known };
-      is = sizes_follow n (words d)
-          ∙ is.sized;
-    } in
+    record { counted = is.counted; known = is.known; is = sizes_follow n (words d) ∙ is.sized } in
     let stood = stands g.page_size n d is.count is.size sized is.there
     (subst (λ (k : ℕ). k ≤ length d) is.place is.reached) in
     let place : StreamPlace = record { size = is.size; start = is.start } in

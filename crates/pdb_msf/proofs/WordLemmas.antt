@@ -1,6 +1,6 @@
 -- Reading numbers from bytes, and the words that bytes spell.
 use Rattle.std.proofs.Common.{◌≡◌, ℕ, zero, suc, ◌+◌, ◌*◌, ◌<◌, ◌≤◌, List, [], ◌∷◌, length, take, drop, refl, sym, ap}
-use Rattle.std.proofs.Common.{◌∙◌, arith, Some, None, Ok, Err}
+use Rattle.std.proofs.Common.{◌∙◌, arith, Option, Some, None, Ok, Err}
 use Rattle.std.specs.List.{slice_get, sum_by}
 use Rattle.std.proofs.lemmas.List.{drop-drop}
 use Rattle.std.proofs.lemmas.Option.{slice_get_within, get_or_from_slice_get}
@@ -10,7 +10,7 @@ use Rattle.pdb_base.specs.Refusal.{Refusal, unexpected_eof}
 use Rattle.pdb_base.proofs.lemmas.Collected.{ok_is, ok_is_no_err}
 use Rattle.pdb_base.specs.Reading.{front_at, number_at}
 use Rattle.pdb_base.proofs.lemmas.Reading.{number_whole}
-use Rattle.pdb_msf.specs.Pages.{words}
+use Rattle.pdb_msf.specs.Pages.{present, words}
 
 -- ---- one word
 
@@ -90,6 +90,10 @@ pub no_word : (all : List ℕ) (i : ℕ) (bytes : List ℕ) (e : Refusal) → wo
 no_word all i bytes e here h =
     let missing = word_missing bytes e h in
     (sym (slice_get-drop i all) ∙ ap (λ (ws : List ℕ). slice_get ws 0) (sym here ∙ missing.0), missing.1)
+
+pub word_there : (o : Option ℕ) (word : ℕ) → present o ≡ Ok word → o ≡ Some word
+word_there None word e = absurd cc
+word_there (Some there) word e = ap (λ (n : ℕ). Some n) (ok_is there word e)
 
 pub word_past : (all : List ℕ) (i : ℕ) → slice_get all i ≡ None → length all ≤ i
 word_past [] i is = omega arith

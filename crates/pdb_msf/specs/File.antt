@@ -20,7 +20,7 @@ pub record Opened (S : Type 0) : Type 0 where
   pub asked : ℕ
   pub located : Bool
 
--- No stream of the file has been asked for yet: no bytes were requested to read
+-- No stream of the file has been read yet: no bytes were requested to read
 -- streams, and the directory isn't kept.
 pub record IsFresh {S : Type 0} (file : Opened S) : Type 0 where
   pub asked : file.asked ≡ 0

@@ -29,7 +29,7 @@ with_slice [] more = more ∷ []
 with_slice (slice ∷ []) more = join_slices slice more
 with_slice (slice ∷ (next ∷ slices)) more = slice ∷ with_slice (next ∷ slices) more
 
--- the slices of pages that are added in turn, starting from none
+-- the slices of pages that are added one after another, starting from none
 abbrev pub slices_of : ℕ → List ℕ → List SourceSlice
 slices_of page_size pages = fold (λ slices page. with_slice slices (page_slice page_size page)) [] pages
 

@@ -41,6 +41,6 @@ present (Some word) = Ok word
 abbrev pub page_number : ℕ → List ℕ → ℕ → Answer ℕ
 page_number pages_used numbers i = present (slice_get numbers i) >>= valid_page pages_used
 
--- the first `count` words as page numbers, each checked in turn
+-- the first `count` words as page numbers, each checked before the next
 unfoldable pub page_numbers : ℕ → ℕ → List ℕ → Answer (List ℕ)
 page_numbers pages_used count numbers = values_of_all (map (page_number pages_used numbers) (range_with_len 0 count))

@@ -1,6 +1,6 @@
 //! The directory of a file: which streams it holds, and where the page numbers of each begin.
 
-ghost use Rattle.std.specs.Prelude.{◌≡◌, ◌*◌, ◌^◌, ◌<◌, ◌≤◌, false, length, vec_capacity, vec_len, IfOk};
+ghost use Rattle.std.specs.Prelude.{◌≡◌, ◌*◌, ◌^◌, ◌<◌, ◌≤◌, false, length, slice_get, vec_capacity, vec_len, IfOk};
 ghost use Rattle.pdb_base.specs.Memory.{FailsOnlyForMemory};
 ghost use Rattle.pdb_base.specs.Answer.{Answers, AnswersUnless, Gives};
 ghost use Rattle.pdb_msf.specs.Source.{HasFailed, IsKept, KeepsKind};
@@ -8,9 +8,10 @@ ghost use Rattle.pdb_msf.specs.Header.{directory_pages, header_view, IsHeader};
 ghost use Rattle.pdb_msf.specs.Asked.{Asks};
 ghost use Rattle.pdb_msf.specs.Exactly.{RefusesExactly};
 ghost use Rattle.pdb_msf.specs.Directory.{absent, directory_numbers, directory_of, stream_entry_of, entry_view};
-ghost use Rattle.pdb_msf.specs.Directory.{limit_size, pages_taken, stream_place_in};
-ghost use Rattle.pdb_msf.specs.Directory.{starts_of, stream_count_in, HasPages, HasStarts};
+ghost use Rattle.pdb_msf.specs.Directory.{limit_size, pages_taken, sizes_of, stream_place_in, starts_of};
+ghost use Rattle.pdb_msf.specs.Directory.{stream_count_in, HasPages, HasStarts};
 ghost use Rattle.pdb_msf.specs.File.{locating};
+ghost use Rattle.pdb_msf.specs.Pages.{present};
 
 use crate::header::{Geometry, Header};
 use crate::scattered::CountedSource;
@@ -162,6 +163,16 @@ impl Directory {
         Ok(count)
     }
 
+    /// Returns the size that the directory has for a stream, which may be that of an absent one.
+    fn size(&self, stream_number: u32) -> Result<u32>
+        ensures { Gives (λ size. size) result (present (slice_get (sizes_of self.now.bytes.items) stream_number)) }
+    {
+        let mut buffer = ParseBuffer::from(self.bytes.as_slice());
+        buffer.seek(4 + 4 * stream_number as usize);
+        let size = buffer.parse_u32()?;
+        Ok(size)
+    }
+
     /// Returns the place of a stream in the directory.
     #[tactic(auto, unfolding(crate::specs::Directory::stream_place_in))]
     pub fn place(&self, page_size: u32, stream_number: u32) -> Result<StreamPlace>
@@ -169,13 +180,11 @@ impl Directory {
         ensures place { Gives (λ place. place) result (stream_place_in page_size stream_number self.now.bytes.items) }
         ensures there { IfOk result (λ place. place.size < absent) }
     {
-        let mut buffer = ParseBuffer::from(self.bytes.as_slice());
-        let count = buffer.parse_u32()?;
+        let count = self.stream_count()?;
         if stream_number >= count {
             return Err(Error::StreamNotFound(stream_number));
         }
-        buffer.seek(4 + 4 * stream_number as usize);
-        let size = buffer.parse_u32()?;
+        let size = self.size(stream_number)?;
         if size == ABSENT {
             return Err(Error::StreamNotFound(stream_number));
         }

@@ -72,7 +72,7 @@ impl Geometry {
         Ok(number)
     }
 
-    /// Reads the next `count` words as page numbers, and checks each in turn.
+    /// Reads the next `count` words as page numbers, and checks each before the next.
     pub fn page_numbers(
         self,
         alloc: Global,

@@ -33,9 +33,9 @@ pub fn scatter()
     ensures { (file : List ℕ) (page_size : ℕ) (numbers : List ℕ) (size : ℕ) → Scatters file page_size numbers size }
 {}
 
-/// Pages that are added in turn are joined into slices that are exactly their longest runs: a slice
-/// is a run of pages of which each is one above the page before, and no two neighbours could be
-/// joined.
+/// Pages that are added one after another are joined into slices that are exactly their longest
+/// runs: a slice is a run of pages of which each is one above the page before, and no two
+/// neighbours could be joined.
 #[tactic(auto, using(crate::proofs::RunLemmas::are_joined))]
 pub fn page_list()
     ensures { (page_size : ℕ) (pages : List ℕ) → 0 < page_size → AreJoined page_size pages }

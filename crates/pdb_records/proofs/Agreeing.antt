@@ -1,30 +1,19 @@
 -- Readers that agree with grammars, put together.
-use Rattle.std.proofs.Common.{◌≡◌, ◌⊎◌, inl, inr, ℕ, List, refl, sym, ap, ◌∙◌, subst, Ok, Err}
+use Rattle.std.proofs.Common.{◌≡◌, ◌⊎◌, inl, inr, ℕ, List, sym, ap, ◌∙◌, subst, Ok, Err}
 use Rattle.pdb_base.specs.Refusal.{Refusal, unexpected_eof}
 use Rattle.pdb_base.specs.Answer.{Answer, ◌>>=◌}
 use Rattle.pdb_base.specs.Spelling.{Begins, ReadsWhatIsSpelled}
-use Rattle.pdb_base.proofs.lemmas.Collected.{ok, err, ok_is, err_is, ok_is_no_err, bind_ok}
+use Rattle.pdb_base.proofs.lemmas.Collected.{ok, err, ok_is, err_is, ok_is_no_err, bind_ok, answer_cases, bind_err}
 use Rattle.pdb_records.specs.Agreement.{Agrees, NoTwoValues}
 use Rattle.pdb_records.specs.Fault.{BeginsNone}
 
--- an answer is a value or a refusal
-pub answer_cases : {A : Type 0} (answer : Answer A) → ((x : A) × (answer ≡ Ok x)) ⊎ ((e : Refusal) × (answer ≡ Err e))
-answer_cases (Ok x) = inl (x, refl)
-answer_cases (Err e) = inr (e, refl)
-
--- what stands behind a value, and behind a refusal
+-- what follows a value, and what follows a refusal
 pub bind_at : {A B : Type 0} (answer : Answer A) (f : A → Answer B) (x : A) → answer ≡ Ok x → (answer >>= f) ≡ f x
 bind_at {A} answer f x is = ap (λ (r : Answer A). r >>= f) is
 
 pub bind_no : {A B : Type 0} (answer : Answer A) (f : A → Answer B) (e : Refusal) → answer ≡ Err e
     → (answer >>= f) ≡ Err e
 bind_no {A} answer f e is = ap (λ (r : Answer A). r >>= f) is
-
--- a refusal behind which no other can come
-pub mapped_err : {A B : Type 0} (answer : Answer A) (f : A → B) (e : Refusal) → (answer >>= λ x. Ok (f x)) ≡ Err e
-    → answer ≡ Err e
-mapped_err {A} {B} (Ok x) f e is = absurd (ok_is_no_err (f x) e is)
-mapped_err {A} {B} (Err d) f e is = ap (λ (r : Refusal). err r) (err_is {A = B} d e is)
 
 -- the same reader, by a grammar in other words
 pub reworded : {A : Type 0} (read : List ℕ → Answer (A × List ℕ)) (Is To : List ℕ → A → List ℕ → Type 0)
@@ -71,7 +60,7 @@ mapped {A} {B} f one Is Fails agrees = record {
   only = λ bytes y rest is.
       bind_at (one bytes) (λ x. ok (f x.0, x.1)) (is.0, rest) (agrees.only bytes is.0 rest is.1)
       ∙ ap (λ (z : B). ok (z, rest)) is.2;
-  failed = λ bytes e is. agrees.failed bytes e (mapped_err (one bytes) (λ x. (f x.0, x.1)) e is);
+  failed = λ bytes e is. agrees.failed bytes e (bind_err (one bytes) (λ x. (f x.0, x.1)) e is);
   fails = λ bytes e is. bind_no (one bytes) (λ x. ok (f x.0, x.1)) e (agrees.fails bytes e is);
 }
 

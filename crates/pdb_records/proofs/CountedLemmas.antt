@@ -13,15 +13,14 @@ use Rattle.pdb_base.specs.Memory.{HasItem}
 use Rattle.pdb_base.specs.Reading.{front_at, number_at}
 use Rattle.pdb_base.specs.Repeated.{SpellsEach, read_times}
 use Rattle.pdb_base.specs.Spelling.{SpellsNumber, Begins}
-use Rattle.pdb_base.proofs.lemmas.Collected.{err, err_is, ok, ok_is, ok_is_no_err}
-use Rattle.pdb_base.proofs.lemmas.Reading.{front_cut, front_whole}
+use Rattle.pdb_base.proofs.lemmas.Collected.{err, err_is, ok, ok_is, ok_is_no_err, answer_cases}
+use Rattle.pdb_base.proofs.lemmas.Reading.{front_cut, front_whole, number_ends}
 use Rattle.pdb_base.proofs.lemmas.Spelling.{numbers}
 use Rattle.pdb_records.specs.Agreement.{Agrees}
 use Rattle.pdb_records.specs.Row.{Row, Assigns, Stops, row}
 use Rattle.pdb_records.specs.Shape.{SpellsIndex, SpellsTimes, as_id, as_type, index_at, id_index, type_index}
-use Rattle.pdb_records.proofs.Agreeing.{answer_cases, bind_at, bind_no}
+use Rattle.pdb_records.proofs.Agreeing.{bind_at, bind_no}
 use Rattle.pdb_records.proofs.RowLaws.{rows}
-use Rattle.pdb_records.proofs.ShapeLaws.{number_ends}
 use Rattle.pdb_records.specs.Records.{arguments_end}
 use Rattle.pdb_records.proofs.StepLemmas.{indexes_end, indexes_short}
 use Rattle.pdb_records.proofs.TakesLemmas.{begins_length}

@@ -4,17 +4,15 @@ use Rattle.std.proofs.Common.{sym, ap, ◌∙◌, subst, arith, length-append, O
 use Rattle.std.proofs.lemmas.Bool.{cases_lt, le-leb, lt-leb}
 use Rattle.pdb_base.specs.Refusal.{Refusal, unexpected_eof}
 use Rattle.pdb_base.specs.Answer.{Answer, ◌>>=◌}
-use Rattle.pdb_base.specs.Numeric.{num_at}
+use Rattle.pdb_base.specs.Numeric.{num_at, Numeral, unsigned_leaves}
 use Rattle.pdb_base.specs.Spelling.{SpellsNum, SpellsNumeral, Begins}
-use Rattle.pdb_base.specs.Numeric.{Numeral, unsigned_leaves}
-use Rattle.pdb_base.proofs.lemmas.Collected.{ok, err, ok_is, err_is, ok_is_no_err, bind_ok}
+use Rattle.pdb_base.proofs.lemmas.Collected.{ok, err, ok_is, err_is, ok_is_no_err, bind_ok, answer_cases, bind_err}
 use Rattle.pdb_records.specs.Agreement.{Agrees}
 use Rattle.pdb_records.specs.Shape.{num}
 use Rattle.pdb_records.specs.Dimensions.{IsDimension, NoDimension, HasAnotherDimension, AreDimensions}
-use Rattle.pdb_records.specs.Dimensions.{NoDimensionBehind}
-use Rattle.pdb_records.specs.Dimensions.{NoDimensions, dimension_at, behind_dimension, dimensions_upto, dimensions_at}
-use Rattle.pdb_records.specs.Dimensions.{largest_dimension, too_large}
-use Rattle.pdb_records.proofs.Agreeing.{answer_cases, bind_at, bind_no, mapped_err}
+use Rattle.pdb_records.specs.Dimensions.{NoDimensionBehind, NoDimensions, dimension_at, behind_dimension}
+use Rattle.pdb_records.specs.Dimensions.{dimensions_upto, dimensions_at, largest_dimension, too_large}
+use Rattle.pdb_records.proofs.Agreeing.{bind_at, bind_no}
 use Rattle.pdb_records.proofs.ShapeLaws.{shapes}
 
 -- ---- one dimension
@@ -163,7 +161,7 @@ failed_behind most failed bytes n [] here fits e is =
 failed_behind most failed bytes n (zero ∷ mid) here fits e is = absurd (ok_is_no_err (n ∷ [], mid) e is)
 failed_behind most failed bytes n (suc byte ∷ mid) here fits e is =
     let more = failed (suc byte ∷ mid) fits e
-    (mapped_err (dimensions_upto most (suc byte ∷ mid)) (λ ms. (n ∷ ms.0, ms.1)) e is) in
+    (bind_err (dimensions_upto most (suc byte ∷ mid)) (λ ms. (n ∷ ms.0, ms.1)) e is) in
     (n ∷ more.0, (suc byte ∷ mid, here, inr (goes_on byte mid, more.1)))
 
 failed_upto : (most : ℕ) (bytes : List ℕ) → length bytes < most → (e : Refusal) → dimensions_upto most bytes ≡ Err e

@@ -3,25 +3,20 @@ use Rattle.std.proofs.Common.{◌≡◌, ◌≢◌, inl, inr, ℕ, zero, suc, �
 use Rattle.std.proofs.Common.{refl, sym, ap, ◌∙◌, arith, length-append, Bool, true, false, ltb, Ok, Err}
 use Rattle.std.proofs.lemmas.Bool.{cases_lt, le-ltb, lt-ltb, false≢true}
 use Rattle.std.proofs.lemmas.List.{take-append-drop, length-take-le}
-use Rattle.pdb_base.specs.Endian.{little_number}
 use Rattle.pdb_base.specs.Refusal.{Refusal, unexpected_eof}
 use Rattle.pdb_base.specs.Answer.{Answer, ◌>>=◌}
 use Rattle.pdb_base.specs.Reading.{front_at, number_at, peek_number}
-use Rattle.pdb_base.proofs.lemmas.Collected.{ok, err, ok_is, err_is, ok_is_no_err}
-use Rattle.pdb_base.proofs.lemmas.Reading.{number_cut, number_whole}
+use Rattle.pdb_base.proofs.lemmas.Collected.{ok, err, ok_is, err_is, ok_is_no_err, answer_cases}
+use Rattle.pdb_base.proofs.lemmas.Reading.{number_cut}
 use Rattle.pdb_records.specs.Dimensions.{IsDimension, HasAnotherDimension, dimension_at, dimensions_at, end_at}
 use Rattle.pdb_records.specs.Padding.{least_pad, behind_pad, BeginsPad, padding_at}
-use Rattle.pdb_records.proofs.Agreeing.{answer_cases, bind_at, bind_no}
+use Rattle.pdb_records.proofs.Agreeing.{bind_at, bind_no}
 use Rattle.pdb_records.proofs.StepLemmas.{behind, behind_more}
 use Rattle.pdb_records.proofs.PaddingLaws.{none_at, cut_at, pad_at}
 use Rattle.pdb_records.proofs.DimensionLaws.{dimension_agrees, dimensions_agree, one_more, num_takes}
+use Rattle.pdb_base.proofs.lemmas.Front.{byte_read}
 
 -- a number of one byte is the first byte
-pub byte_read : (byte : ℕ) (rest : List ℕ) → number_at 1 (byte ∷ rest) ≡ Ok (byte, rest)
-byte_read byte rest =
-    let first : little_number 1 (byte ∷ []) ≡ byte = omega arith in
-    number_whole 1 (byte ∷ rest) (omega arith) ∙ ap (λ (n : ℕ). ok (n, rest)) first
-
 pub no_byte_read : number_at 1 [] ≡ Err unexpected_eof
 no_byte_read = number_cut 1 [] (omega arith)
 

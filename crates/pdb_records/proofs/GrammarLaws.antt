@@ -112,7 +112,7 @@ array_agrees strided =
     (λ head mid. dimensions_to_end mid >>= λ ns. ok (array_of head ns.0, ns.1)) _ _ (rows (array_row strided))
     (λ head. mapped (array_of head) dimensions_to_end AreLastDimensions NoLastDimensions last_agree)
 
--- ---- what stands behind a leaf
+-- ---- what follows a leaf
 
 data_agrees : (number : ℕ) (leaf : Leaf) → Agrees (data_at number leaf) (IsData number leaf) (NoData number leaf)
 data_agrees number (Plain leaf) = mapped values.plain (row (row_of number leaf)) (Assigns (row_of number leaf))

@@ -10,10 +10,11 @@ use Rattle.pdb_records.specs.Fault.{IsFaultOfBytes, Judged, BeginsBadPointer, Fi
 use Rattle.pdb_records.specs.Row.{Row, gives, field, Stops, row}
 use Rattle.pdb_records.specs.Padding.{padding_at, IsPaddedShort}
 use Rattle.pdb_records.specs.Dimensions.{dimension_at, NoDimension, NoDimensionBehind, NoDimensions}
-use Rattle.pdb_records.proofs.ShapeLaws.{shapes, number_ends}
+use Rattle.pdb_records.proofs.ShapeLaws.{shapes}
 use Rattle.pdb_records.proofs.RowLaws.{rows}
 use Rattle.pdb_records.proofs.PaddingLaws.{padding_agrees}
 use Rattle.pdb_records.proofs.DimensionLaws.{dimension_agrees}
+use Rattle.pdb_base.proofs.lemmas.Reading.{number_ends}
 
 -- a refusal that is a fault of bytes
 pub is_fault : (refusal fault : Refusal) → refusal ≡ fault → IsFaultOfBytes fault → IsFaultOfBytes refusal

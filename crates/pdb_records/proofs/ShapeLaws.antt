@@ -1,9 +1,8 @@
 -- Shapes are read as they are spelled.
-use Rattle.std.proofs.Common.{◌≡◌, ◌⊎◌, inl, inr, ℕ, zero, suc, ◌==◌, Bool, true, false, List, [], ◌∷◌, ◌++◌, length}
-use Rattle.std.proofs.Common.{refl, sym, ap, ◌∙◌, subst, arith, append_assoc, Option, Some, None, Ok, Err, ltb}
-use Rattle.std.proofs.Common.{if◌then◌else◌}
-use Rattle.std.proofs.lemmas.Bool.{cases_lt, le-ltb, lt-ltb}
-use Rattle.pdb_base.specs.Endian.{little_number}
+use Rattle.std.proofs.Common.{◌≡◌, ◌⊎◌, inl, inr, ℕ, zero, suc, ◌==◌, Bool, true, false, List, [], ◌∷◌, ◌++◌, refl, sym}
+use Rattle.std.proofs.Common.{ap, ◌∙◌, subst, arith, append_assoc, Option, Some, None, Ok, Err, if◌then◌else◌}
+use Rattle.std.proofs.lemmas.Bool.{cases_Bool, cases_lt}
+use Rattle.std.proofs.lemmas.Option.{none-some}
 use Rattle.pdb_base.specs.Refusal.{Refusal, unexpected_eof, unexpected_numeric_prefix, unimplemented_type_kind}
 use Rattle.pdb_base.specs.Answer.{Answer, ◌>>=◌}
 use Rattle.pdb_base.specs.Reading.{front_at, number_at, text_at, pascal_text_at}
@@ -13,6 +12,7 @@ use Rattle.pdb_base.specs.Spelling.{SpellsNumber, SpellsNum, SpellsVariant, Spel
 use Rattle.pdb_base.specs.Spelling.{ReadsWhatIsSpelled}
 use Rattle.pdb_base.specs.Laws.{BeginsBadly, RefusesPrefixFirst}
 use Rattle.pdb_base.proofs.lemmas.Collected.{ok, err, ok_is, err_is, ok_is_no_err, bind_ok}
+use Rattle.pdb_base.proofs.lemmas.Collected.{answer_cases, bind_err, option_cases}
 use Rattle.pdb_base.proofs.lemmas.Spelling.{numbers, texts, pascal_texts}
 use Rattle.pdb_base.proofs.lemmas.Numeric.{nums, variants, num_refusals, variant_refusals}
 use Rattle.pdb_flags.specs.PointerAttributes.{is_pointer_word}
@@ -23,38 +23,16 @@ use Rattle.pdb_records.specs.Shape.{pointer_word, text, when, times, Spells, Spe
 use Rattle.pdb_records.specs.Shape.{SpellsWhen, SpellsTimes, as_type, as_id, type_named, id_named, ends_texts}
 use Rattle.pdb_records.specs.Shape.{pointer_leaf, index_at, pointer_word_at, text_by, when_at, read_shape}
 use Rattle.pdb_records.specs.Fault.{BeginsNone, Judged, BeginsBadPointer, FirstOf, Fault, Refuses}
-use Rattle.pdb_records.proofs.Agreeing.{answer_cases, bind_at, bind_no, mapped_err, reworded, given, mapped, chained}
-use Rattle.pdb_records.proofs.Agreeing.{by_fault, by_end, with_none}
+use Rattle.pdb_records.proofs.Agreeing.{bind_at, bind_no, reworded, given, mapped, chained, by_fault, by_end, with_none}
+use Rattle.pdb_base.proofs.lemmas.Reading.{front_ends, number_ends}
 
 -- ---- numbers, and texts that end with a NUL or stand behind their length
 
-front_ends : (count : ℕ) (bytes : List ℕ) (e : Refusal) → front_at count bytes ≡ Err e → e ≡ unexpected_eof
-unfolding front_at
-front_ends count bytes e is = elim (cases_lt (length bytes) count) [
-  | inl short ↦ let test : ltb (length bytes) count ≡ true = lt-ltb (length bytes) count short in
-      sym (err_is {A = List ℕ × List ℕ} unexpected_eof e (rw test at is))
-  | inr long ↦ let test : ltb (length bytes) count ≡ false = le-ltb (length bytes) count long in
-      absurd (ok_is_no_err _ e (rw test at is))
-]
-
-bool_cases : (b : Bool) → (b ≡ true) ⊎ (b ≡ false)
-bool_cases true = inl refl
-bool_cases false = inr refl
-
-option_cases : {A : Type 0} (o : Option A) → (o ≡ None) ⊎ ((x : A) × (o ≡ Some x))
-option_cases None = inl refl
-option_cases (Some x) = inr (x, refl)
-
-pub number_ends : (width : ℕ) (bytes : List ℕ) (e : Refusal) → number_at width bytes ≡ Err e → e ≡ unexpected_eof
-unfolding number_at
-number_ends width bytes e is = front_ends width bytes e
-    (mapped_err (front_at width bytes) (λ f. (little_number width f.0, f.1)) e is)
-
 text_ends : (bytes : List ℕ) (e : Refusal) → text_at bytes ≡ Err e → e ≡ unexpected_eof
 text_ends [] e is = sym (err_is {A = List ℕ × List ℕ} unexpected_eof e is)
-text_ends (byte ∷ bytes) e is = elim (bool_cases (byte == 0)) [
+text_ends (byte ∷ bytes) e is = elim (cases_Bool (byte == 0)) [
   | inl nul ↦ absurd (ok_is_no_err ([], bytes) e (rw nul at is))
-  | inr other ↦ text_ends bytes e (mapped_err (text_at bytes) (λ t. (byte ∷ t.0, t.1)) e (rw other at is))
+  | inr other ↦ text_ends bytes e (bind_err (text_at bytes) (λ t. (byte ∷ t.0, t.1)) e (rw other at is))
 ]
 
 counted_ends : (bytes : List ℕ) (e : Refusal) → pascal_text_at bytes ≡ Err e → e ≡ unexpected_eof
@@ -99,7 +77,7 @@ indexes_agree : {A : Type 0} (said : ℕ → A)
     → Agrees (index_at said) (Begins (SpellsIndex said))
     (λ bytes e. BeginsNone (SpellsIndex said) bytes × (e ≡ unexpected_eof))
 indexes_agree {A} said = by_end (SpellsIndex said) (index_at said) (indexes said)
-    (λ bytes e is. number_ends 4 bytes e (mapped_err (number_at 4 bytes) (λ n. (said n.0, n.1)) e is))
+    (λ bytes e is. number_ends 4 bytes e (bind_err (number_at 4 bytes) (λ n. (said n.0, n.1)) e is))
 
 -- ---- refusals that name a number
 
@@ -134,20 +112,17 @@ prefix_cases leaves bytes = elim (answer_cases (number_at 2 bytes)) [
         there.0.0,
         record {
           rest = there.0.1;
-          begins =
-              (numbers 2).found bytes there.0.0 there.0.1 there.1;
+          begins = (numbers 2).found bytes there.0.0 there.0.1 there.1;
           large = large;
           unknown = none;
         },
       )
       | inr some ↦ inr (λ p bad. let same = same_number 2 bytes there.0.0 p there.0.1 bad.rest there.1 bad.begins in
-          absurd (some_is_none some.0 (sym some.1 ∙ ap (λ (n : ℕ). kind_behind leaves n) (sym same) ∙ bad.unknown)))
+          absurd (none-some some.0 (sym (sym some.1 ∙ ap (λ (n : ℕ). kind_behind leaves n) (sym same) ∙ bad.unknown))))
     ]
   ]
   | inr none ↦ inr (λ p bad. no_number 2 bytes none.0 p bad.rest none.1 bad.begins)
-] where
-  some_is_none : {A : Type 0} (x : A) → Some x ≡ None → ⊥
-  some_is_none x is = cc
+]
 
 prefixed_agree : {A : Type 0} (Spells : A → List ℕ → Type 0) (read : List ℕ → Answer (A × List ℕ))
     (leaves : List (ℕ × NumberKind))
@@ -177,7 +152,7 @@ pointers = record {
   found = λ bytes word rest is.
       let read = bind_ok (number_at 4 bytes) (λ n. if is_pointer_word n.0 then Ok n else Err
       (unimplemented_type_kind pointer_leaf)) (word, rest) is in
-      elim (bool_cases (is_pointer_word read.0.0)) [
+      elim (cases_Bool (is_pointer_word read.0.0)) [
         | inl good ↦
             let same : read.0 ≡ (word, rest) = ok_is read.0 (word, rest) (rw good at read.2) in
             let begins = (numbers 4).found bytes read.0.0 read.0.1 read.1 in
@@ -185,8 +160,7 @@ pointers = record {
             record {
               front = begins.front;
               spelled = record { spelled = begins.spelled; good = good };
-              is =
-                  begins.is;
+              is = begins.is;
             } in
             subst (λ (p : ℕ × List ℕ). Begins SpellsPointer bytes p.0 p.1) same all
         | inr bad ↦ absurd (ok_is_no_err (word, rest) (unimplemented_type_kind pointer_leaf) (sym (rw bad at read.2)))
@@ -206,7 +180,7 @@ pointer_faults bytes e is = elim (answer_cases (number_at 4 bytes)) [
       let judged = sym (bind_at (number_at 4 bytes)
       (λ n. if is_pointer_word n.0 then Ok n else Err (unimplemented_type_kind pointer_leaf)) there.0 there.1)
       ∙ is in
-      elim (bool_cases (is_pointer_word there.0.0)) [
+      elim (cases_Bool (is_pointer_word there.0.0)) [
         | inl good ↦ absurd (ok_is_no_err there.0 e (rw good at judged))
         | inr bad ↦
             inl (
@@ -249,7 +223,7 @@ when_agree {A} Spells read Fault true agrees = record {
       subst (λ (p : Option A × List ℕ). Begins (SpellsWhen Spells true) bytes p.0 p.1) same all;
   only = λ bytes value rest begins. only_there bytes value rest begins;
   failed = λ bytes e is.
-      let plain : read bytes ≡ Err e = mapped_err (read bytes) (λ x. (Some x.0, x.1)) e is in (
+      let plain : read bytes ≡ Err e = bind_err (read bytes) (λ x. (Some x.0, x.1)) e is in (
         λ value rest begins. none_there bytes value rest begins (agrees.failed bytes e plain).0,
         (agrees.failed bytes e plain).1,
       );
@@ -339,8 +313,7 @@ more_agree {A} Spells read Fault count one more =
             front = first.front ++ behind.front;
             spelled = record {
               len = omega (arith, behind.spelled.len);
-              each =
-                  (first.front, behind.front, first.spelled, behind.spelled.each, refl);
+              each = (first.front, behind.front, first.spelled, behind.spelled.each, refl);
             };
             is = append_assoc first.front behind.front rest ∙ ap (λ (f : List ℕ). first.front ++ f) behind.is
                 ∙ first.is;

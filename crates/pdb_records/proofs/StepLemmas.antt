@@ -7,13 +7,13 @@ use Rattle.pdb_base.specs.Endian.{little_number}
 use Rattle.pdb_base.specs.Refusal.{Refusal, unexpected_eof}
 use Rattle.pdb_base.specs.Answer.{Answer, ◌>>=◌}
 use Rattle.pdb_base.specs.Reading.{number_at}
-use Rattle.pdb_base.proofs.lemmas.Collected.{ok}
+use Rattle.pdb_base.proofs.lemmas.Collected.{ok, answer_cases}
 use Rattle.pdb_base.proofs.lemmas.Reading.{number_cut, number_whole}
 use Rattle.pdb_records.specs.Agreement.{Agrees}
 use Rattle.pdb_base.specs.Repeated.{read_times}
 use Rattle.pdb_records.specs.Shape.{index_at}
 use Rattle.pdb_records.specs.ToEnd.{TakesBytes, read_upto, to_end}
-use Rattle.pdb_records.proofs.Agreeing.{answer_cases, bind_at, bind_no}
+use Rattle.pdb_records.proofs.Agreeing.{bind_at, bind_no}
 use Rattle.pdb_records.proofs.ToEndLaws.{to_end_agrees}
 
 -- values that were read, and what is read behind them

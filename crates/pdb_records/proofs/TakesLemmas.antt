@@ -9,7 +9,7 @@ use Rattle.pdb_records.specs.ToEnd.{TakesBytes}
 abbrev pub TakesTwo : {A : Type 0} → (List ℕ → A → List ℕ → Type 0) → Type 0
 TakesTwo {A} Is = (bytes : List ℕ) (x : A) (rest : List ℕ) → Is bytes x rest → 2 + length rest ≤ length bytes
 
--- what stands behind a front is shorter by the front
+-- what follows a prefix is shorter by the prefix
 pub begins_length : {A : Type 0} (Spells : A → List ℕ → Type 0) (bytes : List ℕ) (x : A) (rest : List ℕ)
     (begins : Begins Spells bytes x rest) → length bytes ≡ length begins.front + length rest
 begins_length Spells bytes x rest begins = omega (arith, length-append begins.front rest, ap length begins.is)

@@ -3,10 +3,10 @@ use Rattle.std.proofs.Common.{◌≡◌, ◌≢◌, inl, inr, ℕ, zero, suc, �
 use Rattle.std.proofs.Common.{arith, Ok, Err}
 use Rattle.pdb_base.specs.Refusal.{Refusal}
 use Rattle.pdb_base.specs.Answer.{Answer, ◌>>=◌}
-use Rattle.pdb_base.proofs.lemmas.Collected.{ok, err, ok_is, err_is, ok_is_no_err, bind_ok}
+use Rattle.pdb_base.proofs.lemmas.Collected.{ok, err, ok_is, err_is, ok_is_no_err, bind_ok, answer_cases, bind_err}
 use Rattle.pdb_records.specs.Agreement.{Agrees}
 use Rattle.pdb_records.specs.ToEnd.{TakesBytes, Sequence, Fills, FailsBehind, read_upto, to_end}
-use Rattle.pdb_records.proofs.Agreeing.{answer_cases, bind_at, bind_no, mapped_err}
+use Rattle.pdb_records.proofs.Agreeing.{bind_at, bind_no}
 
 no_cons : (byte : ℕ) (bytes : List ℕ) → byte ∷ bytes ≢ []
 no_cons byte bytes is = cc
@@ -61,7 +61,7 @@ failed_upto {A} read Is Fails agrees shrinks (suc most) (byte ∷ bytes) fits e 
           let here : Is (byte ∷ bytes) there.0.0 there.0.1 = agrees.found (byte ∷ bytes) there.0.0 there.0.1 there.1 in
           let less : length there.0.1 ≤ most = omega (arith, fits, shrinks (byte ∷ bytes) there.0.0 there.0.1 here) in
           let behind : read_upto read most there.0.1 ≡ Err e =
-          mapped_err (read_upto read most there.0.1) (λ ys. (there.0.0 ∷ ys.0, ys.1)) e
+          bind_err (read_upto read most there.0.1) (λ ys. (there.0.0 ∷ ys.0, ys.1)) e
           (sym (bind_at (read (byte ∷ bytes)) f there.0 there.1) ∙ is) in
           let more = failed_upto read Is Fails agrees shrinks most there.0.1 less e behind in
           (there.0.0 ∷ more.0, more.1, (there.0.1, here, more.2), more.3, more.4)

@@ -1,4 +1,4 @@
--- How a list that stands behind its count is read.
+-- How a list that follows its count is read.
 use Rattle.std.specs.Prelude.{ℕ, List, Ok}
 use Rattle.pdb_base.specs.Answer.{Answer, ◌>>=◌}
 use Rattle.pdb_base.specs.Reading.{number_at}

@@ -1,5 +1,5 @@
 -- The dimensions of an array are numbers of variable width. No number after the first begins with a zero
--- byte, and a zero byte stands behind the last.
+-- byte, and a zero byte follows the last.
 use Rattle.std.specs.Prelude.{◌≡◌, ◌≢◌, ◌⊎◌, ℕ, zero, suc, ◌<◌, ◌≤◌, Bool, true, false, List, [], ◌∷◌, length, nat_le}
 use Rattle.std.specs.Prelude.{if◌then◌else◌, codes, Ok, Err}
 use Rattle.pdb_base.specs.Refusal.{Refusal, unexpected_eof, unimplemented_feature}
@@ -32,7 +32,7 @@ abbrev pub HasAnotherDimension : List ℕ → Type 0
 HasAnotherDimension [] = ⊥
 HasAnotherDimension (byte ∷ bytes) = byte ≢ 0
 
--- the bytes begin with these dimensions, and a zero byte stands behind the last
+-- the bytes begin with these dimensions, and a zero byte follows the last
 abbrev pub AreDimensions : List ℕ → List ℕ → List ℕ → Type 0
 AreDimensions bytes [] rest = ⊥
 AreDimensions bytes (n ∷ []) rest = IsDimension bytes n (0 ∷ rest)
@@ -55,7 +55,7 @@ NoDimensions bytes refusal = (ns : List ℕ) × NoDimensionBehind ns bytes refus
 abbrev pub dimension_at : List ℕ → Answer (ℕ × List ℕ)
 dimension_at bytes = num_at bytes >>= λ n. if nat_le n.0 largest_dimension then Ok n else Err too_large
 
--- reads what stands behind a dimension: a zero byte, which ends the list, or more dimensions
+-- reads what follows a dimension: a zero byte, which ends the list, or more dimensions
 abbrev pub behind_dimension : (List ℕ → Answer (List ℕ × List ℕ)) → ℕ → List ℕ → Answer (List ℕ × List ℕ)
 behind_dimension more n [] = Err unexpected_eof
 behind_dimension more n (zero ∷ rest) = Ok (n ∷ [], rest)

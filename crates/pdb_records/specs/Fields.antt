@@ -41,7 +41,7 @@ continuation_of (continues index ∷ entries) = option_or (continuation_of entri
 abbrev pub field_list_of : List Entry → TypeValue
 field_list_of entries = values.field_list (fields_among entries) (continuation_of entries)
 
--- reads what stands behind the leaf of an entry
+-- reads what follows the leaf of an entry
 abbrev pub entry_of : Bool → ℕ → List ℕ → Answer (Entry × List ℕ)
 entry_of true number bytes = row continuation_row bytes >>= λ index. Ok (continues index.0, index.1)
 entry_of false number bytes = behind_leaf number bytes >>= λ value. Ok (field value.0, value.1)
@@ -67,7 +67,7 @@ continuation_in value = None
 abbrev pub list_continuation_at : List ℕ → Answer (Option TypeIndex × List ℕ)
 list_continuation_at bytes = field_list_at bytes >>= λ list. Ok (continuation_in list.0, list.1)
 
--- reads what stands behind the leaf of a record
+-- reads what follows the leaf of a record
 abbrev pub record_of : Bool → ℕ → List ℕ → Answer (TypeValue × List ℕ)
 record_of true number bytes = field_list_at bytes
 record_of false number bytes = behind_leaf number bytes

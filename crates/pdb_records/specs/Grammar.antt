@@ -48,7 +48,7 @@ NoArray strided bytes refusal =
     Stops (array_row strided) bytes refusal
     ⊎ ((head : _) × (mid : List ℕ) × Assigns (array_row strided) bytes head mid × NoLastDimensions mid refusal)
 
--- ---- what stands behind a leaf
+-- ---- what follows a leaf
 
 -- the contents of a record whose leaf has this number
 abbrev pub IsData : ℕ → Leaf → List ℕ → TypeValue → List ℕ → Type 0
@@ -78,25 +78,25 @@ NoBehind number = NoKnown number (NoData number) (leaf_of number)
 
 -- ---- lists of fields
 
--- what stands behind the leaf of an entry: the index of the continuation, or a field
+-- what follows the leaf of an entry: the index of the continuation, or a field
 abbrev pub IsEntryOf : Bool → ℕ → List ℕ → Entry → List ℕ → Type 0
 IsEntryOf true number bytes entry rest = (index : TypeIndex) × Assigns continuation_row bytes index rest
     × (continues index ≡ entry)
 IsEntryOf false number bytes entry rest = (value : TypeValue) × IsBehind number bytes value rest × (field value ≡ entry)
 
--- why what stands behind the leaf of an entry is refused
+-- why what follows the leaf of an entry is refused
 abbrev pub NoEntryOf : Bool → ℕ → List ℕ → Refusal → Type 0
 NoEntryOf true number bytes refusal = Stops continuation_row bytes refusal
 NoEntryOf false number bytes refusal = NoBehind number bytes refusal
 
--- an entry: a leaf, what stands behind it, and padding
+-- an entry: a leaf, what follows it, and padding
 abbrev pub IsEntry : List ℕ → Entry → List ℕ → Type 0
 IsEntry bytes entry rest =
     (number : ℕ) × (mid : List ℕ) × Begins (Spells u16) bytes number mid
     × ((behind : Entry) × (end : List ℕ) × IsEntryOf (number == continuation_leaf) number mid behind end
     × ((nothing : Unit {0}) × IsPadded end nothing rest × (behind ≡ entry)))
 
--- an entry is refused for a fault in its leaf, in what stands behind it, or in the padding
+-- an entry is refused for a fault in its leaf, in what follows it, or in the padding
 abbrev pub NoEntry : List ℕ → Refusal → Type 0
 NoEntry bytes refusal =
     Refuses u16 bytes refusal
@@ -107,23 +107,23 @@ NoEntry bytes refusal =
 
 -- ---- whole records
 
--- what stands behind the leaf of a record: entries up to the end of the bytes, or another record
+-- what follows the leaf of a record: entries up to the end of the bytes, or another record
 abbrev pub IsRecordOf : Bool → ℕ → List ℕ → TypeValue → List ℕ → Type 0
 IsRecordOf true number bytes value rest = (entries : List Entry) × Fills IsEntry bytes entries rest
     × (field_list_of entries ≡ value)
 IsRecordOf false number bytes value rest = IsBehind number bytes value rest
 
--- why what stands behind the leaf of a record is refused
+-- why what follows the leaf of a record is refused
 abbrev pub NoRecordOf : Bool → ℕ → List ℕ → Refusal → Type 0
 NoRecordOf true number bytes refusal = FailsBehind IsEntry NoEntry bytes refusal
 NoRecordOf false number bytes refusal = NoBehind number bytes refusal
 
--- a type record: its leaf, and what stands behind it
+-- a type record: its leaf, and what follows it
 abbrev pub IsRecord : List ℕ → TypeValue → List ℕ → Type 0
 IsRecord bytes value rest = (number : ℕ) × (mid : List ℕ) × Begins (Spells u16) bytes number mid
     × IsRecordOf (number == field_list_leaf) number mid value rest
 
--- a type record is refused for a fault in its leaf, or in what stands behind it
+-- a type record is refused for a fault in its leaf, or in what follows it
 abbrev pub NoRecord : List ℕ → Refusal → Type 0
 NoRecord bytes refusal =
     Refuses u16 bytes refusal

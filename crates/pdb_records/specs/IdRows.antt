@@ -52,7 +52,7 @@ source_row = do
   gives (values.user_defined_type_source (record { udt = udt; source_file = Local file; line = line }))
 
 -- lfUdtModSrcLine: the file is given by the offset of its name in the string table, and the number of the
--- module stands behind the line
+-- module follows the line
 unfoldable pub remote_source_row : Row PlainIdValue
 remote_source_row = do
   udt ← type_index

@@ -83,12 +83,12 @@ IsBehindId number = IsOfKnownLeaf (IsIdData number) (id_leaf_of number)
 abbrev pub NoBehindId : ℕ → List ℕ → Refusal → Type 0
 NoBehindId number = NoKnown number (NoIdData number) (id_leaf_of number)
 
--- an id record: its leaf, and what stands behind it
+-- an id record: its leaf, and what follows it
 abbrev pub IsId : List ℕ → IdValue → List ℕ → Type 0
 IsId bytes value rest = (number : ℕ) × (mid : List ℕ) × Begins (Spells u16) bytes number mid
     × IsBehindId number mid value rest
 
--- an id record is refused for a fault in its leaf, or in what stands behind it
+-- an id record is refused for a fault in its leaf, or in what follows it
 abbrev pub NoId : List ℕ → Refusal → Type 0
 NoId bytes refusal =
     Refuses u16 bytes refusal

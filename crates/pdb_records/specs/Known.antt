@@ -1,4 +1,4 @@
--- What stands behind a leaf that is known; any other leaf is refused with its number.
+-- What follows a leaf that is known; any other leaf is refused with its number.
 use Rattle.std.specs.Prelude.{◌≡◌, ℕ, List, Option, Some, None, Err}
 use Rattle.pdb_base.specs.Refusal.{Refusal, unimplemented_type_kind}
 use Rattle.pdb_base.specs.Answer.{Answer}
@@ -13,7 +13,7 @@ abbrev pub NoKnown : {L : Type 0} → ℕ → (L → List ℕ → Refusal → Ty
 NoKnown number No None bytes refusal = unimplemented_type_kind number ≡ refusal
 NoKnown number No (Some leaf) bytes refusal = No leaf bytes refusal
 
--- reads what stands behind the leaf of this number
+-- reads what follows the leaf of this number
 abbrev pub known_at : {L A : Type 0} → ℕ → (L → List ℕ → Answer (A × List ℕ)) → Option L → List ℕ → Answer (A × List ℕ)
 known_at number read None bytes = Err (unimplemented_type_kind number)
 known_at number read (Some leaf) bytes = read leaf bytes

@@ -1,4 +1,4 @@
--- When parsing asks for memory: for the items of a list, and only once the first item is read. A count
+-- When parsing allocates memory: for the items of a list, and only once the first item is read. A count
 -- that is larger than its record can hold takes no memory.
 use Rattle.std.specs.Prelude.{◌⊎◌, ℕ, Bool, true, false, ◌==◌, List, Option, Some, None}
 use Rattle.pdb_base.specs.declared.index.TypeIndex.{TypeIndex}
@@ -73,7 +73,7 @@ abbrev pub HoldsField : List ℕ → Type 0
 HoldsField bytes = (indexes : List TypeIndex) × (mid : List ℕ) × Sequence IsContinuation bytes indexes mid
     × (BeginsField mid ⊎ RecordHoldsItem mid)
 
--- the same for what stands behind a leaf: the entries of a field list, or another record
+-- the same for what follows a leaf: the entries of a field list, or another record
 abbrev pub NeedsMemoryOf : Bool → ℕ → List ℕ → Type 0
 NeedsMemoryOf true number bytes = HoldsField bytes
 NeedsMemoryOf false number bytes = HoldsItemBehind number bytes

@@ -10,7 +10,7 @@ use Rattle.pdb_records.specs.Fault.{Refuses}
 -- shapes one after another, and the value that their values make
 pub data Row (A : Type 0) : Type 0 where
   gives : A → Row A  -- the value, with nothing more in the row
-  field : (shape : Shape) → (Value shape → Row A) → Row A  -- a shape, and what stands behind its value
+  field : (shape : Shape) → (Value shape → Row A) → Row A  -- a shape, and what follows its value
 
 -- The bytes begin with a value of each shape of the row, in order, followed by `rest`.
 abbrev pub Assigns : {A : Type 0} → Row A → List ℕ → A → List ℕ → Type 0

@@ -31,7 +31,7 @@ abbrev pub found_told : {A : Type 0} → A → Answer (Option A) → Found A
 found_told old (Ok value) = value_or_fault no_value old value
 found_told old (Err refusal) = record { fault = fault_of_refusal refusal; value = old }
 
--- the same for what a handle holds, if it holds what is asked, and else `not_open`
+-- the same for what a handle holds, if it holds what the call is about, and else `not_open`
 abbrev pub found_in : {A B : Type 0} → B → (A → Answer (Option B)) → Option A → Found B
 found_in old answer (Some held) = found_told old (answer held)
 found_in old answer None = record { fault = not_open; value = old }

@@ -1,30 +1,19 @@
 -- The name at an offset ends at the first NUL among the names.
-use Rattle.std.proofs.Common.{◌≡◌, ◌≢◌, ℕ, zero, suc, ◌+◌, ◌-◌, ◌≤◌, ◌==◌, ◌⊎◌, inl, inr, false, List, [], ◌∷◌, ◌++◌}
-use Rattle.std.proofs.Common.{length, take, drop, refl, sym, ap, ◌∙◌, arith, subst, Option, Some, None, Ok, Err}
+use Rattle.std.proofs.Common.{◌≡◌, ◌≢◌, ℕ, zero, suc, ◌+◌, ◌-◌, ◌≤◌, ◌==◌, inl, inr, false, List, [], ◌∷◌, ◌++◌}
+use Rattle.std.proofs.Common.{length, take, drop, refl, sym, ap, ◌∙◌, arith, subst, Some, None, Ok, Err}
 use Rattle.std.specs.List.{slice_get, AllByRecursion}
 use Rattle.std.proofs.Math.Dec.{eqb-suc-zero}
 use Rattle.std.proofs.Math.Seq.{drop-append_seam}
 use Rattle.std.proofs.lemmas.List.{append_assoc, length-append, length-drop, length-take-le, take-append-drop}
-use Rattle.std.proofs.lemmas.Option.{slice_get_past}
+use Rattle.std.proofs.lemmas.Option.{slice_get_past, same_Some}
 use Rattle.pdb_base.specs.Refusal.{Refusal, unexpected_eof, out_of_memory}
-use Rattle.pdb_base.specs.Answer.{Answer, ◌>>=◌}
+use Rattle.pdb_base.specs.Answer.{◌>>=◌}
 use Rattle.pdb_base.specs.Reading.{text_at}
 use Rattle.pdb_base.specs.Spelling.{SpellsText, Begins}
-use Rattle.pdb_base.proofs.lemmas.Collected.{err, ok_is, err_is, ok_is_no_err, bind_ok}
+use Rattle.pdb_base.proofs.lemmas.Collected.{err, ok_is, err_is, ok_is_no_err, bind_ok, answer_cases, bind_err}
 use Rattle.pdb_base.proofs.lemmas.Spelling.{texts}
 use Rattle.pdb_space.specs.StringTable.{name_of}
 use Rattle.pdb_space.specs.StringTableLaws.{IsNameAt, HasNoNul, FindsName}
-
--- ---- answers
-
-answer_cases : {A : Type 0} (r : Answer A) → ((x : A) × (r ≡ Ok x)) ⊎ ((e : Refusal) × (r ≡ Err e))
-answer_cases (Ok x) = inl (x, refl)
-answer_cases (Err e) = inr (e, refl)
-
--- a refusal behind which no other can come
-bind_err : {A B : Type 0} (r : Answer A) (f : A → B) (e : Refusal) → (r >>= λ x. Ok (f x)) ≡ Err e → r ≡ Err e
-bind_err (Ok x) f e h = absurd cc
-bind_err (Err d) f e h = cc
 
 -- ---- places
 
@@ -43,15 +32,9 @@ slice_get-seam (y ∷ front) x rest = slice_get-seam front x rest
 
 -- ---- no NUL
 
-abbrev some : ℕ → Option ℕ
-some byte = Some byte
-
-some_is : (x y : ℕ) → some x ≡ some y → x ≡ y
-some_is x y e = cc
-
 -- one more byte, which is no NUL
 no_nul_before : (byte : ℕ) (bytes : List ℕ) → HasNoNul bytes 0 → HasNoNul (suc byte ∷ bytes) 0
-no_nul_before byte bytes no_nul zero _ nul = let same : suc byte ≡ 0 = some_is (suc byte) 0 nul in
+no_nul_before byte bytes no_nul zero _ nul = let same : suc byte ≡ 0 = same_Some (suc byte) 0 nul in
     absurd (omega (arith, same))
 no_nul_before byte bytes no_nul (suc place) _ nul = no_nul place (omega arith) nul
 
@@ -140,8 +123,7 @@ pub finds_name : (names : List ℕ) (offset : ℕ) → FindsName names offset
 finds_name names offset = record {
   found = found names offset;
   only = only names offset;
-  missing =
-      missing names offset;
+  missing = missing names offset;
   none = none names offset;
 }
 

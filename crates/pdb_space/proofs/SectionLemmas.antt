@@ -7,6 +7,7 @@ use Rattle.std.specs.Option.{option_and_then}
 use Rattle.std.specs.Result.{OkIff, result_ok}
 use Rattle.std.proofs.lemmas.List.{at_drop_more, drop_all}
 use Rattle.std.proofs.lemmas.Bool.{cases_lt, le-ltb, lt-ltb, le-leb, lt-leb, ne_eqb}
+use Rattle.std.proofs.lemmas.Option.{none-some, same_Some}
 use Rattle.pdb_space.specs.declared.section_header.ImageSectionHeader.{ImageSectionHeader}
 use Rattle.pdb_space.specs.Sum.{largest, if_fits_32_bits}
 use Rattle.pdb_space.specs.SectionPlace.{SectionPlace}
@@ -66,12 +67,6 @@ record LeadsBack (first : ℕ) (sections : List ImageSectionHeader) (a : ℕ) (p
   from : first ≤ place.section
   back : address_at sections (place.section - first) place.offset ≡ Some a
 
-some_is_not_none : {A : Type 0} (x : A) → Some x ≡ None → ⊥
-some_is_not_none x e = cc
-
-some_is : {A : Type 0} (x y : A) → Some x ≡ Some y → x ≡ y
-some_is x y e = cc
-
 in-first : (first : ℕ) (here : ImageSectionHeader) (rest : List ImageSectionHeader) (a : ℕ) (place : SectionPlace)
     → a ≤ largest → here.virtual_address ≤ a → place_in a (first, here) ≡ Some place
     → LeadsBack first (here ∷ rest) a place
@@ -81,11 +76,11 @@ in-first first here rest a place fits at found =
     let held : leb a largest ≡ true = le-leb a largest fits in
     elim (cases_lt 0xffff first) [
       | inl past ↦ let no : leb first 0xffff ≡ false = lt-leb first 0xffff past in
-          absurd (some_is_not_none place (sym found ∙ rw no refl))
+          absurd (none-some place (sym (sym found ∙ rw no refl)))
       | inr numbered ↦
           let yes : leb first 0xffff ≡ true = le-leb first 0xffff numbered in
           let is : record { section = first; offset = a - here.virtual_address } ≡ place =
-          some_is (record { section = first; offset = a - here.virtual_address }) place
+          same_Some (record { section = first; offset = a - here.virtual_address }) place
           (sym (rw yes refl) ∙ found) in
           subst (λ (p : SectionPlace). LeadsBack first (here ∷ rest) a p) is
           (record { from = omega arith; back = rw (same, sum, held) refl })
@@ -103,7 +98,7 @@ unfolding section_from
 leads_back first [] a place fits found = absurd cc
 leads_back first (here ∷ rest) a place fits found =
     elim (cases_lt a here.virtual_address) [
-      | inl above ↦ absurd (some_is_not_none place (sym found ∙ from-above first here rest a above))
+      | inl above ↦ absurd (none-some place (sym (from-above first here rest a above) ∙ found))
       | inr at ↦ elim (cases_lt (a - here.virtual_address) here.size_of_raw_data) [
         | inl within ↦ in-first first here rest a place fits at (sym (from-here first here rest a at within) ∙ found)
         | inr short ↦ in-rest first here rest a place
@@ -174,13 +169,13 @@ pub numbered : {E : Type 0} (converted : Result ℕ E) (number wide : ℕ) (sect
     → place_in a (wide, section) ≡ Some (record { section = number; offset = a - section.virtual_address })
 numbered (Ok x) number wide section a is fits =
     let held : leb wide 0xffff ≡ true = le-leb wide 0xffff (omega (arith, fits.0)) in
-    let same : wide ≡ number = sym (some_is number x is ∙ fits.1) in
+    let same : wide ≡ number = sym (same_Some number x is ∙ fits.1) in
     rw held (ap (λ (n : ℕ). Some (record { section = n; offset = a - section.virtual_address })) same)
-numbered (Err e) number wide section a is fits = absurd (some_is_not_none number is)
+numbered (Err e) number wide section a is fits = absurd (none-some number (sym is))
 
 pub unnumbered : {E : Type 0} (converted : Result ℕ E) (wide : ℕ) (section : ImageSectionHeader) (a : ℕ)
     → None ≡ result_ok converted → OkIff converted (wide < 65536) wide → place_in a (wide, section) ≡ None
-unnumbered (Ok x) wide section a is fits = absurd (some_is_not_none x (sym is))
+unnumbered (Ok x) wide section a is fits = absurd (none-some x is)
 unnumbered (Err e) wide section a is past =
     let no : leb wide 0xffff ≡ false = lt-leb wide 0xffff (omega (arith, past)) in
     rw no refl
@@ -192,7 +187,7 @@ each-more : (P : ImageSectionHeader → Type 0) (here : ImageSectionHeader) (res
     → P here
     → ((k : ℕ) (other : ImageSectionHeader) → k < count → slice_get rest k ≡ Some other → P other)
     → (k : ℕ) (other : ImageSectionHeader) → k < suc count → slice_get (here ∷ rest) k ≡ Some other → P other
-each-more P here rest count first others zero other within at_k = subst P (some_is here other at_k) first
+each-more P here rest count first others zero other within at_k = subst P (same_Some here other at_k) first
 each-more P here rest count first others (suc k) other within at_k = others k other (omega arith) at_k
 
 -- the same as `IsFirstToReach`, where sections are numbered from `first_number` on
@@ -215,11 +210,11 @@ first-found : (n : ℕ) (here : ImageSectionHeader) (rest : List ImageSectionHea
 first-found n here rest a place at within found =
     elim (cases_lt 0xffff n) [
       | inl past ↦ let no : leb n 0xffff ≡ false = lt-leb n 0xffff past in
-          absurd (some_is_not_none place (sym found ∙ rw no refl))
+          absurd (none-some place (sym (sym found ∙ rw no refl)))
       | inr held ↦
           let yes : leb n 0xffff ≡ true = le-leb n 0xffff held in
           let is : record { section = n; offset = a - here.virtual_address } ≡ place =
-          some_is (record { section = n; offset = a - here.virtual_address }) place (sym (rw yes refl) ∙ found) in
+          same_Some (record { section = n; offset = a - here.virtual_address }) place (sym (rw yes refl) ∙ found) in
           record {
             index = 0;
             section = here;
@@ -254,7 +249,7 @@ unfolding section_from
 found-from n [] a place found = absurd cc
 found-from n (here ∷ rest) a place found =
     elim (cases_lt a here.virtual_address) [
-      | inl above ↦ absurd (some_is_not_none place (sym found ∙ from-above n here rest a above))
+      | inl above ↦ absurd (none-some place (sym (from-above n here rest a above) ∙ found))
       | inr at ↦ elim (cases_lt (a - here.virtual_address) here.size_of_raw_data) [
         | inl within ↦ first-found n here rest a place at within (sym (from-here n here rest a at within) ∙ found)
         | inr short ↦ later-found n here rest a place at short
@@ -272,10 +267,10 @@ only-from : (n index : ℕ) (sections : List ImageSectionHeader) (section : Imag
     → place.section ≡ n + index → n + index ≤ 0xffff → place.offset ≡ a - section.virtual_address
     → section_from n sections a ≡ Some place
 only-from n index [] section a place at_index begun reached first number fits distance =
-    absurd (some_is_not_none section (sym at_index))
+    absurd (none-some section at_index)
 only-from n zero (here ∷ rest) section a place at_index begun reached first number fits distance =
     let held : leb n 0xffff ≡ true = le-leb n 0xffff (omega (arith, fits)) in
-    let is : here ≡ section = some_is here section at_index in
+    let is : here ≡ section = same_Some here section at_index in
     let within : a - here.virtual_address < here.size_of_raw_data =
     subst (λ (s : ImageSectionHeader). a - s.virtual_address < s.size_of_raw_data) (sym is) reached in
     let one : n ≡ place.section = omega (arith, number) in

@@ -1,26 +1,19 @@
 -- Where the parts of a string table stand, and how a stream that holds none is refused.
-use Rattle.std.proofs.Common.{◌≡◌, ℕ, ◌+◌, ◌<◌, ◌≤◌, ◌==◌, ◌⊎◌, inl, inr, Bool, true, false, List, length, take, drop}
+use Rattle.std.proofs.Common.{◌≡◌, ℕ, ◌+◌, ◌<◌, ◌≤◌, ◌==◌, ◌⊎◌, inl, inr, true, false, List, length, take, drop}
 use Rattle.std.proofs.Common.{refl, sym, ap, ◌∙◌, arith, eq-eqb, Ok, Err, codes}
 use Rattle.std.proofs.lemmas.Bool.{cases_lt, ne_eqb}
 use Rattle.std.proofs.lemmas.Bool.Decides.{nat_tests}
-use Rattle.std.proofs.lemmas.List.{length-drop, length-take-le, drop-drop}
+use Rattle.std.proofs.lemmas.List.{length-drop, length-take-le}
 use Rattle.pdb_base.specs.Refusal.{Refusal, unexpected_eof, unimplemented_feature}
 use Rattle.pdb_base.specs.Answer.{◌>>=◌, ok_if}
 use Rattle.pdb_base.specs.Reading.{front_at, number_at, word_at}
-use Rattle.pdb_base.proofs.lemmas.Collected.{ok, ok_is, ok_is_no_err, bind_ok}
-use Rattle.pdb_base.proofs.lemmas.Reading.{front_whole, front_cut, number_whole, number_cut}
+use Rattle.pdb_base.proofs.lemmas.Collected.{ok, ok_is, ok_is_no_err, bind_ok, required_holds}
+use Rattle.pdb_base.proofs.lemmas.Reading.{front_whole, front_cut, number_cut, number_there}
 use Rattle.pdb_space.specs.declared.string_table.Header.{Header}
 use Rattle.pdb_space.specs.StringTable.{names_signature, is_known_version, header_at, names_of}
 use Rattle.pdb_space.specs.StringTableLaws.{HoldsNames, FindsNames, RefusesByFirstFault}
 
 -- ---- the header
-
-word_there : (stream : List ℕ) (offset after : ℕ) → offset + 4 ≡ after → after ≤ length stream
-    → number_at 4 (drop offset stream) ≡ Ok (word_at offset stream, drop after stream)
-word_there stream offset after is long =
-    number_whole 4 (drop offset stream) (omega (arith, length-drop offset stream))
-    ∙ ap (λ (n : List ℕ). ok (word_at offset stream, n))
-    (drop-drop 4 offset stream ∙ ap (λ (n : ℕ). drop n stream) is)
 
 word_cut : (stream : List ℕ) (offset : ℕ) → length stream < offset + 4
     → number_at 4 (drop offset stream) ≡ Err unexpected_eof
@@ -31,17 +24,16 @@ abbrev header_of : List ℕ → Header
 header_of stream = record {
   signature = word_at 0 stream;
   hash_version = word_at 4 stream;
-  names_size =
-      word_at 8 stream;
+  names_size = word_at 8 stream;
 }
 
 header_there : (stream : List ℕ) → 12 ≤ length stream → header_at stream ≡ Ok (header_of stream, drop 12 stream)
 unfolding header_at
 header_there stream long =
     rw (
-      word_there stream 0 4 refl (omega arith),
-      word_there stream 4 8 refl (omega arith),
-      word_there stream 8 12 refl (omega arith),
+      number_there 4 0 4 stream refl (omega arith),
+      number_there 4 4 8 stream refl (omega arith),
+      number_there 4 8 12 stream refl (omega arith),
     ) refl
 
 header_cut : (stream : List ℕ) → length stream < 12 → header_at stream ≡ Err unexpected_eof
@@ -49,10 +41,10 @@ unfolding header_at
 header_cut stream short = elim (cases_lt (length stream) 4) [
   | inl first ↦ rw (word_cut stream 0 (omega arith)) refl
   | inr one ↦ elim (cases_lt (length stream) 8) [
-    | inl second ↦ rw (word_there stream 0 4 refl (omega arith), word_cut stream 4 (omega arith)) refl
+    | inl second ↦ rw (number_there 4 0 4 stream refl (omega arith), word_cut stream 4 (omega arith)) refl
     | inr two ↦ rw (
-      word_there stream 0 4 refl (omega arith),
-      word_there stream 4 8 refl (omega arith),
+      number_there 4 0 4 stream refl (omega arith),
+      number_there 4 4 8 stream refl (omega arith),
       word_cut stream 8 (omega arith),
     ) refl
   ]
@@ -74,10 +66,6 @@ by_places : (stream : List ℕ) → 12 ≤ length stream →
     ok_if (is_known_version (word_at 4 stream)) unknown >>= λ known. Ok names.0)
 unfolding names_of
 by_places stream long = rw (header_there stream long) refl
-
-required_holds : (test : Bool) (e : Refusal) (x : Unit {0}) → ok_if test e ≡ Ok x → test ≡ true
-required_holds true e x h = refl
-required_holds false e x h = absurd (ok_is_no_err x e (sym h))
 
 known_cases : (version : ℕ) → is_known_version version ≡ true → (version ≡ 1) ⊎ (version ≡ 2)
 known_cases version known = grind (arith, nat_tests)

@@ -23,7 +23,7 @@ pointwise move range = filter (λ address. nat_lt address largest) (filter_map m
 unfoldable pub unless_empty : Range ℕ → Option (Range ℕ)
 unless_empty range = if nat_lt range.start range.end then Some range else None
 
--- Where a record moves its part of the range that is asked for, which is the part from its source to that of
+-- Where a record moves its part of the range of the query, which is the part from its source to that of
 -- the next record. Each address in it is moved as by itself, and the result ends at 0xffffffff at most.
 unfoldable pub part : OmapValue → ℕ → Range ℕ → Option (Range ℕ)
 part mapping next asked =
@@ -41,7 +41,7 @@ abbrev pub next_source : List OmapValue → ℕ → ℕ
 next_source [] end = end
 next_source (mapping ∷ table) end = mapping.source
 
--- the parts to which the records move the range that is asked for, record by record; nothing is merged
+-- the parts to which the records move the range of the query, record by record; nothing is merged
 abbrev pub parts : List OmapValue → Range ℕ → List (Range ℕ)
 parts [] asked = []
 parts (mapping ∷ table) asked = cons_option (part mapping (next_source table asked.end) asked) (parts table asked)

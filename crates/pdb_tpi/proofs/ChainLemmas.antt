@@ -14,7 +14,7 @@ use Rattle.pdb_base.specs.declared.error.Error.{Error}
 use Rattle.pdb_base.specs.Refusal.{Refusal, refusal_of}
 use Rattle.pdb_base.specs.Answer.{Answer, Answers, ◌>>=◌}
 use Rattle.pdb_values.specs.declared.type_data.TypeData.{TypeData}
-use Rattle.pdb_base.proofs.lemmas.Collected.{ok, err, ok_is, err_is, ok_is_no_err}
+use Rattle.pdb_base.proofs.lemmas.Collected.{ok, err, ok_is, err_is, ok_is_no_err, answer_cases, option_cases}
 use Rattle.pdb_values.specs.TypeValue.{TypeValue}
 use Rattle.pdb_values.specs.TypeView.{type_value}
 use Rattle.pdb_tpi.specs.Chain.{LookUp, ContinuedList, listed_value, list_of, not_below, Lead, IsChain, GoesUp, Breaks}
@@ -22,14 +22,6 @@ use Rattle.pdb_tpi.specs.Chain.{in_front, fields_behind, join_fields, fields_of,
 use Rattle.pdb_tpi.specs.Chain.Step.{goes_below, goes_up, fields_step}
 
 -- ---- answers
-
-answer_cases : {A : Type 0} (answer : Answer A) → ((x : A) × (answer ≡ Ok x)) ⊎ ((e : Refusal) × (answer ≡ Err e))
-answer_cases (Ok x) = inl (x, refl)
-answer_cases (Err e) = inr (e, refl)
-
-option_cases : {A : Type 0} (option : Option A) → (option ≡ None) ⊎ ((x : A) × (option ≡ Some x))
-option_cases None = inl refl
-option_cases (Some x) = inr (x, refl)
 
 none_in_front : (others : Answer (List TypeValue)) → in_front [] others ≡ others
 none_in_front (Ok fields) = refl
@@ -168,8 +160,7 @@ chain_more look index list next is goes_on below (inr (refusal, broken)) =
       record {
         before = list ∷ broken.before;
         at = broken.at;
-        lead =
-            (is, (next, goes_on, below, broken.lead));
+        lead = (is, (next, goes_on, below, broken.lead));
         why = broken.why;
       },
     )
@@ -187,8 +178,7 @@ has_chain (suc most) look index few = elim (answer_cases (list_of look index)) [
         last = list;
         are = refl;
         lead = refl;
-        is_last =
-            is;
+        is_last = is;
         ends = ends;
       },
     )

@@ -12,8 +12,7 @@ use Rattle.pdb_tpi.specs.Table.{Table, IsTable, count_in_header}
 use Rattle.pdb_tpi.specs.Steps.{WalkPosition, walk, walk_rest, nth_item}
 use Rattle.pdb_tpi.specs.Place.{IsPlace, ArePlaces}
 use Rattle.pdb_tpi.specs.Finder.{first_of_block, block_of, has_index, known_after, known_of, item_of, find_of}
-use Rattle.pdb_tpi.specs.Finder.{reads_between}
-use Rattle.pdb_tpi.specs.Finder.{reads_of, most_blocks}
+use Rattle.pdb_tpi.specs.Finder.{reads_between, reads_of, most_blocks}
 use Rattle.pdb_tpi.proofs.TableLemmas.{place_first}
 
 -- ---- the positions that are kept

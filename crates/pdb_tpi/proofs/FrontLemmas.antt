@@ -1,14 +1,14 @@
 -- The item at the front of bytes: what is known where it is there.
-use Rattle.std.proofs.Common.{◌≡◌, ℕ, ◌+◌, ◌≤◌, ◌<◌, inl, inr, Bool, true, false, leb, List, [], length, take, drop}
+use Rattle.std.proofs.Common.{◌≡◌, ℕ, ◌+◌, ◌≤◌, ◌<◌, inl, inr, true, false, leb, List, [], length, take, drop}
 use Rattle.std.proofs.Common.{refl, sym, ap, ◌∙◌, arith, Ok, Err}
 use Rattle.std.proofs.lemmas.Bool.{cases_lt}
 use Rattle.std.proofs.lemmas.Bool.Decides.{nat_tests}
 use Rattle.std.proofs.lemmas.List.{length-take-le, length-drop}
 use Rattle.byteorder.specs.Endian.{little_number}
-use Rattle.pdb_base.specs.Refusal.{Refusal, unexpected_eof, type_too_short}
+use Rattle.pdb_base.specs.Refusal.{unexpected_eof, type_too_short}
 use Rattle.pdb_base.specs.Answer.{◌>>=◌, ok_if}
 use Rattle.pdb_base.specs.Reading.{front_at}
-use Rattle.pdb_base.proofs.lemmas.Collected.{ok, ok_is, ok_is_no_err, bind_ok}
+use Rattle.pdb_base.proofs.lemmas.Collected.{ok, ok_is, ok_is_no_err, bind_ok, required_holds}
 use Rattle.pdb_base.proofs.lemmas.Reading.{front_whole, front_cut, number_whole, number_cut}
 use Rattle.pdb_tpi.specs.Walk.{first_item}
 
@@ -21,10 +21,6 @@ front_is count bytes x e = elim (cases_lt (length bytes) count) [
   | inl short ↦ absurd (ok_is_no_err x unexpected_eof (sym e ∙ front_cut count bytes short))
   | inr long ↦ (long, ok_is x (take count bytes, drop count bytes) (sym e ∙ front_whole count bytes long))
 ]
-
-pub required_is : (test : Bool) (e : Refusal) (x : Unit {0}) → ok_if test e ≡ Ok x → test ≡ true
-required_is true e x h = refl
-required_is false e x h = absurd (ok_is_no_err x e (sym h))
 
 -- ---- an item
 
@@ -51,7 +47,7 @@ front_item bytes item e = elim (cases_lt (length bytes) 2) [
       let is : take word behind ≡ item = sym (ap (λ (x : List ℕ × List ℕ). x.0) whole.1)
       ∙ ok_is front.0.0 item front.2 in
       let len : length item ≡ word = sym (ap (λ (x : List ℕ). length x) is) ∙ length-take-le word behind whole.0 in
-      let test : leb 2 word ≡ true = required_is (leb 2 word) type_too_short kind.0 kind.1 in
+      let test : leb 2 word ≡ true = required_holds (leb 2 word) type_too_short kind.0 kind.1 in
       record {
         kind = let least : 2 ≤ word = grind (arith, nat_tests) in omega arith;
         within = omega (arith, whole.0, len, length-drop 2 bytes);

@@ -135,7 +135,7 @@ pub record IsRecordBefore (table : Table) (n : ℕ) (item : List ℕ) (end : ℕ
   pub before : length item ≤ end
   pub place : record { offset = end - length item; length = length item } ≡ record_place table n item
 
--- it does so where an iterator stands behind that item
+-- it does so where an iterator is past that item
 pub record_placed : (table : Table) (n index end : ℕ) (item : List ℕ) → IsPlace table index end
     → index ≡ table.header.minimum_index + n + 1 → nth_item table n ≡ Ok item → IsRecordBefore table n item end
 record_placed table n index end item place is e =
@@ -234,7 +234,7 @@ step_stays seen start old new is step =
     let none : Option RecordPlace = None in
     step_told seen start new None goes ∙ ap (λ (s : WalkPosition). ok (none, s)) (step_none seen start new goes).2
 
--- one that returns an item tells the place of its record, and the walk stands behind it
+-- one that returns an item tells the place of its record, and the walk is past it
 pub step_goes : {X : Type 0} (seen : X → ℕ × List ℕ) (start old new : WalkPosition) (x : X) (index len end : ℕ)
     (place : RecordPlace) → old ≡ start → start.table.header.minimum_index ≤ start.index
     → IsStep seen old (Ok (Some x)) new → IsPlace new.table new.index end → index ≡ new.index → len ≡ length (seen x).1

@@ -4,7 +4,7 @@ use Rattle.std.proofs.Common.{ap, ◌∙◌, arith, Option, eqb, true, false, Ok
 use Rattle.std.specs.List.{slice_get}
 use Rattle.std.proofs.lemmas.Bool.{cases_lt, false≢true}
 use Rattle.std.proofs.lemmas.Bool.Decides.{nat_tests}
-use Rattle.std.proofs.lemmas.Option.{slice_get_cases, slice_get_past}
+use Rattle.std.proofs.lemmas.Option.{slice_get_cases, slice_get_past, none-some, same_Some}
 use Rattle.pdb_base.specs.declared.error.Error.{Error}
 use Rattle.pdb_base.specs.Refusal.{Refusal, refusal_of, unexpected_eof}
 use Rattle.pdb_base.specs.Answer.{Answer}
@@ -105,16 +105,13 @@ leaves_fewer old new item least e moved = elim ((slice_get_cases (walk old.table
   | inr past ↦ absurd (item_is_none item (sym (nth_ok old.table (steps_taken old) item e) ∙ past.1))
 ]
 
-some_is_none : (x : ℕ × List ℕ) → Some x ≡ None → ⊥
-some_is_none x e = cc
-
 -- what a step behind the last item tells
 no_item : (stand : WalkPosition) (rest : List ℕ) (item : ℕ × List ℕ) (new : WalkPosition)
     → step_at_end stand rest ≡ Ok (Some item, new) → ⊥
 no_item stand [] item new e =
     let ended : Option (ℕ × List ℕ) × WalkPosition = (None, stand) in
     let given : Option (ℕ × List ℕ) × WalkPosition = (Some item, new) in
-    some_is_none item (sym (ap (λ (p : Option (ℕ × List ℕ) × WalkPosition). p.0) (ok_is ended given e)))
+    none-some item (ap (λ (p : Option (ℕ × List ℕ) × WalkPosition). p.0) (ok_is ended given e))
 no_item stand (byte ∷ rest) item new e = ok_is_no_err (Some item, new) (fault_of (byte ∷ rest)) (sym e)
 
 at_end : (stand : WalkPosition) (rest : List ℕ) (new : WalkPosition) → step_at_end stand rest ≡ Ok (None, new) → rest
@@ -135,9 +132,6 @@ some_left (byte ∷ bytes) e none = cc
 
 -- ---- what callers learn of a step
 
-some_is : (x y : ℕ × List ℕ) → Some x ≡ Some y → x ≡ y
-some_is x y e = cc
-
 -- An item that a step returned is that of the walk before which the iterator stood, and the iterator goes on behind
 -- it.
 pub record IsGiven {X : Type 0} (seen : X → ℕ × List ℕ) (old : WalkPosition) (x : X) (new : WalkPosition) : Type 0 where
@@ -156,7 +150,7 @@ step_some seen old x new step = elim ((slice_get_cases (walk old.table) (steps_t
       let is : (Some item, moved) ≡ (Some (seen x), new) =
       ok_is (Some item, moved) (Some (seen x), new) (sym gives ∙ step.gives) in
       let same : item ≡ seen x =
-      some_is item (seen x) (ap (λ (p : Option (ℕ × List ℕ) × WalkPosition). p.0) is) in
+      same_Some item (seen x) (ap (λ (p : Option (ℕ × List ℕ) × WalkPosition). p.0) is) in
       record {
         within = here.1;
         there = here.2 ∙ ap (λ (p : ℕ × List ℕ). Some p.1) same;
@@ -176,7 +170,7 @@ step_none seen old new step = elim ((slice_get_cases (walk old.table) (steps_tak
       let ended : Option (ℕ × List ℕ) × WalkPosition = (None, new) in
       let gives = step_gives old here.0 (nth_some old.table (steps_taken old) here.0 here.2) in
       let is : given ≡ ended = ok_is given ended (sym gives ∙ step.gives) in
-      absurd (some_is_none (old.index, here.0) (ap (λ (p : Option (ℕ × List ℕ) × WalkPosition). p.0) is))
+      absurd (none-some (old.index, here.0) (sym (ap (λ (p : Option (ℕ × List ℕ) × WalkPosition). p.0) is)))
   | inr past ↦
       let is : step_at_end old (walk_rest old.table) ≡ Ok (None, new) = sym (step_stops old past.1) ∙ step.gives in
       let rest = at_end old (walk_rest old.table) new is in

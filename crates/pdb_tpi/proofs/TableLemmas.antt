@@ -1,17 +1,16 @@
--- A table that was read is sound, and its first item stands behind the header.
+-- A table that was read is sound, and its first item follows the header.
 use Rattle.std.proofs.Common.{◌≡◌, ℕ, ◌-◌, ◌^◌, ◌≤◌, ◌<◌, Bool, true, false, leb, List, [], ◌∷◌, length, refl, ap}
 use Rattle.std.proofs.Common.{subst, arith, Ok}
 use Rattle.std.proofs.lemmas.Bool.Decides.{nat_tests}
 use Rattle.pdb_base.specs.Refusal.{Refusal}
 use Rattle.pdb_base.specs.Answer.{Answer, ◌>>=◌, ok_if}
-use Rattle.pdb_base.proofs.lemmas.Collected.{ok_is, bind_ok}
+use Rattle.pdb_base.proofs.lemmas.Collected.{ok_is, bind_ok, required_holds}
 use Rattle.pdb_tpi.specs.declared.header.Header.{Header}
 use Rattle.pdb_tpi.specs.Header.{empty_header, header_fields, check_header, read_header_of, header_of}
 use Rattle.pdb_tpi.specs.Table.{Table, IsTable}
 use Rattle.pdb_tpi.specs.Walk.{items, rest}
 use Rattle.pdb_tpi.specs.Steps.{room, body, walk, walk_rest}
 use Rattle.pdb_tpi.specs.Place.{GoesOn, IsPlace}
-use Rattle.pdb_tpi.proofs.FrontLemmas.{required_is}
 
 -- what a header that was checked is known to be
 pub record IsChecked (header : Header) (len : ℕ) : Type 0 where
@@ -32,7 +31,7 @@ checked_is header len x e =
     let whole = then_required (leb header.header_size len) _ _ x most.1 in
     let typed = then_required (leb 4096 header.minimum_index) _ _ x whole.1 in
     let ordered : leb header.minimum_index header.maximum_index ≡ true =
-    required_is (leb header.minimum_index header.maximum_index) _ x typed.1 in
+    required_holds (leb header.minimum_index header.maximum_index) _ x typed.1 in
     let within : leb header.header_size len ≡ true = whole.0 in
     let above : leb 4096 header.minimum_index ≡ true = typed.0 in
     record {
@@ -59,8 +58,7 @@ table_is [] header e indexed short =
       within = omega arith;
       ordered = omega arith;
       typed = λ some. absurd (some refl);
-      indexed =
-          omega arith;
+      indexed = omega arith;
       short = short;
     } in
     subst (λ (h : Header). IsTable (record { bytes = []; header = h })) (ok_is empty_header header e) empty

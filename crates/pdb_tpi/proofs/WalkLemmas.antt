@@ -1,7 +1,9 @@
 -- The walk, one item after another.
 use Rattle.std.proofs.Common.{◌≡◌, ℕ, zero, suc, ◌+◌, ◌-◌, ◌^◌, ◌≤◌, ◌<◌, true, false, ltb, cond, List, [], ◌∷◌, length}
-use Rattle.std.proofs.Common.{drop, refl, ap, ◌∙◌, arith, Ok, Err, Some, None}
+use Rattle.std.proofs.Common.{drop, refl, ap, ◌∙◌, arith, Ok, Err, Option, Some, None}
 use Rattle.std.specs.List.{slice_get}
+use Rattle.std.specs.Option.{option_map_or}
+use Rattle.std.specs.Result.{result_ok}
 use Rattle.std.proofs.lemmas.Bool.{le-ltb, lt-ltb}
 use Rattle.std.proofs.lemmas.Bool.Decides.{nat_tests}
 use Rattle.std.proofs.lemmas.List.{drop-drop, length-drop}
@@ -14,6 +16,18 @@ use Rattle.pdb_tpi.specs.Walk.{first_item, behind, items, rest, fault_of}
 use Rattle.pdb_tpi.specs.Steps.{room, walk, walk_rest, nth_item, reads_one}
 use Rattle.pdb_tpi.specs.Place.{IsPlace}
 use Rattle.pdb_tpi.proofs.FrontLemmas.{front_item}
+
+-- ---- how many items there can be
+
+few_by : (limit : ℕ) (bytes : List ℕ) (first : Option (List ℕ)) → ((rest : List ℕ) → length (items limit rest) ≤ limit)
+    → length (option_map_or (λ item. item ∷ items limit (behind item bytes)) first []) ≤ suc limit
+few_by limit bytes None few = omega arith
+few_by limit bytes (Some item) few = let rest = few (behind item bytes) in omega (arith, rest)
+
+pub items_few : (limit : ℕ) (bytes : List ℕ) → length (items limit bytes) ≤ limit
+unfolding items
+items_few zero bytes = omega arith
+items_few (suc limit) bytes = few_by limit bytes (result_ok (first_item bytes)) (items_few limit)
 
 -- ---- one step of the walk
 
@@ -65,7 +79,7 @@ dropped_none (suc n) (z ∷ zs) e = let ih = dropped_none n zs e in omega arith
 
 -- ---- where an iterator stands
 
--- The item before which an iterator stands, and where it stands behind that.
+-- The item before which an iterator is, and where it is past that item.
 pub record IsNext (table : Table) (index position : ℕ) (item : List ℕ) : Type 0 where
   pub is : slice_get (walk table) (index - table.header.minimum_index) ≡ Some item
   pub within : index - table.header.minimum_index < length (walk table)

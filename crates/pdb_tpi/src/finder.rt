@@ -148,7 +148,7 @@ impl<'t, I: ItemIndex> ItemFinder<'t, I> {
         }
     }
 
-    /// Learns from each iterator in turn, as `update` does.
+    /// Learns from one iterator after another, as `update` does.
     pub fn update_all(&mut self, iterators: &[ItemIter<'_, I>])
         requires { All (λ iterator. iterator.table ≡ self.old.table) iterators.now }
         ensures next { self.new ≡

@@ -5,7 +5,6 @@ use Rattle.std.proofs.Common.{Option, Some, None, Ok, Err, Vec, Global}
 use Rattle.std.specs.List.{All, list_any, slice_get}
 use Rattle.std.specs.List.Sorted.{IsNonDecreasingBy, IsPartitionPoint, IsPermutation}
 use Rattle.std.specs.Option.{option_map_or}
-use Rattle.std.specs.Result.{result_ok}
 use Rattle.std.specs.Str.{bytes_eq}
 use Rattle.std.proofs.Math.Seq.{drop-cons}
 use Rattle.std.proofs.Math.ListN.{drop_of_length-le}
@@ -26,7 +25,7 @@ use Rattle.pdb_tpi.specs.Finder.{item_of}
 use Rattle.pdb_tpi.specs.Record.{type_of}
 use Rattle.pdb_tpi.specs.Steps.{WalkPosition, IsStep, room, body, steps_taken, walk, walk_rest, nth_item}
 use Rattle.pdb_tpi.specs.Table.{Table}
-use Rattle.pdb_tpi.specs.Walk.{items, first_item, behind, fault_of}
+use Rattle.pdb_tpi.specs.Walk.{items, behind, fault_of}
 use Rattle.pdb_tpi.proofs.StepLemmas.{nth_ok, step_some, step_none, step_err}
 use Rattle.pdb_types.specs.declared.entry.Entry.{Entry}
 use Rattle.pdb_types.specs.Declaration.{Declared, TypeName, source_name, decorated_name, bears, declaration_of}
@@ -36,6 +35,7 @@ use Rattle.pdb_types.specs.Entries.{rank, name_entry, names_entries, entries_of,
 use Rattle.pdb_types.specs.Entries.{IsIndexed, AreCandidates}
 use Rattle.pdb_types.specs.NameHash.{name_hash}
 use Rattle.pdb_types.specs.TypeAt.{type_at}
+use Rattle.pdb_tpi.proofs.WalkLemmas.{items_few}
 
 -- ---- the indexes of entries
 
@@ -182,16 +182,6 @@ pub defined_there : (table : Table) (name : TypeName) (index : ℕ) → defines 
     → (item : List ℕ) × (item_of table index ≡ Ok item) × (defines name (type_of index item) ≡ true)
 unfolding type_at
 defined_there table name index is = defined_by name index (item_of table index) is
-
-few_by : (limit : ℕ) (bytes : List ℕ) (first : Option (List ℕ)) → ((rest : List ℕ) → length (items limit rest) ≤ limit)
-    → length (option_map_or (λ item. item ∷ items limit (behind item bytes)) first []) ≤ suc limit
-few_by limit bytes None few = omega arith
-few_by limit bytes (Some item) few = let rest = few (behind item bytes) in omega (arith, rest)
-
-items_few : (limit : ℕ) (bytes : List ℕ) → length (items limit bytes) ≤ limit
-unfolding items
-items_few zero bytes = omega arith
-items_few (suc limit) bytes = few_by limit bytes (result_ok (first_item bytes)) (items_few limit)
 
 walk_few : (table : Table) → length (walk table) ≤ room table
 unfolding walk

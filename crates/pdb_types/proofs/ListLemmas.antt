@@ -42,7 +42,7 @@ is_one number is = elim (cases_Bool (eqb number 0x1203)) [
   ]
 ]
 
--- what stands behind the leaf of a list
+-- what follows the leaf of a list
 behind : (index number : ℕ) (rest : List ℕ) → is_list number ≡ true
     → entries_of index (◌>>=◌ {A = TypeValue × List ℕ} {B = TypeValue}
     (record_of (eqb number field_list_leaf) number rest) (λ x. Ok x.0)) ≡ []

@@ -21,10 +21,8 @@ use Rattle.pdb_validation.specs.Names.{string_table_number, whole_names}
 use Rattle.pdb_validation.specs.Places.{PagesValue, stream_pages}
 use Rattle.pdb_validation.specs.Problem.{ProblemValue, is_tolerated}
 use Rattle.pdb_validation.specs.Roles.{frames_problem, known_roles, numbered_fault, omap_problem, problem_in}
-use Rattle.pdb_validation.specs.Roles.{role_fault}
-use Rattle.pdb_validation.specs.Roles.{role_index, role_problem, roles_fault, sections_problem, sources_rise}
-use Rattle.pdb_validation.specs.Roles.{starts_rise}
-use Rattle.pdb_validation.specs.Roles.{unless_sorted}
+use Rattle.pdb_validation.specs.Roles.{role_fault, role_index, role_problem, roles_fault, sections_problem}
+use Rattle.pdb_validation.specs.Roles.{sources_rise, starts_rise, unless_sorted}
 use Rattle.pdb_validation.specs.Sizes.{streams_nameable}
 use Rattle.pdb_validation.specs.Streams.{bytes_fault, fault_there, if_read, streams_faults, unless_absent}
 use Rattle.pdb_validation.specs.Tables.{fault_behind, id_faults, checked_id, ids_faults, item_fault, item_faults}

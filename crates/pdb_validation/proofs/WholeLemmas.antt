@@ -23,9 +23,8 @@ use Rattle.pdb_validation.proofs.RelationLemmas.{counted_none, none_with, uncoun
 use Rattle.pdb_validation.proofs.SeverityLemmas.{refused_errors}
 use Rattle.pdb_validation.specs.Finding.{FaultPlace, by_extent, error_count, errors_in, finding_view, stream_fault}
 use Rattle.pdb_validation.specs.IsWhole.{AreFaultless, AreWholeIds, AreNames, AreWholeTypes, HasRole, HasWholeNames}
-use Rattle.pdb_validation.specs.IsWhole.{HasWholeParts}
-use Rattle.pdb_validation.specs.IsWhole.{HasWholeRecords, IfRead, IsNumbered, IsReadOrAbsent, IsThere, IsWhole}
-use Rattle.pdb_validation.specs.IsWhole.{IsWholeBehind}
+use Rattle.pdb_validation.specs.IsWhole.{HasWholeParts, HasWholeRecords, IfRead, IsNumbered, IsReadOrAbsent, IsThere}
+use Rattle.pdb_validation.specs.IsWhole.{IsWhole, IsWholeBehind}
 use Rattle.pdb_validation.specs.Names.{fault_of_answer, named_fault, names_fault, string_table_fault}
 use Rattle.pdb_validation.specs.Names.{string_table_number, whole_names}
 use Rattle.pdb_validation.specs.Places.{PagesValue, stream_pages}
@@ -39,8 +38,7 @@ use Rattle.pdb_validation.specs.Sizes.{directory_size, nameable, streams_nameabl
 use Rattle.pdb_validation.specs.Streams.{bytes_fault, fault_there, if_read, streams_faults, unless_absent}
 use Rattle.pdb_validation.specs.Tables.{fault_behind, id_faults, checked_id, ids_faults, item_fault, item_faults}
 use Rattle.pdb_validation.specs.Tables.{missing_fault, record_faults, refusal_fault, table_faults, type_faults}
-use Rattle.pdb_validation.specs.Tables.{checked_type}
-use Rattle.pdb_validation.specs.Tables.{types_faults}
+use Rattle.pdb_validation.specs.Tables.{checked_type, types_faults}
 use Rattle.pdb_validation.specs.Whole.{faults_behind, faults_by, faults_of, faults_of_ids, faults_of_types}
 use Rattle.pdb_validation.specs.Whole.{fixed_faults}
 use Rattle.pdb_validation.specs.Whole.{opened_faults, part_faults, refused_faults, sized_faults, with_role, with_roles}

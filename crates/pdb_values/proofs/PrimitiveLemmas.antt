@@ -14,8 +14,7 @@ use Rattle.pdb_values.specs.declared.primitive.PrimitiveKind.{PrimitiveKind}
 use Rattle.pdb_values.specs.declared.primitive.PrimitiveKind.TheVariants as kinds
 use Rattle.pdb_values.specs.declared.primitive.PrimitiveType.{PrimitiveType}
 use Rattle.pdb_values.specs.Primitive.{first_record, primitive_kinds, indirections, value_or_not_found, beside_number}
-use Rattle.pdb_values.specs.Primitive.{primitive_kind}
-use Rattle.pdb_values.specs.Primitive.{primitive_indirection, primitive_type}
+use Rattle.pdb_values.specs.Primitive.{primitive_kind, primitive_indirection, primitive_type}
 use Rattle.pdb_values.specs.Laws.{HasOneIndex, IsRefusedByIndex}
 
 -- the number of a kind

@@ -1,15 +1,17 @@
 //! The values of id records.
 
-ghost use Rattle.std.specs.Prelude.{Ok};
+ghost use Rattle.std.specs.Prelude.{◌≡◌, Ok};
+ghost use Rattle.std.specs.Option.{option_map};
 ghost use Rattle.pdb_base.specs.Answer.{Answers};
 ghost use Rattle.pdb_base.specs.Memory.{LacksOnlyIf};
-ghost use Rattle.pdb_values.specs.IdValue.{id_value};
+ghost use Rattle.pdb_values.specs.IdValue.{id_name, id_value};
 ghost use Rattle.pdb_values.specs.Items.{HasIdListItem};
+ghost use Rattle.pdb_values.specs.Text.{text_bytes};
 
 use crate::function_id::{FunctionId, MemberFunctionId};
 use crate::list_id::{BuildInfoId, StringId, StringListId};
 use crate::source_id::UserDefinedTypeSourceId;
-use pdb_base::Result;
+use pdb_base::{RawString, Result};
 use std::alloc::Global;
 
 /// The value of an id record.
@@ -35,6 +37,18 @@ pub enum IdData<'t> {
 }
 
 impl<'t> IdData<'t> {
+    /// Returns the name of a function, a method or a text. Returns None for every other id.
+    pub fn name(&self) -> Option<RawString<'t>>
+        ensures { option_map text_bytes result ≡ id_name (id_value self.now) }
+    {
+        match self {
+            IdData::Function(function) => Some(function.name),
+            IdData::MemberFunction(method) => Some(method.name),
+            IdData::String(text) => Some(text.name),
+            _ => None,
+        }
+    }
+
     /// Returns an equal value, with memory of its own for a list.
     ///
     /// # Errors

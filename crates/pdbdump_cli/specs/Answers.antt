@@ -17,7 +17,7 @@ use Rattle.pdbdump_rows.specs.Row.{ShownField, ShownRow, hexadecimal, kind, text
 abbrev pub question_shown : List ℕ → ShownRow
 question_shown line = (codes "question", text line) ∷ []
 
--- what is shown for a line that asks nothing: the words that a question may have
+-- what is shown for a line without a query: the words that a query may have
 abbrev pub no_query : List ℕ
 no_query = codes "no question: stream N [LIMIT] | type S I | id S I | name S O | ranges S A B | fields S I"
 
@@ -57,7 +57,7 @@ reply_text form (replies.Fields names) = flat_map
 reply_text form (replies.Ranges ranges) = flat_map (λ range. row_text form (range_shown range)) ranges.items
 reply_text form reply = row_text form (reply_shown reply)
 
--- the lines of an answer: those of the reply, or a line that says that nothing was asked
+-- the lines of an answer: those of the reply, or a line that says that there was no query
 abbrev pub answer_text : Form → Option Reply → List ℕ
 answer_text form (Some reply) = reply_text form reply
 answer_text form None = row_text form unasked_shown

@@ -1,6 +1,5 @@
--- What is written when a file is asked questions, each as it is read.
-use Rattle.std.specs.Prelude.{◌≡◌, ◌⊎◌, ◌&&◌, ℕ, Bool, true, List, [], ◌∷◌, ◌++◌, Option, Some, None, Result, Ok}
-use Rattle.std.specs.Prelude.{Err}
+-- What is written for the queries in an input about one file, each as it is read.
+use Rattle.std.specs.Prelude.{◌≡◌, ◌⊎◌, ◌&&◌, ℕ, Bool, true, List, [], ◌∷◌, ◌++◌, Option, Some, None, Result, Ok, Err}
 use Rattle.std.specs.Io.KnownBytes.{Consumes, IsAtEnd}
 use Rattle.std.specs.List.{slice_split}
 use Rattle.pdb_base.specs.declared.error.Error.{Error}
@@ -19,8 +18,8 @@ use Rattle.pdbdump_cli.specs.Answers.{answered_text, is_answer}
 use Rattle.pdbdump_cli.specs.Questions.{Asking, ends_line, questions_in, questions_of}
 use Rattle.pdbdump_cli.specs.declared.answers.AskedFile.{AskedFile}
 
--- What a file replies to a question: nothing if the line asks nothing, and else what the file says, or
--- its refusal.
+-- The reply of a file to the query of a line: none if the line has no query, and else what the file says,
+-- or its refusal.
 abbrev pub IsReplied : List ℕ → Head → Option Query → Option Reply → Type 0
 IsReplied file head None reply = reply ≡ None
 IsReplied file head (Some query) None = ⊥
@@ -63,13 +62,13 @@ AnswersAll form file head questions old new (Ok all) = (lines : List ℕ)
 AnswersAll form file head questions old new (Err e) =
     AreFirstAnswered form file head questions old.contents new.contents × IsOutputFailure old new e
 
--- Why asking ends early: the output failed, or memory ran out, or the questions can't be read.
+-- Why a run of queries ends early: the output failed, or memory ran out, or the input can't be read.
 abbrev pub IsAskingFailure : OutputState → OutputState → Error → Type 0
 IsAskingFailure old new e = IsOutputFailure old new e ⊎ (IsUnread e × (new.has_failed ≡ old.has_failed))
 
--- A file with this header was asked the questions in an input. Either all that the input had was read, and the lines of
--- all answers were written; the result is whether all are answered. Or asking ended early, behind a prefix of the
--- answers to what was read.
+-- The queries in an input were answered about a file with this header. Either all that the input had was read, and
+-- the lines of all answers were written; the result is whether all are answered. Or the run ended early, behind a
+-- prefix of the answers to what was read.
 abbrev pub AsksAll : Form → List ℕ → Head → Option (List ℕ) → Option (List ℕ) → OutputState → OutputState
     → Result Bool Error → Type 0
 AsksAll form file head had left old new (Ok all) = (text : List ℕ) × Consumes had left text × IsAtEnd left
@@ -77,8 +76,8 @@ AsksAll form file head had left old new (Ok all) = (text : List ℕ) × Consumes
 AsksAll form file head had left old new (Err e) = (text : List ℕ) × (rest : Option (List ℕ)) × Consumes had rest text
     × AreFirstAnswered form file head (questions_in text) old.contents new.contents × IsAskingFailure old new e
 
--- A file was asked the questions in an input; or the file is refused, or memory for it, and nothing is read or
--- written.
+-- The queries in an input were answered about a file; or opening the file fails, or an allocation for it, and nothing
+-- is read or written.
 pub data IsAsked (form : Form) (file : List ℕ) (had left : Option (List ℕ)) (old new : OutputState)
     (result : Result Bool Error) : Type 0 where
   opened : (head : Head) → file_head file ≡ Ok head → AsksAll form file head had left old new result
@@ -86,14 +85,14 @@ pub data IsAsked (form : Form) (file : List ℕ) (had left : Option (List ℕ)) 
   refused : (fault : Error) → result ≡ Err fault → (file_head file ≡ Err (refusal_of fault)) ⊎ (fault ≡ OutOfMemory)
       → left ≡ had → new ≡ old → IsAsked form file had left old new result
 
--- ---- a file between two questions
+-- ---- a file between two queries
 
 -- The open tables are those of the file, and what was read of a line has no end of a line in it.
 pub record IsReady (asked : AskedFile) : Type 0 where
   pub tables : AreOf (stream_of asked.file.source.items asked.file.head) asked.tables
   pub unended : slice_split ends_line asked.rest.items ≡ asked.rest.items ∷ []
 
--- A file that stays open to be asked keeps its form, its bytes and its header.
+-- A file that stays open for queries keeps its form, its bytes and its header.
 pub record IsKeptOpen (old new : AskedFile) : Type 0 where
   pub form : new.form ≡ old.form
   pub bytes : new.file.source.items ≡ old.file.source.items

@@ -6,7 +6,7 @@ use Rattle.pdbdump_rows.specs.declared.form.Form.{Form}
 use Rattle.pdbdump_cli.specs.Asked.{IsAsked}
 use Rattle.pdbdump_cli.specs.Served.{IsEndedAs}
 
--- The questions in an input were asked of a file, the output was flushed, and the program ended as the answers say.
+-- The queries in an input were answered about a file, the output was flushed, and the program ended as the answers say.
 pub record IsAskingDone (form : Form) (file : List ℕ) (had : Option (List ℕ)) (out out' err err' : OutputState)
     (status : ℕ) : Type 0 where
   pub left : Option (List ℕ)

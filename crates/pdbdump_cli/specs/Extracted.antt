@@ -15,7 +15,7 @@ number_or_meant file head word None = stream_meant file head word
 unfoldable pub number_meant : List ℕ → Head → List ℕ → Answer ℕ
 number_meant file head word = number_or_meant file head word (number_of word)
 
--- a part of the bytes of the stream that is asked for, and nothing else
+-- a part of the bytes of the stream that was requested, and nothing else
 unfoldable pub extraction_in : List ℕ → Head → ExtractValue → Listing
 extraction_in file head asked =
     listed_of (λ number. extraction file head number asked.skip asked.limit) (number_meant file head asked.stream)

@@ -132,7 +132,7 @@ file_in forms.Json path counts = row_text forms.Json (file_shown path counts)
 unfoldable pub validate_lines : Form → List ℕ → List FaultPlace → List ℕ
 validate_lines form path faults = flat_map (fault_in form path) faults ++ file_in form path (counts_of faults)
 
--- nothing, if only the status is asked for
+-- nothing, if only the status is told
 abbrev pub lines_unless : Bool → Form → List ℕ → List FaultPlace → List ℕ
 lines_unless true form path faults = []
 lines_unless false form path faults = validate_lines form path faults

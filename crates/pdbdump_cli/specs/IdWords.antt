@@ -13,7 +13,7 @@ use Rattle.pdbdump_cli.specs.declared.command.Verb.TheVariants as verbs
 abbrev pub own_name : List ℕ → List ℕ
 own_name path = unwrap_or (path_file_name path) path
 
--- what `id` is asked
+-- a request of `id`
 pub record IdentifyValue : Type 0 where
   pub path : List ℕ
   pub style : KeyStyle
@@ -28,7 +28,7 @@ identify_view asked = record {
   expected = option_map (λ word. word.now) asked.expected;
 }
 
--- what `id` is asked with a path and options, if nothing else is given
+-- the request of `id` with a path and options, if nothing else is given
 abbrev pub identify_with : List ℕ → IdGiven → Option (List ℕ) → Option IdentifyValue
 identify_with path given None = Some (record {
   path = path;
@@ -38,7 +38,7 @@ identify_with path given None = Some (record {
 })
 identify_with path given (Some operand) = None
 
--- what `id` is asked with the words behind its name
+-- the request of the words behind `id`
 unfoldable pub identify_of : List (List ℕ) → Option IdentifyValue
 identify_of words =
     option_and_then (λ given. option_and_then (λ path. identify_with path given.id given.operand) given.path)

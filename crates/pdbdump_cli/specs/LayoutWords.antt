@@ -80,7 +80,7 @@ layout_options options (word ∷ next ∷ words) =
     (with_flag options word) (with_value options word next)
     else Some (record { options = options; words = word ∷ next ∷ words })
 
--- what `layout` is asked: the path of the file, names, and how layouts are shown
+-- a request of `layout`: the path of the file, names, and how layouts are shown
 pub record LayoutsValue : Type 0 where
   pub path : List ℕ
   pub names : List (List ℕ)
@@ -107,8 +107,8 @@ shown_with options = record {
 abbrev pub none_given : LayoutOptions
 none_given = record { style = None; order = None; depth = None; has_holes = false; all = false }
 
--- with the words behind the options: the path, and then names, of which there is none exactly if all layouts are asked
--- for
+-- with the words behind the options: the path, and then names, of which there is none exactly if all layouts are
+-- shown
 abbrev pub with_path : LayoutOptions → List (List ℕ) → Option LayoutsValue
 with_path options [] = None
 with_path options (path ∷ []) = if options.all then Some
@@ -121,6 +121,6 @@ with_path options (path ∷ name ∷ names) =
 abbrev pub layouts_with : Behind → Option LayoutsValue
 layouts_with behind = with_path behind.options behind.words
 
--- what `layout` is asked with the words behind its name
+-- the request of the words behind `layout`
 unfoldable pub layouts_of : List (List ℕ) → Option LayoutsValue
 layouts_of words = option_and_then layouts_with (layout_options none_given words)

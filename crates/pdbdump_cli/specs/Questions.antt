@@ -26,7 +26,7 @@ texts_of words = if list_all is_utf8 words then Some words else None
 unfoldable pub query_in : List ℕ → Option Query
 query_in line = option_and_then query_of (texts_of (words_of line))
 
--- a line, and the query that it asks, if it asks one
+-- a line, and its query, if it has one
 abbrev pub Asking : Type 0
 Asking = List ℕ × Option Query
 

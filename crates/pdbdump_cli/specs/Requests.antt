@@ -13,7 +13,7 @@ use Rattle.pdbdump_cli.specs.declared.command.Command.{Command}
 use Rattle.pdbdump_cli.specs.declared.command.Request.{Request}
 use Rattle.pdbdump_cli.specs.declared.command.Request.TheVariants as requests
 
--- What a command asks of a file was written, or cut short; the output was flushed, and the program ended.
+-- What a command writes about a file was written, or cut short; the output was flushed, and the program ended.
 pub record IsCommandDone (form : Form) (command : Command) (file : List ℕ) (out out' err err' : OutputState)
     (status : ℕ) : Type 0 where
   pub written : OutputState

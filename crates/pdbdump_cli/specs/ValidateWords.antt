@@ -31,7 +31,7 @@ options_in words = record {
   is_quiet = is_given (codes "--quiet") words;
 }
 
--- what `validate` is asked: how files are checked, and their paths
+-- a request of `validate`: how files are checked, and their paths
 pub record ValidateValue : Type 0 where
   pub options : ValidateOptions
   pub paths : List (List ℕ)
@@ -44,6 +44,6 @@ abbrev pub with_paths : ValidateOptions → List (List ℕ) → Option ValidateV
 with_paths options [] = None
 with_paths options (path ∷ paths) = Some (record { options = options; paths = path ∷ paths })
 
--- what `validate` is asked with the words behind its name
+-- the request of the words behind `validate`
 unfoldable pub validate_of : List (List ℕ) → Option ValidateValue
 validate_of words = if list_any is_unknown words then None else with_paths (options_in words) (paths_in words)

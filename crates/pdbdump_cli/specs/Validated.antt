@@ -34,8 +34,8 @@ pub record IsConcluded (options : ValidateOptions) (form : Form) (path file : Li
   pub judged : IsJudged options.is_strict (faults_of options.extent file) ended status
   pub whole : (error_count (faults_of options.extent file) ≡ 0) ↔ IsWhole file
 
--- What `validate` does with a file: faults are looked for, and the program ends as above; or memory is refused, which
--- is reported, and no output is written.
+-- What `validate` does with a file: faults are looked for, and the program ends as above; or an allocation fails,
+-- which is reported, and no output is written.
 pub data IsValidated (options : ValidateOptions) (form : Form) (path file : List ℕ) (out out' err err' : OutputState)
     (status : ℕ) : Type 0 where
   concluded : IsConcluded options form path file out out' err err' status

@@ -106,7 +106,7 @@ with_option verbs.Layout options option value = None
 
 -- ---- arguments
 
--- what stands behind the name of a command: its options, the path of the file, and what is asked of the file
+-- what follows the name of a command: its options, the path of the file, and the query
 pub record Given : Type 0 where
   pub options : Options
   pub id : IdGiven
@@ -138,7 +138,7 @@ none_given = record {
   operand = None;
 }
 
--- with one more word that is no option: first the path, and then what is asked of the file
+-- with one more word that is no option: first the path, and then the query
 abbrev pub operand_behind : Given → List ℕ → Option (List ℕ) → Option (List ℕ) → Option Given
 operand_behind given word None operand = Some (record given { path = Some word })
 operand_behind given word (Some path) None = Some (record given { operand = Some word })
@@ -174,7 +174,7 @@ abbrev pub frames_with : Option ℕ → Option ℕ → Command
 frames_with None None = commands.Frames
 frames_with old new = commands.FramesIn old new
 
--- what a command lists with options and what is asked of the file, which is the address for `map`
+-- what a command lists with options and the query, which is the address for `map`
 abbrev pub command_with : Verb → Options → Option (List ℕ) → Option Command
 command_with verbs.Map options (Some address) = option_map (λ a. commands.Map a options.map) (number_of address)
 command_with verbs.Map options None = None
@@ -207,7 +207,7 @@ call_with verb words =
     (task_with verb given.options given.operand)) given.path)
     (arguments_with verb none_given words)
 
--- what `extract` is asked: the path of the file, the word for the stream, how many bytes are left out, and how
+-- a request of `extract`: the path of the file, the word for the stream, how many bytes are left out, and how
 -- many are written at most
 pub record ExtractValue : Type 0 where
   pub path : List ℕ
@@ -223,7 +223,7 @@ extract_view extract = record {
   limit = extract.limit;
 }
 
--- what `extract` is asked with the words behind its name
+-- the request of the words behind `extract`
 unfoldable pub extract_of : List (List ℕ) → Option ExtractValue
 extract_of words =
     option_and_then

@@ -58,7 +58,7 @@ fn list_ids<W: Write>(
     }
 }
 
-/// Writes what a command asks of a file that was opened.
+/// Writes what a command lists of a file that was opened.
 fn list_opened<W: Write>(
     alloc: Global,
     mut file: PDB<Vec<u8>>,
@@ -88,7 +88,7 @@ fn list_opened<W: Write>(
     }
 }
 
-/// Writes what a command asks of a file: a line for each record, or the bytes of a stream.
+/// Writes what a command lists of a file: a line for each record, or the bytes of a stream.
 ///
 /// # Errors
 /// Fails with the errors of `PDB::open`, and then with those of the command, after the lines up to

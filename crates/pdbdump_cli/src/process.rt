@@ -137,7 +137,8 @@ fn call_layout<P: Files + Input + Print + Eprint + AllocGlobal>(
     }
 }
 
-/// Does what the words after `id` ask, of each file in turn, and returns the highest status.
+/// Serves the request of the words behind `id` for one file after another, and returns the highest
+/// status.
 fn call_id<P: Files + Input + Print + Eprint + AllocGlobal>(
     process: &P,
     plain: &[&str],

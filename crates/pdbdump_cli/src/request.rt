@@ -42,9 +42,9 @@ fn serve_read<O: Write, E: Write>(
 
 /// Reads a file from the input and serves a request for it. Returns the status with which the
 /// program ends: 1 if the file is of another format than `id` reads, or not the expected one, if
-/// something is found wrong in it, or if a layout wasn't found; or after a fault of the file or of a
-/// channel, which is written to the error channel, behind what was written before it, unless it is
-/// that the output was closed.
+/// `validate` finds an error in it, or with `--strict` a warning, or if a layout wasn't found; or
+/// after a fault of the file or of a channel, which is written to the error channel, behind what
+/// was written before it, unless it is that the output was closed.
 pub fn serve<I: Read, O: Write, E: Write>(
     alloc: Global,
     request: &Request<'_>,

@@ -363,7 +363,8 @@ fn task_with<'w>(verb: Verb, options: Options, operand: Option<&'w str>) -> Opti
     }
 }
 
-/// Returns what a command asks with the words behind its name, and of which file, if it takes them.
+/// Returns the request that a command makes with the words behind its name, and the path of its
+/// file, if it takes them.
 #[tactic(auto, unfolding(crate::specs::Words::call_with))]
 fn call_with<'w>(verb: Verb, words: &[&'w str]) -> Option<Call<'w>>
     ensures { option_map call_view result ≡ call_with verb (map (λ word. word.now) words.now) }

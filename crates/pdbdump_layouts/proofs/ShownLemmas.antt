@@ -1,7 +1,6 @@
 -- Steps of showing layouts.
-use Rattle.std.proofs.Common.{◌≡◌, ◌≢◌, ◌⊎◌, subst, refl, inl, inr, ℕ, ◌<◌, true, List, []}
-use Rattle.std.proofs.Common.{◌++◌, map, arith, length, ◌∷◌, Some, Ok, Err, Result, Vec, Global}
-use Rattle.std.proofs.Common.{IfOk, OnOk}
+use Rattle.std.proofs.Common.{◌≡◌, ◌≢◌, ◌⊎◌, subst, refl, inl, inr, ℕ, ◌<◌, true, List, [], ◌++◌, map, arith, length}
+use Rattle.std.proofs.Common.{◌∷◌, Some, Ok, Err, Result, Vec, Global, IfOk, OnOk}
 use Rattle.std.specs.List.{list_any}
 use Rattle.std.proofs.lemmas.List.{length-map, map-append}
 use Rattle.std.proofs.lemmas.List.Sorted.{IsPermutation-map}
@@ -19,13 +18,9 @@ use Rattle.pdb_types.specs.Definition.{all_definitions}
 use Rattle.pdb_base.specs.Refusal.{refusal_of}
 use Rattle.pdbdump_layouts.specs.Classes.{AreClasses, class_layout}
 use Rattle.pdbdump_layouts.specs.Pattern.{is_sign}
-use Rattle.pdbdump_layouts.specs.Shown.{AreNamesMeant, AreTypesNamed, AreTypesShown}
-use Rattle.pdbdump_layouts.specs.Shown.{HasLayout}
-use Rattle.pdbdump_layouts.specs.Shown.{IsNameMeant, IsStopped, IsMessageTold, IsTypeShown, ShowState}
-use Rattle.pdbdump_layouts.specs.Shown.{by_name}
-use Rattle.pdbdump_layouts.specs.Shown.{by_pattern, is_wanted, member, nothing, refused}
-use Rattle.pdbdump_layouts.specs.Shown.{layout_separator, types}
-use Rattle.pdbdump_layouts.specs.Shown.{written}
+use Rattle.pdbdump_layouts.specs.Shown.{AreNamesMeant, AreTypesNamed, AreTypesShown, HasLayout, IsNameMeant, IsStopped}
+use Rattle.pdbdump_layouts.specs.Shown.{IsMessageTold, IsTypeShown, ShowState, by_name, by_pattern, is_wanted, member}
+use Rattle.pdbdump_layouts.specs.Shown.{nothing, refused, layout_separator, types, written}
 use Rattle.pdbdump_layouts.specs.declared.options.Options.{Options}
 use Rattle.pdbdump_layouts.specs.declared.show.Progress.{Progress}
 use Rattle.pdbdump_layouts.specs.declared.show.Rank.{Rank}

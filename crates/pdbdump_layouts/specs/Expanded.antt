@@ -65,7 +65,7 @@ inner_start start (rows.Field field) = cap_at_64_bits (start + field.place.offse
 inner_start start (rows.Gap gap) = start
 
 -- Rows of a class that is so deep and begins at an offset are shown, and behind each those of the class within it, if
--- that is not deeper than was asked. A class within may be left out; `cut` is whether one was before, and `cut'`
+-- that is not deeper than the limit. A class within may be left out; `cut` is whether one was before, and `cut'`
 -- whether one was at last.
 pub data IsExpanded (table : Table) (asked : ℕ) : ℕ → ℕ → Bool → Bool → List LayoutRow → List ShownRow → Type 0 where
   none : (depth start : ℕ) (cut : Bool) → IsExpanded table asked depth start cut cut [] []
@@ -104,7 +104,7 @@ pub record AreExpandedRows (table : Table) (asked depth start : ℕ) (cut cut' :
   pub expanded : IsExpanded table asked depth start cut cut' rows added
 
 -- A class is shown with the classes within it: the rows of the class itself are those of its layout, none is deeper
--- than was asked, at most 65,536 are of classes within, and it is told if any class within was left out.
+-- than the limit, at most 65,536 are of classes within, and it is told if any class within was left out.
 pub record AreExpanded (table : Table) (layout : Layout) (depth : ℕ) (expansion : Expansion) : Type 0 where
   pub own : AreRowsOf layout (rows_at 0 expansion.rows.items)
   pub deep : All (λ row. row.depth ≤ depth) expansion.rows.items

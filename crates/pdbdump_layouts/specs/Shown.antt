@@ -141,7 +141,7 @@ pub record AreLayoutsShown (table : Table) (names : List (List ℕ)) (options : 
   pub order : AreOrdered options.order found ordered
   pub shown : AreTypesShown table options form ordered between new
 
--- What a call that shows layouts returns: whether all that was asked for is there; the fault of the table, before
+-- What a call that shows layouts returns: whether all that was looked for is there; the fault of the table, before
 -- anything is written; or why it ended early.
 pub data IsShowResult (stream : List ℕ) (names : List (List ℕ)) (options : Options) (form : Form)
     (out out' err err' : OutputState) : Result Bool Error → Type 0 where
@@ -162,7 +162,7 @@ pub data TellsMessages (old : OutputState) : OutputState → Type 0 where
   more : (told new : OutputState) (message : List ℕ) → TellsMessages old told → GetsUnlessFailed told new message
       → TellsMessages old new
 
--- All that was asked for is there, and nothing was told; or not all is, and something was told.
+-- All that was looked for is there, and nothing was told; or not all is, and something was told.
 abbrev pub Accounts : OutputState → OutputState → Bool → Type 0
 Accounts err err' true = err' ≡ err
 Accounts err err' false = TellsMessages err err'

@@ -74,7 +74,7 @@ pub(crate) fn plural(count: u64) -> &'static str {
     if count == 1 { "" } else { "s" }
 }
 
-/// Appends as many spaces as a depth asks for.
+/// Appends the spaces of a depth.
 pub(crate) fn push_indent(depth: u32, width: u32, text: &mut Vec<u8>) -> Result<()> {
     for _ in 0..depth {
         for _ in 0..width {

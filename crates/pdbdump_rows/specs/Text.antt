@@ -22,7 +22,7 @@ abbrev pub four_digits : ℕ → List ℕ
 four_digits n = digit_glyph false (n / 4096) ∷ digit_glyph false (n / 256 % 16) ∷ digit_glyph false (n / 16 % 16)
     ∷ digit_glyph false (n % 16) ∷ []
 
--- each character that has a short escape, and what stands behind the backslash of that (RFC 8259, section
+-- each character that has a short escape, and what follows the backslash of that (RFC 8259, section
 -- 7)
 abbrev pub short_escapes : List (ℕ × ℕ)
 short_escapes =
@@ -35,7 +35,7 @@ short_escapes =
     ∷ (0x0d, 0x72)  -- carriage return, `r`
     ∷ []
 
--- what stands behind the backslash of an escape: the letter of a short escape, or `u` and four digits
+-- what follows the backslash of an escape: the letter of a short escape, or `u` and four digits
 abbrev pub behind_backslash : ℕ → Option ℕ → List ℕ
 behind_backslash c (Some letter) = letter ∷ []
 behind_backslash c None = 0x75 ∷ four_digits c

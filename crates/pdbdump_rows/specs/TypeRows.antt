@@ -31,15 +31,14 @@ use Rattle.pdb_values.specs.declared.primitive.PrimitiveType.{PrimitiveType}
 use Rattle.pdbdump_rows.specs.declared.names.TheConstants.{ACCESS, ARGUMENTS, ARGUMENT_LIST, ATTRIBUTES, BASE_CLASS}
 use Rattle.pdbdump_rows.specs.declared.names.TheConstants.{BASE_POINTER, BASE_POINTER_OFFSET, CALLING_CONVENTION}
 use Rattle.pdbdump_rows.specs.declared.names.TheConstants.{CLASS_TYPE, CONTAINING_CLASS, CONTINUATION, COUNT}
-use Rattle.pdbdump_rows.specs.declared.names.TheConstants.{DERIVED_FROM, DESCRIPTORS, DIMENSIONS, DIRECT}
-use Rattle.pdbdump_rows.specs.declared.names.TheConstants.{ELEMENT_TYPE, FIELDS, FIELD_TYPE, HFA, INDEXING_TYPE}
-use Rattle.pdbdump_rows.specs.declared.names.TheConstants.{INDIRECTION, LENGTH, METHODS, METHOD_LIST, METHOD_TYPE}
-use Rattle.pdbdump_rows.specs.declared.names.TheConstants.{MOCOM, MODIFIERS, NAME, NESTED_TYPE, OFFSET}
-use Rattle.pdbdump_rows.specs.declared.names.TheConstants.{PARAMETER_COUNT, POINTER_KIND, POINTER_MODE, POSITION}
-use Rattle.pdbdump_rows.specs.declared.names.TheConstants.{PRIMITIVE_KIND, PROPERTIES, RETURN_TYPE, SIZE, STRIDE}
-use Rattle.pdbdump_rows.specs.declared.names.TheConstants.{TABLE, THIS_ADJUSTMENT, THIS_POINTER_TYPE, UNDERLYING_TYPE}
-use Rattle.pdbdump_rows.specs.declared.names.TheConstants.{UNIQUE_NAME, VALUE, VIRTUAL_BASE_OFFSET, VTABLE_OFFSET}
-use Rattle.pdbdump_rows.specs.declared.names.TheConstants.{VTABLE_SHAPE}
+use Rattle.pdbdump_rows.specs.declared.names.TheConstants.{DERIVED_FROM, DESCRIPTORS, DIMENSIONS, DIRECT, ELEMENT_TYPE}
+use Rattle.pdbdump_rows.specs.declared.names.TheConstants.{FIELDS, FIELD_TYPE, HFA, INDEXING_TYPE, INDIRECTION, LENGTH}
+use Rattle.pdbdump_rows.specs.declared.names.TheConstants.{METHODS, METHOD_LIST, METHOD_TYPE, MOCOM, MODIFIERS, NAME}
+use Rattle.pdbdump_rows.specs.declared.names.TheConstants.{NESTED_TYPE, OFFSET, PARAMETER_COUNT, POINTER_KIND}
+use Rattle.pdbdump_rows.specs.declared.names.TheConstants.{POINTER_MODE, POSITION, PRIMITIVE_KIND, PROPERTIES}
+use Rattle.pdbdump_rows.specs.declared.names.TheConstants.{RETURN_TYPE, SIZE, STRIDE, TABLE, THIS_ADJUSTMENT}
+use Rattle.pdbdump_rows.specs.declared.names.TheConstants.{THIS_POINTER_TYPE, UNDERLYING_TYPE, UNIQUE_NAME, VALUE}
+use Rattle.pdbdump_rows.specs.declared.names.TheConstants.{VIRTUAL_BASE_OFFSET, VTABLE_OFFSET, VTABLE_SHAPE}
 use Rattle.pdbdump_rows.specs.Fields.{type_index, optional_type, optional_number, optional_text, nonzero, begin_row}
 use Rattle.pdbdump_rows.specs.Row.{ShownValue, ShownRow, number, signed, flag, text, words, numbers, indexes}
 use Rattle.pdbdump_rows.specs.Words.{access_word, field_words, function_words, indirection_word, kind_word, mode_word}

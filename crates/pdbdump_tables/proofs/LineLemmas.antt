@@ -1,6 +1,5 @@
 -- The lines of kinds from a place on.
-use Rattle.std.proofs.Common.{◌≡◌, ℕ, ◌+◌, ◌<◌, List, ◌++◌, length, drop, get_or, refl, ap, ◌∙◌, add-one}
-use Rattle.std.proofs.Common.{drop-cons}
+use Rattle.std.proofs.Common.{◌≡◌, ℕ, ◌+◌, ◌<◌, List, ◌++◌, length, drop, get_or, refl, ap, ◌∙◌, add-one, drop-cons}
 use Rattle.pdbdump_rows.specs.declared.form.Form.{Form}
 use Rattle.pdbdump_rows.specs.Lines.{row_text}
 use Rattle.pdbdump_tables.specs.Kinds.{kind_lines, kind_shown}

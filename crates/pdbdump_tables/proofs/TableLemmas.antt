@@ -23,8 +23,7 @@ use Rattle.pdbdump_rows.specs.declared.form.Form.{Form}
 use Rattle.pdbdump_rows.specs.Lines.{row_text}
 use Rattle.pdbdump_rows.specs.TableRows.{section_row, omap_row, frame_row}
 use Rattle.pdbdump_tables.specs.Tables.{section_lines, omap_lines, frame_lines, omap_rises, offset_name_lines}
-use Rattle.pdbdump_tables.specs.Tables.{name_shown, names_from}
-use Rattle.pdbdump_tables.specs.Tables.{next_place}
+use Rattle.pdbdump_tables.specs.Tables.{name_shown, names_from, next_place}
 
 -- the line of a first record stands before those of the others
 pub omap_next : (form : Form) (records : List OmapValue) (mapping : OmapValue) (others : List OmapValue)

@@ -4,14 +4,12 @@ use Rattle.std.proofs.Common.{List, [], ◌∷◌, length, get_or, take, drop, O
 use Rattle.std.proofs.Common.{subst, ◌∙◌, arith, drop-cons, zero-add}
 use Rattle.std.specs.Prelude.{slice_index_or, slice_set}
 use Rattle.std.specs.List.{sum_by}
-use Rattle.std.specs.Option.{option_map_or}
-use Rattle.std.specs.Result.{result_ok}
 use Rattle.std.proofs.lemmas.Bool.{cases_Bool, cases_lt, eqb-true, eqb-false}
 use Rattle.std.proofs.lemmas.List.{get_or_past, get_or-set_same, get_or-set_other, length-drop}
 use Rattle.std.proofs.Math.ListN.{drop_of_length-le}
 use Rattle.std.proofs.lemmas.List.Filters.{length-filter_both, sum_by-filter_both}
 use Rattle.std.proofs.lemmas.List.Sums.{sum_by-cons, sum_by-take-drop}
-use Rattle.std.proofs.lemmas.Option.{slice_get_past, slice_get-get_or}
+use Rattle.std.proofs.lemmas.Option.{slice_get_past, slice_get-get_or, same_Some}
 use Rattle.pdb_base.specs.declared.error.Error.{Error}
 use Rattle.pdb_base.specs.Answer.{Answer}
 use Rattle.pdb_base.specs.Refusal.{Refusal, refusal_of}
@@ -23,24 +21,13 @@ use Rattle.pdb_tpi.specs.Table.{IsTable, Table}
 use Rattle.pdb_tpi.specs.Walk.{behind, fault_of, first_item, items}
 use Rattle.pdb_tpi.proofs.FrontLemmas.{front_item}
 use Rattle.pdb_tpi.proofs.StepLemmas.{step_err, step_none, step_some, step_stops}
-use Rattle.pdb_tpi.proofs.WalkLemmas.{items_full, items_more, items_none}
+use Rattle.pdb_tpi.proofs.WalkLemmas.{items_few, items_full, items_more, items_none}
 use Rattle.pdbdump_tables.specs.Tally.{IsTally, noted_kind}
 use Rattle.pdbdump_tables.specs.declared.kinds.KindCount.{KindCount}
 use Rattle.pdbdump_tables.specs.declared.kinds.Tally.{Tally}
 use Rattle.pdbdump_tables.specs.Kinds.{continued_from, continued_of, counted_kind, goes_on, items_of_kind, walk_stop}
 
 -- ---- how many items there can be
-
-items_few_by : (limit : ℕ) (bytes : List ℕ) (first : Option (List ℕ))
-    → ((more : List ℕ) → length (items limit more) ≤ limit)
-    → length (option_map_or (λ item. item ∷ items limit (behind item bytes)) first []) ≤ suc limit
-items_few_by limit bytes None few = omega arith
-items_few_by limit bytes (Some item) few = let here = few (behind item bytes) in omega (arith, here)
-
-items_few : (limit : ℕ) (bytes : List ℕ) → length (items limit bytes) ≤ limit
-unfolding items
-items_few zero bytes = omega arith
-items_few (suc limit) bytes = items_few_by limit bytes (result_ok (first_item bytes)) (items_few limit)
 
 room_few : (least : ℕ) → 2 ^ 32 - least ≤ 2 ^ 32
 room_few least = omega arith
@@ -90,9 +77,6 @@ walk_sized table is = omega (
 unfoldable pub left : WalkPosition → List (List ℕ)
 left stand = drop (steps_taken stand) (walk stand.table)
 
-some_same : {A : Type 0} {x y : A} → Some x ≡ Some y → x ≡ y
-some_same e = cc
-
 -- the index that a step gives is the iterator's
 step_index : {X : Type 0} (seen : X → ℕ × List ℕ) (old : WalkPosition) (x : X) (new : WalkPosition)
     → IsStep seen old (Ok (Some x)) new → old.index ≡ (seen x).0
@@ -105,7 +89,7 @@ unfolding left
 left_first seen old x new base step =
     let given = step_some seen old x new step in
     let at : get_or (walk old.table) (steps_taken old) [] ≡ (seen x).1 =
-    sym (some_same (sym given.there ∙ slice_get-get_or (walk old.table) (steps_taken old) [] given.within)) in
+    sym (same_Some _ _ (sym given.there ∙ slice_get-get_or (walk old.table) (steps_taken old) [] given.within)) in
     let next : old.index + 1 - old.table.header.minimum_index ≡ suc (steps_taken old) = omega (arith, base) in
     drop-cons (walk old.table) (steps_taken old) [] given.within
     ∙ ap (λ (i : List ℕ). i ∷ drop (suc (steps_taken old)) (walk old.table)) at

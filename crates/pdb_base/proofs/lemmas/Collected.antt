@@ -1,10 +1,11 @@
 -- Answers one after another: what is known of each from what is known of all.
-use Rattle.std.proofs.Common.{◌≡◌, ℕ, zero, suc, ◌+◌, ◌-◌, ◌<◌, List, [], ◌∷◌, ◌++◌, map, refl, ap, ◌∙◌, arith, Ok, Err}
+use Rattle.std.proofs.Common.{◌≡◌, ◌⊎◌, inl, inr, ℕ, zero, suc, ◌+◌, ◌-◌, ◌<◌, Bool, true, false, List, [], ◌∷◌, ◌++◌}
+use Rattle.std.proofs.Common.{map, refl, ap, ◌∙◌, arith, Option, Some, None, Ok, Err}
 use Rattle.std.specs.List.{range_with_len}
 use Rattle.std.proofs.lemmas.List.{map-append}
 use Rattle.std.proofs.lemmas.List.FromFn.{map-range_with_len_more}
 use Rattle.pdb_base.specs.Refusal.{Refusal}
-use Rattle.pdb_base.specs.Answer.{Answer, ◌>>=◌, values_of_all}
+use Rattle.pdb_base.specs.Answer.{Answer, ◌>>=◌, ok_if, values_of_all}
 use Rattle.pdb_base.specs.Laws.{CollectsAll, RefusesAsFirst}
 
 abbrev pub ok : {A : Type 0} → A → Answer A
@@ -22,6 +23,19 @@ err_is d e h = cc
 pub ok_is_no_err : {A : Type 0} (x : A) (e : Refusal) → ok x ≡ Err e → ⊥
 ok_is_no_err x e h = cc
 
+pub answer_cases : {A : Type 0} (answer : Answer A) → ((x : A) × (answer ≡ Ok x)) ⊎ ((e : Refusal) × (answer ≡ Err e))
+answer_cases (Ok x) = inl (x, refl)
+answer_cases (Err e) = inr (e, refl)
+
+pub option_cases : {A : Type 0} (option : Option A) → (option ≡ None) ⊎ ((x : A) × (option ≡ Some x))
+option_cases None = inl refl
+option_cases (Some x) = inr (x, refl)
+
+-- a condition that was required holds
+pub required_holds : (test : Bool) (e : Refusal) (x : Unit {0}) → ok_if test e ≡ Ok x → test ≡ true
+required_holds true e x is = refl
+required_holds false e x is = absurd cc
+
 -- the values of two answers, one after the other
 pub bind_ok : {A B : Type 0} (r : Answer A) (f : A → Answer B) (y : B) → (r >>= f) ≡ Ok y → (x : A) × (r ≡ Ok x)
     × (f x ≡ Ok y)
@@ -29,7 +43,7 @@ bind_ok (Ok x) f y e = (x, refl, e)
 bind_ok (Err d) f y e = absurd cc
 
 -- a refusal behind which no other can come
-bind_err : {A B : Type 0} (r : Answer A) (f : A → B) (e : Refusal) → (r >>= λ x. Ok (f x)) ≡ Err e → r ≡ Err e
+pub bind_err : {A B : Type 0} (r : Answer A) (f : A → B) (e : Refusal) → (r >>= λ x. Ok (f x)) ≡ Err e → r ≡ Err e
 bind_err (Ok x) f e h = absurd cc
 bind_err (Err d) f e h = cc
 

@@ -1,10 +1,9 @@
 -- Numbers of variable width: they are read just where they are spelled, and refused by their prefix
 -- first.
-use Rattle.std.proofs.Common.{◌≡◌, ℕ, ◌<◌, ◌≤◌, ltb, true, false, List, ◌++◌, length, take, drop, Option, Some, None}
+use Rattle.std.proofs.Common.{◌≡◌, ℕ, ◌<◌, ◌≤◌, ltb, true, false, List, ◌++◌, Option, Some, None}
 use Rattle.std.proofs.Common.{refl, sym, ap, ◌∙◌, arith, subst, ◌⊎◌, inl, inr, Ok, Err}
 use Rattle.std.proofs.lemmas.Bool.{cases_lt, le-ltb, lt-ltb, ne_eqb}
 use Rattle.std.proofs.lemmas.List.{append_assoc}
-use Rattle.byteorder.specs.Endian.{little_number}
 use Rattle.pdb_base.specs.declared.variant.Variant.{Variant}
 use Rattle.pdb_base.specs.Refusal.{Refusal, unexpected_eof, unexpected_numeric_prefix}
 use Rattle.pdb_base.specs.Answer.{Answer, ◌>>=◌}
@@ -15,11 +14,11 @@ use Rattle.pdb_base.specs.Numeric.{variant_at}
 use Rattle.pdb_base.specs.Spelling.{SpellsNumber, SpellsItself, SpellsPrefixed, SpellsNumeral, SpellsNum, SpellsVariant}
 use Rattle.pdb_base.specs.Spelling.{Begins, ReadsWhatIsSpelled}
 use Rattle.pdb_base.specs.Laws.{BeginsBadly, RefusesPrefixFirst}
-use Rattle.pdb_base.proofs.lemmas.Collected.{ok, ok_is, ok_is_no_err, err_is, bind_ok}
+use Rattle.pdb_base.proofs.lemmas.Collected.{ok, ok_is, ok_is_no_err, bind_ok}
 use Rattle.pdb_base.proofs.lemmas.Spelling.{numbers}
-use Rattle.pdb_base.proofs.lemmas.Reading.{number_cut, number_whole}
+use Rattle.pdb_base.proofs.lemmas.Reading.{number_ends}
 
--- ---- what stands behind two bytes
+-- ---- what follows two bytes
 
 itself : (leaves : List (ℕ × NumberKind)) (prefix : ℕ) (bytes : List ℕ) → prefix < least_leaf
     → numeral_behind leaves prefix bytes ≡ Ok (record { kind = u16; number = prefix }, bytes)
@@ -101,8 +100,7 @@ found leaves bytes numeral rest e =
               prefix = first.0.0;
               says = behind.0;
               head = head.front;
-              head_spelled =
-                  head.spelled;
+              head_spelled = head.spelled;
               tail = behind.1.front;
               tail_spelled = behind.1.spelled;
               is = refl;
@@ -202,14 +200,6 @@ bind_err : {A B : Type 0} (r : Answer A) (f : A → Answer B) (e : Refusal) → 
 bind_err (Ok x) f e h = inr (x, refl, h)
 bind_err (Err d) f e h = inl cc
 
--- a number is refused only since the bytes end too soon
-short : (width : ℕ) (bytes : List ℕ) (e : Refusal) → number_at width bytes ≡ Err e → e ≡ unexpected_eof
-short width bytes e refused = elim (cases_lt (length bytes) width) [
-  | inl few ↦ err_is {A = ℕ × List ℕ} e unexpected_eof (sym refused ∙ number_cut width bytes few)
-  | inr enough ↦ absurd (ok_is_no_err (little_number width (take width bytes), drop width bytes) e
-      (sym (number_whole width bytes enough) ∙ refused))
-]
-
 -- a number behind a prefix is refused since there is none of a kind, or since the bytes end too soon
 short_kind : (prefix : ℕ) (found : Option NumberKind) (bytes : List ℕ) (e : Refusal)
     → number_of_kind prefix found bytes ≡ Err e → (found ≡ None) ⊎ (e ≡ unexpected_eof)
@@ -217,7 +207,7 @@ short_kind prefix None bytes e refused = inl refl
 short_kind prefix (Some kind) bytes e refused =
     elim (bind_err (number_at (number_width kind) bytes)
     (λ n. Ok (record { kind = kind; number = n.0 }, n.1)) e refused) [
-      | inl cut ↦ inr (short (number_width kind) bytes e cut)
+      | inl cut ↦ inr (number_ends (number_width kind) bytes e cut)
       | inr read ↦ absurd (ok_is_no_err (record { kind = kind; number = read.0.0 }, read.0.1) e read.2)
     ]
 
@@ -233,7 +223,7 @@ ends : (leaves : List (ℕ × NumberKind)) (bytes : List ℕ) (e : Refusal)
     → ((prefix : ℕ) → ¬ BeginsBadly leaves bytes prefix) → numeral_at leaves bytes ≡ Err e → e ≡ unexpected_eof
 unfolding numeral_at
 ends leaves bytes e none refused = elim (bind_err (number_at 2 bytes) (λ p. numeral_behind leaves p.0 p.1) e refused) [
-  | inl cut ↦ short 2 bytes e cut
+  | inl cut ↦ number_ends 2 bytes e cut
   | inr first ↦ elim (cases_lt first.0.0 least_leaf) [
     | inl small ↦ absurd (ok_is_no_err (record { kind = u16; number = first.0.0 }, first.0.1) e
         (sym (itself leaves first.0.0 first.0.1 small) ∙ first.2))
@@ -243,8 +233,7 @@ ends leaves bytes e none refused = elim (bind_err (number_at 2 bytes) (λ p. num
             rest = first.0.1;
             begins = (numbers 2).found bytes first.0.0 first.0.1 first.1;
             large = large;
-            unknown =
-                unknown;
+            unknown = unknown;
           }))
           | inr cut ↦ cut
         ]

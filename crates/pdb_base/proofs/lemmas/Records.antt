@@ -1,12 +1,12 @@
 -- The records that bytes spell, one after another.
 use Rattle.std.proofs.Common.{◌≡◌, ℕ, zero, suc, ◌+◌, ◌-◌, ◌*◌, ◌/◌, ◌%◌, ◌<◌, ◌≤◌, ◌==◌, ◌↔◌, ltb, inl, inr, Bool}
-use Rattle.std.proofs.Common.{false, IsTrue, List, [], ◌∷◌, length, get_or, take, drop, map, Some, Option, Ok, refl}
+use Rattle.std.proofs.Common.{false, IsTrue, List, [], ◌∷◌, length, get_or, take, drop, map, Ok, refl}
 use Rattle.std.proofs.Common.{sym, ap, ◌∙◌, arith}
 use Rattle.std.specs.List.{range_with_len}
 use Rattle.std.proofs.Math.Nat.{div-eq-sub-div, div-eq_of_lt, mod-eq_of_lt, mul-le-mul_left, mul-div-le}
 use Rattle.std.proofs.lemmas.List.{length-drop, length-take-le, drop-drop}
 use Rattle.std.proofs.lemmas.List.FromFn.{length-map-range_with_len, get_or-map-range_with_len}
-use Rattle.std.proofs.lemmas.Option.{slice_get_within, slice_get-get_or}
+use Rattle.std.proofs.lemmas.Option.{slice_get_within, slice_get-get_or, same_Some}
 use Rattle.std.proofs.lemmas.Bool.{cases_lt, eqb-true, le-ltb}
 use Rattle.pdb_base.specs.Reading.{front_at}
 use Rattle.pdb_base.specs.Records.{values_of_size}
@@ -129,12 +129,6 @@ none_where_empty size value (byte ∷ bytes) empty some whole test = (
 
 -- ---- in turn
 
-abbrev some_of : {A : Type 0} → A → Option A
-some_of x = Some x
-
-some_is : {A : Type 0} {x y : A} → some_of x ≡ Some y → x ≡ y
-some_is e = cc
-
 pub read_in_turn : {A : Type 0} (size : ℕ) (value : List ℕ → A) (bytes : List ℕ) → AreReadInTurn size value bytes
 unfolding front_at
 read_in_turn {A} size value bytes = record {
@@ -145,7 +139,7 @@ read_in_turn {A} size value bytes = record {
       let test : ltb (length (drop (size * k) bytes)) size ≡ false =
       le-ltb (length (drop (size * k) bytes)) size (record_within size k bytes within) in
       let here : x ≡ value (take size (drop (size * k) bytes)) =
-      some_is (sym is ∙ slice_get-get_or (values_of_size size value bytes) k x
+      same_Some _ _ (sym is ∙ slice_get-get_or (values_of_size size value bytes) k x
       (slice_get_within (values_of_size size value bytes) k x is))
       ∙ spelled_at size value bytes k x within in
       let place : size * (k + 1) ≡ size * k + size = omega arith in

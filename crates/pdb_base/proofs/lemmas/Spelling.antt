@@ -110,8 +110,7 @@ text_found (suc byte ∷ bytes) text rest e =
       front = suc byte ∷ rests.front;
       spelled = record {
         no_nul = (λ h. absurd (omega (arith, h)), rests.spelled.no_nul);
-        is =
-            ap (λ (r : List ℕ). suc byte ∷ r) rests.spelled.is;
+        is = ap (λ (r : List ℕ). suc byte ∷ r) rests.spelled.is;
       };
       is = ap (λ (r : List ℕ). suc byte ∷ r) rests.is;
     } in

@@ -9,7 +9,7 @@ use Rattle.pdb_base.specs.Answer.{Answers}
 use Rattle.pdb_base.specs.Reading.{number_at}
 use Rattle.pdb_base.proofs.lemmas.Refused.{passed_on}
 use Rattle.pdb_base.specs.Memory.{LacksOnlyIf}
-use Rattle.pdb_base.proofs.lemmas.Collected.{bind_ok, err_is, ok, ok_is, ok_is_no_err}
+use Rattle.pdb_base.proofs.lemmas.Collected.{bind_ok, err_is, ok, ok_is, ok_is_no_err, bind_err}
 use Rattle.pdb_values.specs.declared.type_data.TypeData.{TypeData}
 use Rattle.pdb_base.specs.declared.index.TypeIndex.{TypeIndex}
 use Rattle.pdb_values.specs.TypeValue.{Fields, TypeValue, argument_list, field_list}
@@ -22,7 +22,7 @@ use Rattle.pdb_records.specs.declared.parse.counted.CountWidth.TheVariants.{Bits
 use Rattle.pdb_records.specs.Counted.{counted_at}
 use Rattle.pdb_records.specs.Shape.{as_type}
 use Rattle.pdb_records.specs.Records.{arguments_end, behind_leaf}
-use Rattle.pdb_records.proofs.Agreeing.{bind_at, bind_no, mapped_err}
+use Rattle.pdb_records.proofs.Agreeing.{bind_at, bind_no}
 use Rattle.pdb_records.specs.Memory.{NeedsMemory, IsFalseCount, argument_list_leaf}
 use Rattle.pdb_records.specs.Short.{IsShort}
 use Rattle.pdb_records.specs.Grammar.{IsRecord, NoRecord}
@@ -103,7 +103,7 @@ list_continued bytes next rest is =
 
 pub list_refused : (bytes : List ℕ) (refusal : Refusal) → list_continuation_at bytes ≡ Err refusal
     → field_list_at bytes ≡ Err refusal
-list_refused bytes refusal is = mapped_err (field_list_at bytes)
+list_refused bytes refusal is = bind_err (field_list_at bytes)
     (λ (list : TypeValue × List ℕ). (continuation_in list.0, list.1)) refusal is
 
 -- ---- a list of arguments that is skipped
@@ -127,7 +127,7 @@ unfolding behind_leaf
 arguments_refused bytes refusal is =
     bind_no (counted_at Bits32 as_type bytes)
     (λ list. ok {A = TypeValue × List ℕ} (argument_list list.0, list.1)) refusal
-    (mapped_err (counted_at Bits32 as_type bytes) (λ (list : List TypeIndex × List ℕ). list.1) refusal is)
+    (bind_err (counted_at Bits32 as_type bytes) (λ (list : List TypeIndex × List ℕ). list.1) refusal is)
 
 -- ---- a record, step by step
 

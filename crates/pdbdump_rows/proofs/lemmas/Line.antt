@@ -9,8 +9,7 @@ use Rattle.pdb_output.specs.Output.{OutputState, Writes}
 use Rattle.pdbdump_rows.specs.declared.form.Form.{Form}
 use Rattle.pdbdump_rows.specs.declared.form.Form.TheVariants.{Text, Json}
 use Rattle.pdbdump_rows.specs.Line.{Adds, EndsLine, IsLineAppended, IsLineEnded, IsLineWritten, LineState, ShowsFields}
-use Rattle.pdbdump_rows.specs.Line.{all_shown, begun}
-use Rattle.pdbdump_rows.specs.Line.{begun_full, line_bytes, ending, line_opening, add_field}
+use Rattle.pdbdump_rows.specs.Line.{all_shown, begun, begun_full, line_bytes, ending, line_opening, add_field}
 use Rattle.pdbdump_rows.specs.Lines.{field_line, field_text, fields_text, full_text, is_shown, row_text, separate}
 use Rattle.pdbdump_rows.specs.Lines.{separator}
 use Rattle.pdbdump_rows.specs.Row.{ShownField, ShownRow}

@@ -93,4 +93,4 @@ returns-clause-starts c =
     c.loop.invariant.so_far
     ∙ ap (λ (n : ℕ). map (start_of c.args.geometry.page_size c.in-Ok.count d) (range_with_len 0 n)) all
     ∙ ap (λ (k : ℕ). map (start_of c.args.geometry.page_size k d) (range_with_len 0 (min k (length (sizes_of d)))))
-    (sym (count_is d c.in-Ok.count (record { is = count.0 })))
+    (sym (count_is d c.in-Ok.count count.0))

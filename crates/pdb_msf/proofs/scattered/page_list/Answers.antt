@@ -32,16 +32,13 @@ positions_are page_size size i numbers slices listed all positive reached =
     ap (take size) (listed ∙ ap (all_positions page_size) (take_all i numbers all))
     ∙ positions_by_index page_size numbers size positive reached
 
-pub returns-clause-positions : goal.returns-clause-positions
-returns-clause-positions c =
-    ap (λ (at : List ℕ). ok at) (sym (c.truncate.ensures.positions
+pub returns : goal.returns
+returns c =
+    let is = c.truncate.ensures.positions
     ∙ positions_are c.args.page_size c.args.size c.loop-number.number-index c.args.numbers.now
     c.loop-number.list.slices c.loop-number.invariant.positions c.loop-number-test.false c.requires.size.0
-    c.requires.reached))
-
-pub returns-clause-len : goal.returns-clause-len
-returns-clause-len c =
-    ap length (c.truncate.ensures.positions ∙ positions_are c.args.page_size c.args.size c.loop-number.number-index
-    c.args.numbers.now c.loop-number.list.slices c.loop-number.invariant.positions c.loop-number-test.false
-    c.requires.size.0 c.requires.reached)
-    ∙ length-map-range_with_len (position_of c.args.page_size c.args.numbers.now) 0 c.args.size
+    c.requires.reached in
+    record {
+      positions = ap (λ (at : List ℕ). ok at) (sym is);
+      len = ap length is ∙ length-map-range_with_len (position_of c.args.page_size c.args.numbers.now) 0 c.args.size;
+    }

@@ -1,7 +1,6 @@
 use Rattle.std.proofs.Common.{◌≡◌, List, map, ap, ◌∙◌, sym}
 use Rattle.pdb_base.proofs.lemmas.Collected.{ok}
-use Rattle.pdb_values.specs.declared.field_list.FieldList.{FieldList}
-use Rattle.pdb_values.specs.declared.field_list.FieldList.{fold_out-FieldList}
+use Rattle.pdb_values.specs.declared.field_list.FieldList.{FieldList, fold_out-FieldList}
 use Rattle.pdb_values.specs.declared.type_data.TypeData.TheVariants as variants
 use Rattle.pdb_values.specs.declared.type_data.TypeData.TheVariants.{rolls-FieldList}
 use Rattle.pdb_values.specs.declared.type_data.TypeData.{fold-roll-TypeData}

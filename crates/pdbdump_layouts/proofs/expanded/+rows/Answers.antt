@@ -3,8 +3,7 @@ use Rattle.std.proofs.lemmas.Grind.{common_steps}
 use Rattle.std.proofs.lemmas.List.{take_more}
 use Rattle.std.proofs.lemmas.Result.{on_ok_weaker}
 use Rattle.pdbdump_layouts.proofs.ExpandedLemmas.{a_class, held, left_out, no_class, no_layout, no_type, none_expanded}
-use Rattle.pdbdump_layouts.proofs.ExpandedLemmas.{none_shown}
-use Rattle.pdbdump_layouts.proofs.ExpandedLemmas.{spent_row, step_expanded, step_shown, within}
+use Rattle.pdbdump_layouts.proofs.ExpandedLemmas.{none_shown, spent_row, step_expanded, step_shown, within}
 use Rattle.pdbdump_layouts.proofs.expanded.+rows.Goals as goal
 
 pub push_inner-returns-then-outer-budget-clause-follows : goal.push_inner-returns-then-outer-budget-clause-follows

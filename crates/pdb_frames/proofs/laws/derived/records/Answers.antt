@@ -29,21 +29,16 @@ returns-clause-frames c a b =
         ty = same.0 i;
         code_start = same.1.0 i;
         code_size = same.1.1.0 i;
-        locals_size =
-            same.1.1.1.0 i;
+        locals_size = same.1.1.1.0 i;
         params_size = same.1.1.1.1.0 i;
         prolog_size = same.1.1.1.1.1.0 i;
-        saved_regs_size =
-            same.1.1.1.1.1.1.0 i;
+        saved_regs_size = same.1.1.1.1.1.1.0 i;
         max_stack_size = same.1.1.1.1.1.1.1.0 i;
-        has_structured_eh =
-            same.1.1.1.1.1.1.1.1.0 i;
+        has_structured_eh = same.1.1.1.1.1.1.1.1.0 i;
         has_cpp_eh = same.1.1.1.1.1.1.1.1.1.0 i;
-        is_function_start =
-            same.1.1.1.1.1.1.1.1.1.1.0 i;
+        is_function_start = same.1.1.1.1.1.1.1.1.1.1.0 i;
         uses_base_pointer = same.1.1.1.1.1.1.1.1.1.1.1.0 i;
-        program =
-            same.1.1.1.1.1.1.1.1.1.1.1.1 i;
+        program = same.1.1.1.1.1.1.1.1.1.1.1.1 i;
       },
       λ is. fields.1 (
         ap (λ (x : FrameData). x.ty) is,

@@ -1,6 +1,5 @@
-use Rattle.std.proofs.Common.{◌≡◌, length, ap, sym, ◌∙◌, arith}
+use Rattle.std.proofs.Common.{◌≡◌, ap, sym, ◌∙◌, arith, List, ℕ}
 use Rattle.pdb_base.proofs.lemmas.Refused.{passed_on}
-use Rattle.std.proofs.Common.{List, ℕ}
 use Rattle.pdb_msf.specs.Directory.{entry_view}
 use Rattle.pdb_msf.specs.Header.{header_view}
 use Rattle.pdb_msf.specs.File.{IsKeptOf}

@@ -54,18 +54,10 @@ loop-self-preserved c =
       marked = c.loop-self.invariant.marked;
     }
 
-pub returns-clause-slices : goal.returns-clause-slices
-returns-clause-slices c =
+pub returns : goal.returns
+returns c =
     let n = c.args.len in
     let slices = c.loop-self.self-inside.slices.items in
     let all : slices ≡ first_bytes_of n c.args.self.now.slices =
     sym (first_of_all n slices (omega (arith, c.loop-self.invariant.counted))) ∙ c.loop-self.invariant.front in
-    cc
-
-pub returns-clause-positions : goal.returns-clause-positions
-returns-clause-positions c =
-    let n = c.args.len in
-    let slices = c.loop-self.self-inside.slices.items in
-    let all : slices ≡ first_bytes_of n c.args.self.now.slices =
-    sym (first_of_all n slices (omega (arith, c.loop-self.invariant.counted))) ∙ c.loop-self.invariant.front in
-    ap positions all ∙ positions_first_of n c.args.self.now.slices
+    record { slices = cc; positions = ap positions all ∙ positions_first_of n c.args.self.now.slices }

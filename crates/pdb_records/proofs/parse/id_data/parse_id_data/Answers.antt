@@ -6,38 +6,19 @@ use Rattle.pdb_records.proofs.IdLemmas.{says_id, refuses_cut, lacks_for_list, sh
 use Rattle.pdb_records.proofs.AssignedLemmas.{says_assigned, shows_assigned, refuses_assigned}
 use Rattle.pdb_records.proofs.parse.id_data.parse_id_data.Goals as goal
 
-pub returns-clause-read : goal.returns-clause-read
-returns-clause-read c = says_id c.args.bytes.now (left c.parse_id_record.new.buffer) c.parse_id_record.result
-    (rw c.from-buffer.ensures at c.parse_id_record.ensures.read)
-
-pub returns-clause-answers : goal.returns-clause-answers
-returns-clause-answers c =
-    says_assigned id_value id_at IsId NoId ids_agree c.args.bytes.now
-    (left c.parse_id_record.new.buffer) c.parse_id_record.result
-    (rw c.from-buffer.ensures at c.parse_id_record.ensures.read)
-
-pub returns-clause-answered : goal.returns-clause-answered
-returns-clause-answered c =
-    shows_assigned id_value id_at IsId NoId ids_agree c.args.bytes.now
-    (left c.parse_id_record.new.buffer) c.parse_id_record.result
-    (rw c.from-buffer.ensures at c.parse_id_record.ensures.read)
-
-pub returns-clause-refused : goal.returns-clause-refused
-returns-clause-refused c =
-    refuses_assigned id_value id_at IsId NoId ids_agree c.args.bytes.now
-    (left c.parse_id_record.new.buffer) c.parse_id_record.result
-    (rw c.from-buffer.ensures at c.parse_id_record.ensures.read)
-
-pub returns-clause-memory : goal.returns-clause-memory
-returns-clause-memory c = lacks_for_list c.args.bytes.now c.parse_id_record.result
-    (rw c.from-buffer.ensures at c.parse_id_record.ensures.memory)
-
-pub returns-clause-cut : goal.returns-clause-cut
-returns-clause-cut c =
-    refuses_cut c.args.bytes.now (left c.parse_id_record.new.buffer) c.parse_id_record.result
-    (rw c.from-buffer.ensures at c.parse_id_record.ensures.read)
-    (rw c.from-buffer.ensures at c.parse_id_record.ensures.memory)
-
-pub returns-clause-short : goal.returns-clause-short
-returns-clause-short c = shows_short c.args.bytes.now (left c.parse_id_record.new.buffer) c.parse_id_record.result
-    (rw c.from-buffer.ensures at c.parse_id_record.ensures.read)
+pub returns : goal.returns
+returns c =
+    let bytes = c.args.bytes.now in
+    let rest = left c.parse_id_record.new.buffer in
+    let parsed = c.parse_id_record.result in
+    let is = rw c.from-buffer.ensures at c.parse_id_record.ensures.read in
+    let held = rw c.from-buffer.ensures at c.parse_id_record.ensures.memory in
+    record {
+      read = says_id bytes rest parsed is;
+      answers = says_assigned id_value id_at IsId NoId ids_agree bytes rest parsed is;
+      answered = shows_assigned id_value id_at IsId NoId ids_agree bytes rest parsed is;
+      refused = refuses_assigned id_value id_at IsId NoId ids_agree bytes rest parsed is;
+      memory = lacks_for_list bytes parsed held;
+      cut = refuses_cut bytes rest parsed is held;
+      short = shows_short bytes rest parsed is;
+    }

@@ -7,8 +7,7 @@ use Rattle.pdb_tpi.proofs.finder.ItemFinder.update_all.Goals as goal
 pub loop-iterator-init : goal.loop-iterator-init
 loop-iterator-init g c = record {
   is = rw (known_start c.args.self.now.table c.args.self.now.known) refl;
-  few =
-      λ few. few;
+  few = λ few. few;
 }
 
 pub loop-iterator-preserved : goal.loop-iterator-preserved

@@ -11,8 +11,7 @@ returns-then-is_empty g c =
     (sym c.is_empty.ensures ∙ c.if-is_empty.true) in
     rw (← c.self.view_is) (record {
       gives = step_ends s.table.now s.index s.position c.self.invariant none;
-      kept =
-          tt;
+      kept = tt;
       stays = refl;
       fewer = tt;
     })

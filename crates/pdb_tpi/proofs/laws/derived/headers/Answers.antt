@@ -22,18 +22,14 @@ returns-clause-equal c a b =
         version = same.0 i;
         header_size = same.1.0 i;
         minimum_index = same.1.1.0 i;
-        maximum_index =
-            same.1.1.1.0 i;
+        maximum_index = same.1.1.1.0 i;
         gprec_size = same.1.1.1.1.0 i;
         tpi_hash_stream = same.1.1.1.1.1.0 i;
-        tpi_hash_pad_stream =
-            same.1.1.1.1.1.1.0 i;
+        tpi_hash_pad_stream = same.1.1.1.1.1.1.0 i;
         hash_key_size = same.1.1.1.1.1.1.1.0 i;
-        hash_bucket_size =
-            same.1.1.1.1.1.1.1.1.0 i;
+        hash_bucket_size = same.1.1.1.1.1.1.1.1.0 i;
         hash_values = same.1.1.1.1.1.1.1.1.1.0 i;
-        ti_off =
-            same.1.1.1.1.1.1.1.1.1.1.0 i;
+        ti_off = same.1.1.1.1.1.1.1.1.1.1.0 i;
         hash_adj = same.1.1.1.1.1.1.1.1.1.1.1 i;
       },
       λ is. fields.1 (

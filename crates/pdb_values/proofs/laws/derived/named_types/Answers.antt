@@ -48,12 +48,10 @@ returns-clause-classes c a b =
         count = same.1.0 i;
         properties = same.1.1.0 i;
         fields = same.1.1.1.0 i;
-        derived_from =
-            same.1.1.1.1.0 i;
+        derived_from = same.1.1.1.1.0 i;
         vtable_shape = same.1.1.1.1.1.0 i;
         size = same.1.1.1.1.1.1.0 i;
-        name =
-            same.1.1.1.1.1.1.1.0 i;
+        name = same.1.1.1.1.1.1.1.0 i;
         unique_name = same.1.1.1.1.1.1.1.1 i;
       },
       λ is. fields.1 (
