@@ -37,20 +37,3 @@ buckets_told extent number stream buckets count stored names given none one both
     asked_in_two extent (mismatches_at (bucket_mismatch number stream) (bucket_count stream))
     (option_to_list (count_mismatch number stream)) one both
     (rw (empty, many, begin) at added) (rw counted at last)
-
-if_so : (test : Bool) (xs ys : List Mismatch) → test ≡ true → (if test then xs else ys) ≡ xs
-if_so true xs ys is = refl
-if_so false xs ys is = absurd cc
-
--- a string table that is cut has that mismatch alone
-pub cut_told : (extent : Extent) (number : ℕ) (stream : List ℕ) (test : Bool) (cut : Mismatch)
-    (none kept : List Mismatch)
-    → test ≡ are_buckets_cut stream → test ≡ true → cut ≡ in_names number (length stream) BucketsCut → none ≡ []
-    → told (with_further extent none (cut ∷ [])) ≡ Ok kept
-    → told (asked_of extent (names_mismatches_in number stream)) ≡ Ok kept
-unfolding names_mismatches_in
-cut_told extent number stream test cut none kept tells is at empty added =
-    let all : names_mismatches_in number stream ≡ cut ∷ [] = if_so (are_buckets_cut stream) _ _ (sym tells ∙ is)
-    ∙ ap (λ (m : Mismatch). m ∷ []) (sym at) in
-    asked_in_one extent none (names_mismatches_in number stream) kept empty
-    (ap (λ (xs : List Mismatch). told (with_further extent none xs)) all ∙ added)

@@ -6,4 +6,3 @@ pub mod OwnerLemmas
 pub mod PageLemmas
 pub mod PlaceLemmas
 pub mod RecordLemmas
-pub mod ReferenceLemmas

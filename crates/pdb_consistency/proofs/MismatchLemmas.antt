@@ -91,11 +91,6 @@ pub asked_end : (extent : Extent) (kept left all : List Mismatch)
 asked_end extent kept left all so_far none =
     ap told (sym (asked_are extent all)) ∙ further_end extent kept left (with_further extent [] all) so_far none
 
--- all that are looked for were added at once
-pub asked_in_one : (extent : Extent) (none all kept : List Mismatch) → none ≡ []
-    → told (with_further extent none all) ≡ Ok kept → told (asked_of extent all) ≡ Ok kept
-asked_in_one extent none all kept empty added = ap told (sym (asked_are extent all)) ∙ rw empty at added
-
 -- some mismatches were added, and then others
 pub further_two : (extent : Extent) (before first second one both : List Mismatch)
     → told (with_further extent before first) ≡ Ok one → both ≡ with_further extent one second

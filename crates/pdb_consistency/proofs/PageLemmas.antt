@@ -82,22 +82,6 @@ shared_more extent page_size count i before owners d owned now new all is marked
     (at_drop_more (shared_pages page_size count before) owners i d within
     ∙ ap (λ (xs : List Mismatch). xs ++ shared_pages page_size count (owner ∷ before) (drop (i + 1) owners)) same) added
 
-pub free_more : (extent : Extent) (file : List ℕ) (page_size i : ℕ) (owners : List PageOwner) (d : PageOwner)
-    (now new all : List Mismatch) (is : Bool) (map : ℕ) (mismatch : Mismatch)
-    (given : Option Mismatch)
-    → i < length owners → with_further extent now (free_pages file page_size (drop i owners)) ≡ all
-    → map ≡ active_map file
-    → is ≡ (is_in_use (get_or owners i d).stream && is_free file page_size map (get_or owners i d).page)
-    → mismatch ≡ at_page (get_or owners i d) (PageFree (get_or owners i d).page)
-    → given ≡ then_some is mismatch → told (with_further extent now (option_to_list given)) ≡ Ok new
-    → with_further extent new (free_pages file page_size (drop (i + 1) owners)) ≡ all
-free_more extent file page_size i owners d now new all is map mismatch given within left active test made some added =
-    let owner = get_or owners i d in
-    let same : free_page file page_size owner ≡ option_to_list given = rw (some, test, made, active) refl in
-    further_more extent now _ (option_to_list given) _ new all left
-    (at_drop_more (free_pages file page_size) owners i d within
-    ∙ ap (λ (xs : List Mismatch). xs ++ free_pages file page_size (drop (i + 1) owners)) same) added
-
 abbrev told_owners : List PageOwner → Answer (List PageOwner)
 told_owners owners = Ok owners
 

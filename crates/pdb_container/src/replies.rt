@@ -2,7 +2,6 @@
 
 ghost use Rattle.std.specs.Prelude.{◌≡◌, map, IfOk, Ok};
 ghost use Rattle.std.specs.Option.{option_map};
-ghost use Rattle.pdb_base.specs.Memory.{FailsOnlyForMemory};
 ghost use Rattle.pdb_values.specs.{Text.text_bytes, TypeValue.name_of_type, TypeView.type_value};
 ghost use Rattle.pdb_container.specs.Reply.{Replies, fields_in, id_in, moved, name_in, type_in};
 
@@ -11,13 +10,16 @@ use pdb_base::{IdIndex, RawString, Result, TypeIndex};
 use pdb_space::{OMAPTable, StringRef, StringTable};
 use pdb_tpi::OpenTable;
 use pdb_values::TypeData;
-use std::alloc::Global;
+use std::alloc::{AllocError, Global};
 use std::ops::Range;
+use std::result;
 
 /// Copies a name, if there is one.
-fn owned_name(alloc: Global, name: Option<RawString<'_>>) -> Result<Option<Vec<u8>>>
-    ensures ok { IfOk result (λ copy. option_map (λ bytes. bytes.items) copy ≡ option_map text_bytes name.entry) }
-    ensures memory { FailsOnlyForMemory result }
+fn owned_name(
+    alloc: Global,
+    name: Option<RawString<'_>>,
+) -> result::Result<Option<Vec<u8>>, AllocError>
+    ensures { IfOk result (λ copy. option_map (λ bytes. bytes.items) copy ≡ option_map text_bytes name.entry) }
 {
     match name {
         Some(name) => Ok(Some(Vec::from_slice(alloc, name.as_bytes())?)),
@@ -56,11 +58,13 @@ pub fn id_reply(alloc: Global, ids: &OpenTable<IdIndex>, index: u32) -> Result<R
 }
 
 /// Copies the names of fields, with None for each field that has no name.
-fn names_of(alloc: Global, fields: &[TypeData<'_>]) -> Result<Vec<Option<Vec<u8>>>>
-    ensures ok { IfOk result (λ names.
+fn names_of(
+    alloc: Global,
+    fields: &[TypeData<'_>],
+) -> result::Result<Vec<Option<Vec<u8>>>, AllocError>
+    ensures { IfOk result (λ names.
         map (λ name. option_map (λ copy. copy.items) name) names.items ≡
         map name_of_type (map type_value fields.now)) }
-    ensures memory { FailsOnlyForMemory result }
 {
     let mut names = Vec::with_capacity(alloc, fields.len())?;
     for field in fields {

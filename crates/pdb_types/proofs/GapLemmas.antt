@@ -184,23 +184,6 @@ touched_taken (span ∷ spans) byte is = elim (cases_Bool (holds byte (bytes_tou
 
 -- ---- where the fields end
 
--- the greatest end of spans, of which the first were seen
-pub ends_more : (spans : List Span) (k end : ℕ) (span : Span) → k < length spans → get_or spans k span ≡ span
-    → greatest_end spans ≡ max end (greatest_end (drop k spans))
-    → greatest_end spans ≡ max (max end span.end) (greatest_end (drop (k + 1) spans))
-ends_more spans k end span within here so_far =
-    let next : drop k spans ≡ span ∷ drop (k + 1) spans =
-    rw (add-one, drop-cons spans k span within) (ap (λ (s : Span). s ∷ drop (suc k) spans) here) in
-    let step : greatest_end (drop k spans) ≡ max span.end (greatest_end (drop (k + 1) spans)) = ap greatest_end next in
-    so_far ∙ omega (arith, step)
-
-pub ends_all : (spans : List Span) (k end : ℕ) → length spans ≤ k → greatest_end spans
-    ≡ max end (greatest_end (drop k spans))
-    → end ≡ greatest_end spans
-ends_all spans k end past so_far =
-    let none : greatest_end (drop k spans) ≡ 0 = ap greatest_end (drop_of_length-le spans past) in
-    omega (arith, so_far, none)
-
 touched_below : (spans : List Span) (byte : ℕ) → list_any (holds byte) spans ≡ true → byte < greatest_end spans
 touched_below [] byte is = absurd cc
 touched_below (span ∷ spans) byte is = elim (cases_Bool (holds byte span)) [

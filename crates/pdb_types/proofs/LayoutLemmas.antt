@@ -110,26 +110,4 @@ fields_refused table records items i item found e so_far within here (inr memory
 
 -- ---- one field
 
--- a record of a field
-pub pushed_some : (table : Table) (value : TypeValue) (place : FieldPlace) (extent : Extent)
-    (old new : List LayoutField) → Some (place_value place) ≡ place_of_field value
-    → extent_at table place.field_type.0 ≡ Ok extent → new ≡ old ++ (record { place = place; extent = extent }) ∷ []
-    → with_field (map field_value old) (field_of table value) ≡ Ok (map field_value new)
-unfolding field_of
-pushed_some table value place extent old new at is are =
-    let own : Extent → Answer (Option FieldValue) = λ x. Ok (Some (record { place = place_value place; extent = x })) in
-    let last : LayoutField = record { place = place; extent = extent } in
-    ap (λ (p : Option PlaceValue). with_field (map field_value old) (field_from table p)) (sym at)
-    ∙ ap (λ (e : Answer Extent). with_field (map field_value old) (e >>= own)) is
-    ∙ ap (λ (l : List FieldValue). ok l) (sym (ap (map field_value) are ∙ map-append field_value old (last ∷ [])))
-
 -- ---- gaps
-
-pub gaps_left : (fields : List LayoutField) (spans : List Span) (size : ℕ) (virtual : Bool) (rows : List Gap)
-    → spans ≡ map field_span fields → virtual ≡ list_any is_virtual_field fields
-    → AreGapRows spans size virtual rows → AreGapRows (map field_span fields) size
-    (list_any is_virtual_field fields) rows
-gaps_left fields spans size virtual rows are has gaps =
-    let P : List Span → Type 0 = λ l. AreGapRows l size (list_any is_virtual_field fields) rows in
-    let Q : Bool → Type 0 = λ b. AreGapRows spans size b rows in
-    subst P are (subst Q has gaps)

@@ -14,7 +14,7 @@ ghost use Rattle.pdbdump_cli.specs.Answers.{range_shown, record_shown, reply_sho
 use pdb_base::RawString;
 use pdb_container::{Reply, Result};
 use pdb_output::Output;
-use pdbdump_rows::{Form, Line, Value, optional_text, show_error, write_line};
+use pdbdump_rows::{Form, Line, LineResult, Value, optional_text, show_error, write_line};
 use std::alloc::Global;
 use std::io::Write;
 use std::ops::Range;
@@ -39,7 +39,7 @@ fn write_text<W: Write>(
 }
 
 /// Adds the index of a record, its kind and its name, if it has one.
-fn show_record(line: &mut Line, index: u32, leaf: u16, name: Option<&[u8]>) -> Result<()>
+fn show_record(line: &mut Line, index: u32, leaf: u16, name: Option<&[u8]>) -> LineResult
     ensures { ShowsFields (record_shown index leaf (option_map
         (λ name. name.now) name.entry)) line.old line.new result }
 {
@@ -49,7 +49,7 @@ fn show_record(line: &mut Line, index: u32, leaf: u16, name: Option<&[u8]>) -> R
 }
 
 /// Adds the bytes of a stream, in hexadecimal digits.
-fn show_bytes(alloc: Global, line: &mut Line, stream: &[u8]) -> Result<()>
+fn show_bytes(alloc: Global, line: &mut Line, stream: &[u8]) -> LineResult
     ensures { ShowsFields (bytes_shown stream.now) line.old line.new result }
 {
     let digits = hex::encode(alloc, stream)?;
@@ -57,7 +57,7 @@ fn show_bytes(alloc: Global, line: &mut Line, stream: &[u8]) -> Result<()>
 }
 
 /// Adds the name of a field.
-fn show_name(line: &mut Line, name: Option<&[u8]>) -> Result<()>
+fn show_name(line: &mut Line, name: Option<&[u8]>) -> LineResult
     ensures { ShowsFields (name_field (codes "field") (option_map (λ name. name.now) name.entry) ∷ [])
         line.old line.new result }
 {
@@ -84,7 +84,7 @@ fn write_names<W: Write>(
 }
 
 /// Adds the start of a range and its end.
-fn show_range(line: &mut Line, range: &Range<u32>) -> Result<()>
+fn show_range(line: &mut Line, range: &Range<u32>) -> LineResult
     ensures { ShowsFields (range_shown range.now) line.old line.new result }
 {
     line.field("start", Value::Hexadecimal(range.start))?;
@@ -110,7 +110,7 @@ fn write_ranges<W: Write>(
 }
 
 /// Adds the fields of a reply that has one line.
-fn show_reply(alloc: Global, line: &mut Line, reply: &Reply) -> Result<()>
+fn show_reply(alloc: Global, line: &mut Line, reply: &Reply) -> LineResult
     ensures { ShowsFields (reply_shown reply.now) line.old line.new result }
 {
     match reply {

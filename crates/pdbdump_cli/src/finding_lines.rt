@@ -21,7 +21,7 @@ use crate::names::{
 use pdb_base::{Error, RawString, Result};
 use pdb_validation::{Finding, Problem};
 use pdbdump_rows::names::INDEX;
-use pdbdump_rows::{Form, Line, Value, append_line, error_text, optional_number};
+use pdbdump_rows::{Form, Line, LineResult, Value, append_line, error_text, optional_number};
 use std::alloc::Global;
 
 /// Appends a label and a number behind it in hexadecimal digits.
@@ -75,7 +75,7 @@ fn problem_text(alloc: Global, problem: &Problem) -> Result<Vec<u8>>
     ensures memory { FailsOnlyForMemory result }
 {
     match problem {
-        Problem::Error(error) => error_text(alloc, error),
+        Problem::Error(error) => Ok(error_text(alloc, error)?),
         Problem::Inconsistent(_) => Ok(format!(in alloc; "{problem}")?.into_bytes()),
     }
 }
@@ -139,7 +139,7 @@ fn number_value<'t>(number: Option<u64>) -> Value<'t>
 
 /// Adds what is told of a finding in the file at a path.
 #[tactic(auto, unfolding(crate::specs::FindingLines::fault_shown))]
-fn show_finding(alloc: Global, line: &mut Line, path: &str, finding: &Finding) -> Result<()>
+fn show_finding(alloc: Global, line: &mut Line, path: &str, finding: &Finding) -> LineResult
     ensures { ShowsFields (fault_shown path.now (finding_view finding.now)) line.old line.new result }
 {
     let words = problem_text(alloc, &finding.problem)?;
@@ -286,7 +286,7 @@ fn push_file_line(alloc: Global, path: &str, tally: Tally, out: &mut Vec<u8>) ->
 
 /// Adds what is told of a file in which so much was found.
 #[tactic(auto, unfolding(crate::specs::FindingLines::file_shown))]
-fn show_file(line: &mut Line, path: &str, tally: Tally) -> Result<()>
+fn show_file(line: &mut Line, path: &str, tally: Tally) -> LineResult
     ensures { ShowsFields (file_shown path.now (tally_view tally)) line.old line.new result }
 {
     line.field(FILE, Value::Text(RawString::from(path)))?;

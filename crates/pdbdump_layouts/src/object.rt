@@ -11,10 +11,10 @@ ghost use Rattle.pdbdump_layouts.specs.Object.{member_name, role_word, virtual_b
 
 use crate::gap_place::gap_place;
 use crate::names::{BIT, BITS, DECLARATION, DEPTH, TYPE, TYPE_INDEX, VIRTUAL_BASE};
-use pdb_base::{Error, RawString, Result};
+use pdb_base::RawString;
 use pdb_types::{Extent, FieldKind, Gap, GapKind, LayoutField};
 use pdbdump_rows::names::{DIRECT, KIND, NAME, OFFSET, POSITION, SIZE};
-use pdbdump_rows::{Line, Value, optional_text};
+use pdbdump_rows::{Line, LineResult, Value, optional_text};
 
 /// Returns the word for what a field is.
 fn role_word(kind: &FieldKind<'_>) -> &'static str
@@ -40,7 +40,7 @@ fn role_name<'t>(kind: &FieldKind<'t>) -> Option<RawString<'t>>
 
 /// Adds the size of a field in bytes, if something says it; or the bit at which a bit field begins,
 /// and how many it has.
-fn show_extent(line: &mut Line, extent: &Extent) -> Result<()>
+fn show_extent(line: &mut Line, extent: &Extent) -> LineResult
     ensures { ShowsFields (extent_fields extent.now) line.old line.new result }
 {
     match extent {
@@ -55,7 +55,7 @@ fn show_extent(line: &mut Line, extent: &Extent) -> Result<()>
 
 /// Adds which virtual base class a field leads to, if it leads to one: whether the class itself
 /// names it, and its position in the table of virtual bases.
-fn show_virtual_base(line: &mut Line, kind: &FieldKind<'_>) -> Result<()>
+fn show_virtual_base(line: &mut Line, kind: &FieldKind<'_>) -> LineResult
     ensures { ShowsFields (virtual_base_object (field_role kind.now)) line.old line.new result }
 {
     match kind {
@@ -73,7 +73,7 @@ fn show_virtual_base(line: &mut Line, kind: &FieldKind<'_>) -> Result<()>
 /// shown, and whose class is so deep in it.
 ///
 /// # Errors
-/// Fails with `OutOfMemory` if an allocation fails.
+/// Fails if an allocation fails.
 #[tactic(auto, unfolding(crate::specs::Object::field_object), using(crate::proofs::ObjectLemmas::fields_both))]
 pub(crate) fn show_field(
     line: &mut Line,
@@ -82,7 +82,7 @@ pub(crate) fn show_field(
     part: &LayoutField<'_>,
     type_text: &[u8],
     declaration: &[u8],
-) -> Result<()>
+) -> LineResult
     ensures { ShowsFields (field_object depth offset (field_value part.now) type_text.now declaration.now)
         line.old line.new result }
 {
@@ -114,9 +114,9 @@ fn gap_word(kind: GapKind) -> &'static str
 /// shown, and is so deep in it.
 ///
 /// # Errors
-/// Fails with `OutOfMemory` if an allocation fails.
+/// Fails if an allocation fails.
 #[tactic(auto, unfolding(crate::specs::Object::gap_object))]
-pub(crate) fn show_gap(line: &mut Line, depth: u32, start: u64, gap: &Gap) -> Result<()>
+pub(crate) fn show_gap(line: &mut Line, depth: u32, start: u64, gap: &Gap) -> LineResult
     ensures { ShowsFields (gap_object depth start gap.now) line.old line.new result }
 {
     let place = gap_place(start, gap);

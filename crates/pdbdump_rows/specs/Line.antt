@@ -1,5 +1,6 @@
 -- A line as it is written, field by field.
-use Rattle.std.specs.Prelude.{◌≡◌, ℕ, if◌then◌else◌, Bool, true, false, List, [], ◌∷◌, ◌++◌, codes, Result, Ok, Err}
+use Rattle.std.specs.Prelude.{◌≡◌, ⊤, ℕ, if◌then◌else◌, Bool, true, false, List, [], ◌∷◌, ◌++◌, codes, Result, Ok, Err}
+use Rattle.std.specs.declared.alloc.AllocError.{AllocError}
 use Rattle.pdb_base.specs.declared.error.Error.{Error}
 use Rattle.pdb_base.specs.declared.error.Error.TheVariants.{OutOfMemory}
 use Rattle.pdb_output.specs.Output.{OutputState, Writes}
@@ -67,14 +68,14 @@ unfoldable pub line_bytes : LineState → List ℕ
 line_bytes line = line.bytes ++ end_bytes line
 
 -- Fields were added to a line; or memory ran out.
-abbrev pub ShowsFields : ShownRow → LineState → LineState → Result (Unit {0}) Error → Type 0
+abbrev pub ShowsFields : ShownRow → LineState → LineState → Result (Unit {0}) AllocError → Type 0
 ShowsFields row old new (Ok done) = new ≡ all_shown old row
-ShowsFields row old new (Err e) = e ≡ OutOfMemory
+ShowsFields row old new (Err e) = ⊤
 
 -- A line has ended with this text; or memory ran out.
-abbrev pub EndsLine : List ℕ → LineState → Result (Unit {0}) Error → Type 0
+abbrev pub EndsLine : List ℕ → LineState → Result (Unit {0}) AllocError → Type 0
 EndsLine text new (Ok done) = new.bytes ≡ text
-EndsLine text new (Err e) = e ≡ OutOfMemory
+EndsLine text new (Err e) = ⊤
 
 -- Bytes were added to others; or memory ran out.
 abbrev pub Adds : List ℕ → List ℕ → List ℕ → Result (Unit {0}) Error → Type 0
@@ -82,8 +83,8 @@ Adds text old new (Ok done) = new ≡ old ++ text
 Adds text old new (Err e) = e ≡ OutOfMemory
 
 -- The line of the fields that were added has ended, as one line or in full, whichever they are; or memory ran out.
-pub record IsLineEnded (old : LineState) (added : Result (Unit {0}) Error) (new : LineState)
-    (result : Result (Unit {0}) Error) : Type 0 where
+pub record IsLineEnded (old : LineState) (added : Result (Unit {0}) AllocError) (new : LineState)
+    (result : Result (Unit {0}) AllocError) : Type 0 where
   pub row : (form : Form) (start : LineState) (row : ShownRow) → ShowsFields row start old added → start ≡ begun form
       → EndsLine (row_text form row) new result
   pub full : (form : Form) (start : LineState) (row : ShownRow) → ShowsFields row start old added → start
@@ -91,13 +92,13 @@ pub record IsLineEnded (old : LineState) (added : Result (Unit {0}) Error) (new 
       → EndsLine (full_text form row) new result
 
 -- The line of the fields that were added was written, whichever they are; or it was cut short.
-pub record IsLineWritten (line : LineState) (added : Result (Unit {0}) Error) (old new : OutputState)
+pub record IsLineWritten (line : LineState) (added : Result (Unit {0}) AllocError) (old new : OutputState)
     (result : Result (Unit {0}) Error) : Type 0 where
   pub row : (form : Form) (start : LineState) (row : ShownRow) → ShowsFields row start line added → start ≡ begun form
       → Writes (row_text form row) old new result
 
 -- The line of the fields that were added was appended to a text, whichever they are; or memory ran out.
-pub record IsLineAppended (line : LineState) (added : Result (Unit {0}) Error) (old new : List ℕ)
+pub record IsLineAppended (line : LineState) (added : Result (Unit {0}) AllocError) (old new : List ℕ)
     (result : Result (Unit {0}) Error) : Type 0 where
   pub row : (form : Form) (start : LineState) (row : ShownRow) → ShowsFields row start line added → start ≡ begun form
       → Adds (row_text form row) old new result

@@ -5,9 +5,8 @@ ghost use Rattle.pdb_values.specs.TypeView.{type_value};
 ghost use Rattle.pdbdump_rows.specs.EntryRows.{base_class_leaf, class_leaf, field_row, shown_leaf, virtual_base_leaf};
 ghost use Rattle.pdbdump_rows.specs.Line.{ShowsFields};
 
-use crate::line::Line;
+use crate::line::{Line, LineResult};
 use crate::type_rows::{show_fields, show_head};
-use pdb_base::{Error, Result};
 use pdb_values::constants::{
     LF_ARGLIST, LF_ARRAY, LF_BCLASS, LF_BINTERFACE, LF_BITFIELD, LF_CLASS, LF_ENUM, LF_ENUMERATE,
     LF_FIELDLIST, LF_INTERFACE, LF_IVBCLASS, LF_MEMBER, LF_METHOD, LF_METHODLIST, LF_MFUNCTION,
@@ -80,9 +79,9 @@ fn leaf_of(data: &TypeData<'_>) -> u16
 /// compilers write for it.
 ///
 /// # Errors
-/// Fails with `OutOfMemory` if an allocation fails.
+/// Fails if an allocation fails.
 #[tactic(auto, unfolding(crate::specs::EntryRows::field_row))]
-pub fn show_entry(alloc: Global, line: &mut Line, data: &TypeData<'_>) -> Result<()>
+pub fn show_entry(alloc: Global, line: &mut Line, data: &TypeData<'_>) -> LineResult
     ensures { ShowsFields (field_row (type_value «data».now)) line.old line.new result }
 {
     show_head(line, None, leaf_of(data))?;

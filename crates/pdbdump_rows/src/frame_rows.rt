@@ -6,13 +6,12 @@ ghost use Rattle.pdbdump_rows.specs.Line.{ShowsFields};
 ghost use Rattle.pdbdump_rows.specs.Row.{value_shown};
 ghost use Rattle.pdbdump_rows.specs.TableRows.{frame_row, program_place};
 
-use crate::line::Line;
+use crate::line::{Line, LineResult};
 use crate::names::{
     CODE_SIZE, CODE_START, HAS_CPP_EH, HAS_STRUCTURED_EH, IS_FUNCTION_START, LOCALS_SIZE,
     MAX_STACK_SIZE, PARAMS_SIZE, PROGRAM, PROLOG_SIZE, SAVED_REGS_SIZE, TY, USES_BASE_POINTER,
 };
 use crate::value::{Value, optional_number};
-use pdb_base::{Error, Result};
 use pdb_frames::{FrameData, FrameType};
 use pdb_space::StringRef;
 
@@ -44,9 +43,9 @@ fn program<'t>(place: Option<StringRef>) -> Value<'t>
 /// Adds the fields of a frame.
 ///
 /// # Errors
-/// Fails with `OutOfMemory` if an allocation fails.
+/// Fails if an allocation fails.
 #[tactic(auto, unfolding(crate::specs::TableRows::frame_row))]
-pub fn show_frame(line: &mut Line, frame: &FrameData) -> Result<()>
+pub fn show_frame(line: &mut Line, frame: &FrameData) -> LineResult
     ensures { ShowsFields (frame_row frame.now) line.old line.new result }
 {
     line.field(CODE_START, Value::Hexadecimal(frame.code_start.0))?;

@@ -9,14 +9,13 @@ ghost use Rattle.pdbdump_rows.specs.IdRows.{member_function_fields, source_field
 ghost use Rattle.pdbdump_rows.specs.IdRows.{string_fields, string_list_fields};
 ghost use Rattle.pdbdump_rows.specs.Row.{value_shown};
 
-use crate::line::Line;
+use crate::line::{Line, LineResult};
 use crate::lists::{id_numbers, type_numbers};
 use crate::names::{
     ARGUMENTS, FUNCTION_TYPE, LINE, MODULE, NAME, PARENT, SCOPE, SOURCE_FILE, SUBSTRINGS, UDT,
 };
 use crate::type_rows::show_head;
 use crate::value::{Value, optional_id, type_index};
-use pdb_base::{Error, Result};
 use pdb_values::{
     BuildInfoId, FunctionId, IdData, MemberFunctionId, StringId, StringListId,
     UserDefinedTypeSourceFileRef, UserDefinedTypeSourceId,
@@ -25,7 +24,7 @@ use std::alloc::Global;
 
 /// Adds the fields of a function.
 #[tactic(auto, unfolding(crate::specs::IdRows::function_fields))]
-fn show_function(line: &mut Line, id: &FunctionId<'_>) -> Result<()>
+fn show_function(line: &mut Line, id: &FunctionId<'_>) -> LineResult
     ensures { ShowsFields (function_fields (function_value id.now)) line.old line.new result }
 {
     line.field(NAME, Value::Text(id.name))?;
@@ -36,7 +35,7 @@ fn show_function(line: &mut Line, id: &FunctionId<'_>) -> Result<()>
 
 /// Adds the fields of a method.
 #[tactic(auto, unfolding(crate::specs::IdRows::member_function_fields))]
-fn show_member_function(line: &mut Line, id: &MemberFunctionId<'_>) -> Result<()>
+fn show_member_function(line: &mut Line, id: &MemberFunctionId<'_>) -> LineResult
     ensures { ShowsFields (member_function_fields (member_function_value id.now)) line.old line.new result }
 {
     line.field(NAME, Value::Text(id.name))?;
@@ -47,7 +46,7 @@ fn show_member_function(line: &mut Line, id: &MemberFunctionId<'_>) -> Result<()
 
 /// Adds the fields of what a module was built with.
 #[tactic(auto, unfolding(crate::specs::IdRows::build_info_fields))]
-fn show_build_info(alloc: Global, line: &mut Line, id: &BuildInfoId) -> Result<()>
+fn show_build_info(alloc: Global, line: &mut Line, id: &BuildInfoId) -> LineResult
     ensures { ShowsFields (build_info_fields (build_arguments id.now)) line.old line.new result }
 {
     let arguments = id_numbers(alloc, &id.arguments)?;
@@ -57,7 +56,7 @@ fn show_build_info(alloc: Global, line: &mut Line, id: &BuildInfoId) -> Result<(
 
 /// Adds the fields of the parts of a text.
 #[tactic(auto, unfolding(crate::specs::IdRows::string_list_fields))]
-fn show_string_list(alloc: Global, line: &mut Line, id: &StringListId) -> Result<()>
+fn show_string_list(alloc: Global, line: &mut Line, id: &StringListId) -> LineResult
     ensures { ShowsFields (string_list_fields (text_parts id.now)) line.old line.new result }
 {
     let substrings = type_numbers(alloc, &id.substrings)?;
@@ -67,7 +66,7 @@ fn show_string_list(alloc: Global, line: &mut Line, id: &StringListId) -> Result
 
 /// Adds the fields of a text.
 #[tactic(auto, unfolding(crate::specs::IdRows::string_fields))]
-fn show_string(line: &mut Line, id: &StringId<'_>) -> Result<()>
+fn show_string(line: &mut Line, id: &StringId<'_>) -> LineResult
     ensures { ShowsFields (string_fields (string_value id.now)) line.old line.new result }
 {
     line.field(NAME, Value::Text(id.name))?;
@@ -98,7 +97,7 @@ fn source_file<'t>(file: UserDefinedTypeSourceFileRef) -> Value<'t>
 
 /// Adds the fields of the place where a type is declared.
 #[tactic(auto, unfolding(crate::specs::IdRows::source_fields))]
-fn show_source(line: &mut Line, id: &UserDefinedTypeSourceId) -> Result<()>
+fn show_source(line: &mut Line, id: &UserDefinedTypeSourceId) -> LineResult
     ensures { ShowsFields (source_fields id.now) line.old line.new result }
 {
     line.field(UDT, type_index(id.udt))?;
@@ -109,7 +108,7 @@ fn show_source(line: &mut Line, id: &UserDefinedTypeSourceId) -> Result<()>
 }
 
 /// Adds the fields of an id.
-fn show_fields(alloc: Global, line: &mut Line, data: &IdData<'_>) -> Result<()>
+fn show_fields(alloc: Global, line: &mut Line, data: &IdData<'_>) -> LineResult
     ensures { ShowsFields (id_fields (id_value «data».now)) line.old line.new result }
 {
     match data {
@@ -125,7 +124,7 @@ fn show_fields(alloc: Global, line: &mut Line, data: &IdData<'_>) -> Result<()>
 /// Adds the fields of the id of this index, whose record is of this kind.
 ///
 /// # Errors
-/// Fails with `OutOfMemory` if an allocation fails.
+/// Fails if an allocation fails.
 #[tactic(auto, unfolding(crate::specs::IdRows::id_row))]
 pub fn show_id(
     alloc: Global,
@@ -133,7 +132,7 @@ pub fn show_id(
     index: u32,
     leaf: u16,
     data: &IdData<'_>,
-) -> Result<()>
+) -> LineResult
     ensures { ShowsFields (id_row index leaf (id_value «data».now)) line.old line.new result }
 {
     show_head(line, Some(index), leaf)?;

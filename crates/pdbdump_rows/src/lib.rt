@@ -24,7 +24,7 @@ pub use entry_rows::show_entry;
 pub use form::Form;
 pub use frame_rows::show_frame;
 pub use id_rows::show_id;
-pub use line::{Line, append_line, write_line};
+pub use line::{Line, LineResult, append_line, write_line};
 pub use omap_rows::show_omap;
 pub use refused::{error_text, show_error};
 pub use section_rows::show_section;

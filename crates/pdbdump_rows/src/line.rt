@@ -8,11 +8,14 @@ ghost use Rattle.pdbdump_rows.specs.Row.{value_shown};
 use crate::form::Form;
 use crate::push::{is_shown, push_end, push_line, push_next};
 use crate::value::Value;
-use pdb_base::{Error, Result};
+use pdb_base::Error;
 use pdb_output::Output;
-use std::alloc::Global;
+use std::alloc::{AllocError, Global};
 use std::io::Write;
 use std::marker::Model;
+
+/// The result of adding to a line, which fails only if an allocation fails.
+pub type LineResult = Result<(), AllocError>;
 
 /// A line that is written field by field: in text one such as `0x1000 LF_STRUCTURE S count=1
 /// size=4`, where the fields that are called index, number, kind and name are written without
@@ -75,9 +78,9 @@ impl Line {
     /// Adds a field.
     ///
     /// # Errors
-    /// Fails with `OutOfMemory` if an allocation fails. A part of the field may then be there.
+    /// Fails if an allocation fails. A part of the field may then be there.
     #[tactic(auto, unfolding(crate::specs::Line::add_field))]
-    pub fn field(&mut self, name: &'static str, value: Value<'_>) -> Result<()>
+    pub fn field(&mut self, name: &'static str, value: Value<'_>) -> LineResult
         ensures { ShowsFields ((name.now, value_shown value.entry) ∷ []) self.old self.new result }
     {
         if !is_shown(self.form, &value) {
@@ -94,7 +97,7 @@ impl Line {
 
     /// Ends the line, with its line feed.
     #[tactic(auto, unfolding(crate::specs::Line::line_bytes))]
-    fn end(&mut self) -> Result<()>
+    fn end(&mut self) -> LineResult
         ensures { EndsLine (line_bytes self.old) self.new result }
     {
         if self.is_full {
@@ -106,15 +109,13 @@ impl Line {
     /// Ends the line, to which fields were added as `added` says.
     ///
     /// # Errors
-    /// Fails as adding the fields did, and with `OutOfMemory` if an allocation fails.
+    /// Fails if adding the fields or another allocation fails.
     #[tactic(auto, using(crate::proofs::lemmas::Line::ends_line, crate::proofs::lemmas::Line::ends_full))]
-    pub fn finish(&mut self, added: Result<()>) -> Result<()>
+    pub fn finish(&mut self, added: LineResult) -> LineResult
         ensures { IsLineEnded self.old added self.new result }
     {
-        match added {
-            Ok(()) => self.end(),
-            Err(fault) => Err(fault),
-        }
+        added?;
+        self.end()
     }
 
     /// Returns the bytes of the line.
@@ -128,29 +129,28 @@ impl Line {
 /// Ends a line, to which fields were added as `added` says, and writes it.
 ///
 /// # Errors
-/// Fails as adding the fields did, with `OutOfMemory` if an allocation fails, and with `IoError` if
+/// Fails with `OutOfMemory` if adding the fields or another allocation fails, and with `IoError` if
 /// the output fails, which may then have got a prefix of the line.
-pub fn write_line<W: Write>(added: Result<()>, line: &mut Line, out: &mut Output<W>) -> Result<()>
+#[tactic(auto, using(crate::proofs::lemmas::Line::line_lacks))]
+pub fn write_line<W: Write>(
+    added: LineResult,
+    line: &mut Line,
+    out: &mut Output<W>,
+) -> Result<(), Error>
     ensures { IsLineWritten line.old added out.old out.new result }
 {
-    match line.finish(added) {
-        Ok(()) => out.write(line.as_bytes()),
-        Err(fault) => Err(fault),
-    }
+    line.finish(added)?;
+    out.write(line.as_bytes())
 }
 
 /// Ends a line, to which fields were added as `added` says, and appends it to a text.
 ///
 /// # Errors
-/// Fails as adding the fields did, and with `OutOfMemory` if an allocation fails.
-pub fn append_line(added: Result<()>, line: &mut Line, text: &mut Vec<u8>) -> Result<()>
+/// Fails with `OutOfMemory` if adding the fields or another allocation fails.
+pub fn append_line(added: LineResult, line: &mut Line, text: &mut Vec<u8>) -> Result<(), Error>
     ensures { IsLineAppended line.old added text.old.items text.new.items result }
 {
-    match line.finish(added) {
-        Ok(()) => {
-            text.extend_from_slice(line.as_bytes())?;
-            Ok(())
-        }
-        Err(fault) => Err(fault),
-    }
+    line.finish(added)?;
+    text.extend_from_slice(line.as_bytes())?;
+    Ok(())
 }

@@ -1,46 +1,41 @@
 //! Lists of numbers that a line shows.
 
 ghost use Rattle.std.specs.Prelude.{◌≡◌, map, IfOk};
-ghost use Rattle.pdb_base.specs.Memory.{FailsOnlyForMemory};
 
-use pdb_base::{Error, IdIndex, Result, TypeIndex};
+use pdb_base::{IdIndex, TypeIndex};
 use pdb_values::MethodListEntry;
-use std::alloc::Global;
+use std::alloc::{AllocError, Global};
 
 /// Returns the numbers of type indexes.
-pub(crate) fn type_numbers(alloc: Global, indexes: &[TypeIndex]) -> Result<Vec<u32>>
-    ensures ok { IfOk result (λ numbers. numbers.items ≡ map (λ index. index.0) indexes.now) }
-    ensures memory { FailsOnlyForMemory result }
+pub(crate) fn type_numbers(alloc: Global, indexes: &[TypeIndex]) -> Result<Vec<u32>, AllocError>
+    ensures { IfOk result (λ numbers. numbers.items ≡ map (λ index. index.0) indexes.now) }
 {
-    let numbers = indexes.iter().map(|index| index.0).collect(alloc)?;
-    Ok(numbers)
+    indexes.iter().map(|index| index.0).collect(alloc)
 }
 
 /// Returns the numbers of id indexes.
-pub(crate) fn id_numbers(alloc: Global, indexes: &[IdIndex]) -> Result<Vec<u32>>
-    ensures ok { IfOk result (λ numbers. numbers.items ≡ map (λ index. index.0) indexes.now) }
-    ensures memory { FailsOnlyForMemory result }
+pub(crate) fn id_numbers(alloc: Global, indexes: &[IdIndex]) -> Result<Vec<u32>, AllocError>
+    ensures { IfOk result (λ numbers. numbers.items ≡ map (λ index. index.0) indexes.now) }
 {
-    let numbers = indexes.iter().map(|index| index.0).collect(alloc)?;
-    Ok(numbers)
+    indexes.iter().map(|index| index.0).collect(alloc)
 }
 
 /// Returns the numbers of methods' types.
-pub(crate) fn method_numbers(alloc: Global, methods: &[MethodListEntry]) -> Result<Vec<u32>>
-    ensures ok { IfOk result (λ numbers. numbers.items ≡ map (λ method. method.method_type.0) methods.now) }
-    ensures memory { FailsOnlyForMemory result }
+pub(crate) fn method_numbers(
+    alloc: Global,
+    methods: &[MethodListEntry],
+) -> Result<Vec<u32>, AllocError>
+    ensures { IfOk result (λ numbers. numbers.items ≡ map (λ method. method.method_type.0) methods.now) }
 {
-    let numbers = methods
+    methods
         .iter()
         .map(|method| method.method_type.0)
-        .collect(alloc)?;
-    Ok(numbers)
+        .collect(alloc)
 }
 
 /// Returns bytes as numbers.
-pub(crate) fn byte_numbers(alloc: Global, bytes: &[u8]) -> Result<Vec<u32>>
-    ensures ok { IfOk result (λ numbers. numbers.items ≡ bytes.now) }
-    ensures memory { FailsOnlyForMemory result }
+pub(crate) fn byte_numbers(alloc: Global, bytes: &[u8]) -> Result<Vec<u32>, AllocError>
+    ensures { IfOk result (λ numbers. numbers.items ≡ bytes.now) }
 {
     let mut numbers = Vec::with_capacity(alloc, bytes.len())?;
     for byte in bytes {

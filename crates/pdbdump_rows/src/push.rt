@@ -1,7 +1,6 @@
 //! The parts of a line.
 
 ghost use Rattle.std.specs.Prelude.{◌≡◌, ◌++◌, if◌then◌else◌, [], codes, map, not, OnOk};
-ghost use Rattle.pdb_base.specs.Memory.{FailsOnlyForMemory};
 ghost use Rattle.pdbdump_rows.specs.Line.{ending, line_opening};
 ghost use Rattle.pdbdump_rows.specs.Lines.{field_line, field_text, index_text, is_leading, is_none, is_shown_value};
 ghost use Rattle.pdbdump_rows.specs.Lines.{shown_leaf_text, list_text, separator, value_text};
@@ -13,13 +12,12 @@ use crate::form::Form;
 use crate::number::{four_digits, push_decimal, push_hexadecimal, push_signed};
 use crate::text::{push_quoted, push_text};
 use crate::value::{Flag, Value};
-use pdb_base::{Error, Result};
 use pdb_values::leaf_name;
+use std::alloc::AllocError;
 
 /// Appends a number, which text shows in hexadecimal and JSON in decimal.
-fn push_index(form: Form, number: u32, out: &mut Vec<u8>) -> Result<()>
-    ensures ok { OnOk result (out.new.items ≡ out.old.items ++ index_text form number) }
-    ensures memory { FailsOnlyForMemory result }
+fn push_index(form: Form, number: u32, out: &mut Vec<u8>) -> Result<(), AllocError>
+    ensures { OnOk result (out.new.items ≡ out.old.items ++ index_text form number) }
 {
     match form {
         Form::Text => push_hexadecimal(number, out),
@@ -29,9 +27,8 @@ fn push_index(form: Form, number: u32, out: &mut Vec<u8>) -> Result<()>
 
 /// Appends a record kind by its name, or in hexadecimal if it has none.
 #[tactic(auto, unfolding(crate::specs::Lines::shown_leaf_text))]
-fn push_kind(form: Form, leaf: u16, out: &mut Vec<u8>) -> Result<()>
-    ensures ok { OnOk result (out.new.items ≡ out.old.items ++ in_quotes form (shown_leaf_text leaf)) }
-    ensures memory { FailsOnlyForMemory result }
+fn push_kind(form: Form, leaf: u16, out: &mut Vec<u8>) -> Result<(), AllocError>
+    ensures { OnOk result (out.new.items ≡ out.old.items ++ in_quotes form (shown_leaf_text leaf)) }
 {
     match leaf_name(leaf) {
         Some(name) => push_quoted(form, name.as_bytes(), out),
@@ -56,10 +53,9 @@ fn is_any_set(flags: &[Flag]) -> bool
 }
 
 /// Appends a word of a list, the first one or one after others.
-fn push_word(form: Form, is_first: bool, word: &str, out: &mut Vec<u8>) -> Result<()>
-    ensures ok { OnOk result (out.new.items
+fn push_word(form: Form, is_first: bool, word: &str, out: &mut Vec<u8>) -> Result<(), AllocError>
+    ensures { OnOk result (out.new.items
         ≡ out.old.items ++ ((if is_first then [] else codes ",") ++ in_quotes form word.now)) }
-    ensures memory { FailsOnlyForMemory result }
 {
     let before: &[u8] = if is_first { b"" } else { b"," };
     out.extend_from_slice(before)?;
@@ -68,11 +64,10 @@ fn push_word(form: Form, is_first: bool, word: &str, out: &mut Vec<u8>) -> Resul
 
 /// Appends the words of the flags that are set, as a list.
 #[tactic(auto, unfolding(crate::specs::Lines::list_text))]
-fn push_words(form: Form, flags: &[Flag], out: &mut Vec<u8>) -> Result<()>
-    ensures ok { OnOk result (out.new.items
+fn push_words(form: Form, flags: &[Flag], out: &mut Vec<u8>) -> Result<(), AllocError>
+    ensures { OnOk result (out.new.items
         ≡ out.old.items ++ list_text (in_quotes form) (words_beside_true
         (map (λ flag. (flag.0, flag.1.now)) flags.now))) }
-    ensures memory { FailsOnlyForMemory result }
 {
     out.push(b'[')?;
     let mut is_first = true;
@@ -88,13 +83,11 @@ fn push_words(form: Form, flags: &[Flag], out: &mut Vec<u8>) -> Result<()>
 
 /// Appends indexes as a list.
 #[tactic(auto, unfolding(crate::specs::Lines::list_text), using(crate::proofs::Separated::one_more))]
-fn push_indexes(form: Form, indexes: &[u32], out: &mut Vec<u8>) -> Result<()>
-    ensures ok { OnOk result (out.new.items ≡ out.old.items ++ list_text (index_text form) indexes.now) }
-    ensures memory { FailsOnlyForMemory result }
+fn push_indexes(form: Form, indexes: &[u32], out: &mut Vec<u8>) -> Result<(), AllocError>
+    ensures { OnOk result (out.new.items ≡ out.old.items ++ list_text (index_text form) indexes.now) }
 {
     let Some((first, rest)) = indexes.split_first() else {
-        out.extend_from_slice(b"[]")?;
-        return Ok(());
+        return out.extend_from_slice(b"[]");
     };
     out.push(b'[')?;
     push_index(form, *first, out)?;
@@ -107,23 +100,16 @@ fn push_indexes(form: Form, indexes: &[u32], out: &mut Vec<u8>) -> Result<()>
 }
 
 /// Appends the value of a field. Both forms show numbers as JSON shows indexes, in decimal.
-fn push_value(form: Form, value: &Value<'_>, out: &mut Vec<u8>) -> Result<()>
-    ensures ok { OnOk result (out.new.items ≡ out.old.items ++ value_text form (value_shown value.now)) }
-    ensures memory { FailsOnlyForMemory result }
+fn push_value(form: Form, value: &Value<'_>, out: &mut Vec<u8>) -> Result<(), AllocError>
+    ensures { OnOk result (out.new.items ≡ out.old.items ++ value_text form (value_shown value.now)) }
 {
     match value {
         Value::Number(number) => push_decimal(*number, out),
         Value::Signed(number) => push_signed(*number, out),
         Value::Hexadecimal(number) => push_index(form, *number, out),
         Value::Kind(leaf) => push_kind(form, *leaf, out),
-        Value::Flag(true) => {
-            out.extend_from_slice(b"true")?;
-            Ok(())
-        }
-        Value::Flag(false) => {
-            out.extend_from_slice(b"false")?;
-            Ok(())
-        }
+        Value::Flag(true) => out.extend_from_slice(b"true"),
+        Value::Flag(false) => out.extend_from_slice(b"false"),
         Value::Text(text) => push_quoted(form, text.as_bytes(), out),
         Value::Word(word) => push_quoted(form, word.as_bytes(), out),
         Value::Words(words) => push_words(form, words, out),
@@ -157,9 +143,13 @@ fn is_leading(name: &str) -> bool
 
 /// Appends a field of a line.
 #[tactic(auto, unfolding(crate::specs::Lines::field_text))]
-fn push_field(form: Form, name: &str, value: &Value<'_>, out: &mut Vec<u8>) -> Result<()>
-    ensures ok { OnOk result (out.new.items ≡ out.old.items ++ field_text form (name.now, value_shown value.now)) }
-    ensures memory { FailsOnlyForMemory result }
+fn push_field(
+    form: Form,
+    name: &str,
+    value: &Value<'_>,
+    out: &mut Vec<u8>,
+) -> Result<(), AllocError>
+    ensures { OnOk result (out.new.items ≡ out.old.items ++ field_text form (name.now, value_shown value.now)) }
 {
     match form {
         Form::Text if is_leading(name) => push_value(form, value, out),
@@ -213,11 +203,10 @@ pub(crate) fn push_next(
     name: &str,
     value: &Value<'_>,
     out: &mut Vec<u8>,
-) -> Result<()>
-    ensures ok { OnOk result (out.new.items ≡ out.old.items
+) -> Result<(), AllocError>
+    ensures { OnOk result (out.new.items ≡ out.old.items
         ++ ((if is_first then line_opening form else separator form)
         ++ field_text form (name.now, value_shown value.now))) }
-    ensures memory { FailsOnlyForMemory result }
 {
     let before = if is_first {
         opening(form)
@@ -229,23 +218,20 @@ pub(crate) fn push_next(
 }
 
 /// Appends the end of a line, which may have no field.
-pub(crate) fn push_end(form: Form, is_empty: bool, out: &mut Vec<u8>) -> Result<()>
-    ensures ok { OnOk result (out.new.items ≡ out.old.items
+pub(crate) fn push_end(form: Form, is_empty: bool, out: &mut Vec<u8>) -> Result<(), AllocError>
+    ensures { OnOk result (out.new.items ≡ out.old.items
         ++ ((if is_empty then line_opening form else []) ++ ending form)) }
-    ensures memory { FailsOnlyForMemory result }
 {
     if is_empty {
         out.extend_from_slice(opening(form))?;
     }
-    out.extend_from_slice(ending(form))?;
-    Ok(())
+    out.extend_from_slice(ending(form))
 }
 
 /// Appends a field of text as a line of its own.
 #[tactic(auto, unfolding(crate::specs::Lines::field_line))]
-pub(crate) fn push_line(name: &str, value: &Value<'_>, out: &mut Vec<u8>) -> Result<()>
-    ensures ok { OnOk result (out.new.items ≡ out.old.items ++ field_line (name.now, value_shown value.now)) }
-    ensures memory { FailsOnlyForMemory result }
+pub(crate) fn push_line(name: &str, value: &Value<'_>, out: &mut Vec<u8>) -> Result<(), AllocError>
+    ensures { OnOk result (out.new.items ≡ out.old.items ++ field_line (name.now, value_shown value.now)) }
 {
     push_text(Form::Text, name.as_bytes(), out)?;
     out.extend_from_slice(b": ")?;

@@ -7,7 +7,7 @@ ghost use Rattle.pdbdump_rows.specs.Fields.{optional_number};
 ghost use Rattle.pdbdump_rows.specs.Row.{value_shown};
 ghost use Rattle.pdbdump_rows.specs.TableRows.{section_row};
 
-use crate::line::Line;
+use crate::line::{Line, LineResult};
 use crate::names::{
     ALIGNMENT, CHARACTERISTICS, NAME, NUMBER, NUMBER_OF_LINE_NUMBERS, NUMBER_OF_RELOCATIONS,
     POINTER_TO_LINE_NUMBERS, POINTER_TO_RAW_DATA, POINTER_TO_RELOCATIONS, SIZE_OF_RAW_DATA,
@@ -15,7 +15,7 @@ use crate::names::{
 };
 use crate::value::Value;
 use crate::words::section_flags;
-use pdb_base::{Error, RawString, Result};
+use pdb_base::RawString;
 use pdb_space::ImageSectionHeader;
 
 /// Returns the bytes of a section's name: those before the first NUL, or all eight.
@@ -41,9 +41,9 @@ fn alignment<'t>(multiple: Option<u16>) -> Value<'t>
 /// Adds the fields of the section header with this number.
 ///
 /// # Errors
-/// Fails with `OutOfMemory` if an allocation fails.
+/// Fails if an allocation fails.
 #[tactic(auto, unfolding(crate::specs::TableRows::section_row))]
-pub fn show_section(line: &mut Line, number: u32, header: &ImageSectionHeader) -> Result<()>
+pub fn show_section(line: &mut Line, number: u32, header: &ImageSectionHeader) -> LineResult
     ensures { ShowsFields (section_row number header.now) line.old line.new result }
 {
     let name = RawString::from(name_bytes(header));

@@ -2,14 +2,13 @@
 
 ghost use Rattle.std.specs.Prelude.{◌≡◌, ◌<◌, ◌↔◌, ◌++◌, IsTrue, OnOk};
 ghost use Rattle.std.specs.List.{list_all};
-ghost use Rattle.pdb_base.specs.Memory.{FailsOnlyForMemory};
 ghost use Rattle.pdbdump_rows.specs.Text.{escape, is_escaped, is_plain, short_escape, in_quotes, shown_char};
 ghost use Rattle.pdbdump_rows.specs.Text.{shown_text};
 
 use crate::form::Form;
 use crate::number::four_digits;
 use bstr::{ByteSlice, ByteVec};
-use pdb_base::{Error, Result};
+use std::alloc::AllocError;
 
 /// Returns whether a byte is a character that is written unescaped in every form.
 fn is_plain(byte: u8) -> bool
@@ -54,10 +53,9 @@ fn short_escape(c: char) -> Option<u8>
 
 /// Appends the escape of a character below U+0100, as JSON has it.
 #[tactic(auto, unfolding(crate::specs::Text::escape))]
-fn push_escape(c: char, out: &mut Vec<u8>) -> Result<()>
+fn push_escape(c: char, out: &mut Vec<u8>) -> Result<(), AllocError>
     requires { c < 256 }
-    ensures ok { OnOk result (out.new.items ≡ out.old.items ++ escape c) }
-    ensures memory { FailsOnlyForMemory result }
+    ensures { OnOk result (out.new.items ≡ out.old.items ++ escape c) }
 {
     out.push(b'\\')?;
     match short_escape(c) {
@@ -67,36 +65,31 @@ fn push_escape(c: char, out: &mut Vec<u8>) -> Result<()>
         }
         None => {
             out.push(b'u')?;
-            out.extend_from_slice(&four_digits(c as u16))?;
-            Ok(())
+            out.extend_from_slice(&four_digits(c as u16))
         }
     }
 }
 
 /// Appends a character, as an escape if the form writes it so.
 #[tactic(auto, unfolding(crate::specs::Text::shown_char))]
-fn push_char(form: Form, c: char, out: &mut Vec<u8>) -> Result<()>
-    ensures ok { OnOk result (out.new.items ≡ out.old.items ++ shown_char form c) }
-    ensures memory { FailsOnlyForMemory result }
+fn push_char(form: Form, c: char, out: &mut Vec<u8>) -> Result<(), AllocError>
+    ensures { OnOk result (out.new.items ≡ out.old.items ++ shown_char form c) }
 {
     if is_escaped(form, c) {
         push_escape(c, out)
     } else {
-        out.push_char(c)?;
-        Ok(())
+        out.push_char(c)
     }
 }
 
 /// Appends a text, with U+FFFD for each run of bytes that isn't a character, and with escapes for
 /// the characters that the form doesn't write as they are.
 #[tactic(auto, using(crate::proofs::PlainText::plain_text, std::proofs::lemmas::List::flat_map_more), unfolding(crate::specs::Text::shown_text))]
-pub(crate) fn push_text(form: Form, text: &[u8], out: &mut Vec<u8>) -> Result<()>
-    ensures ok { OnOk result (out.new.items ≡ out.old.items ++ shown_text form text.now) }
-    ensures memory { FailsOnlyForMemory result }
+pub(crate) fn push_text(form: Form, text: &[u8], out: &mut Vec<u8>) -> Result<(), AllocError>
+    ensures { OnOk result (out.new.items ≡ out.old.items ++ shown_text form text.now) }
 {
     if is_all_plain(text) {
-        out.extend_from_slice(text)?;
-        return Ok(());
+        return out.extend_from_slice(text);
     }
     for c in text.chars() {
         push_char(form, c, out)?;
@@ -106,9 +99,8 @@ pub(crate) fn push_text(form: Form, text: &[u8], out: &mut Vec<u8>) -> Result<()
 
 /// Appends a text, in quotes if the form is JSON.
 #[tactic(auto, unfolding(crate::specs::Text::in_quotes))]
-pub(crate) fn push_quoted(form: Form, text: &[u8], out: &mut Vec<u8>) -> Result<()>
-    ensures ok { OnOk result (out.new.items ≡ out.old.items ++ in_quotes form text.now) }
-    ensures memory { FailsOnlyForMemory result }
+pub(crate) fn push_quoted(form: Form, text: &[u8], out: &mut Vec<u8>) -> Result<(), AllocError>
+    ensures { OnOk result (out.new.items ≡ out.old.items ++ in_quotes form text.now) }
 {
     match form {
         Form::Text => push_text(form, text, out),

@@ -17,7 +17,7 @@ mod method;
 mod pointer;
 mod primitive;
 
-use crate::line::Line;
+use crate::line::{Line, LineResult};
 use crate::names::{INDEX, KIND};
 use crate::type_rows::base_class::{show_base_class, show_table_pointer, show_virtual_base};
 use crate::type_rows::class::{show_class, show_union};
@@ -32,13 +32,12 @@ use crate::type_rows::method::{show_method, show_overloaded_method};
 use crate::type_rows::pointer::{show_bitfield, show_modifier, show_pointer};
 use crate::type_rows::primitive::show_primitive;
 use crate::value::{Value, optional_hexadecimal};
-use pdb_base::{Error, Result};
 use pdb_values::TypeData;
 use std::alloc::Global;
 
 /// Adds what the fields of a record begin with: its index, which an entry of a list doesn't have,
 /// and the record kind.
-pub(crate) fn show_head(line: &mut Line, index: Option<u32>, leaf: u16) -> Result<()>
+pub(crate) fn show_head(line: &mut Line, index: Option<u32>, leaf: u16) -> LineResult
     ensures { ShowsFields ((INDEX.now, optional_hexadecimal index) ∷ (KIND.now, kind leaf) ∷ [])
         line.old line.new result }
 {
@@ -48,7 +47,7 @@ pub(crate) fn show_head(line: &mut Line, index: Option<u32>, leaf: u16) -> Resul
 }
 
 /// Adds the fields of a type.
-pub(crate) fn show_fields(alloc: Global, line: &mut Line, data: &TypeData<'_>) -> Result<()>
+pub(crate) fn show_fields(alloc: Global, line: &mut Line, data: &TypeData<'_>) -> LineResult
     ensures { ShowsFields (type_fields (type_value «data».now)) line.old line.new result }
 {
     match data {
@@ -81,7 +80,7 @@ pub(crate) fn show_fields(alloc: Global, line: &mut Line, data: &TypeData<'_>) -
 /// Adds the fields of the type of this index, whose record is of this kind.
 ///
 /// # Errors
-/// Fails with `OutOfMemory` if an allocation fails.
+/// Fails if an allocation fails.
 #[tactic(auto, unfolding(crate::specs::TypeRows::type_row))]
 pub fn show_type(
     alloc: Global,
@@ -89,7 +88,7 @@ pub fn show_type(
     index: u32,
     leaf: u16,
     data: &TypeData<'_>,
-) -> Result<()>
+) -> LineResult
     ensures { ShowsFields (type_row index leaf (type_value «data».now)) line.old line.new result }
 {
     show_head(line, Some(index), leaf)?;

@@ -14,7 +14,7 @@ use pdb_base::{Error, FallibleIterator, IdIndex, Result, Stream};
 use pdb_output::Output;
 use pdb_tpi::{IdInformation, OpenTable};
 use pdb_values::IdData;
-use pdbdump_rows::{Form, Line, show_id};
+use pdbdump_rows::{Form, Line, LineResult, show_id};
 use std::alloc::Global;
 use std::io::Write;
 
@@ -75,7 +75,7 @@ fn make_full(
     leaf: u16,
     value: &IdData<'_>,
     line: &mut Line,
-) -> Result<()>
+) -> LineResult
     ensures { EndsLine (full_text form (id_row index leaf (id_value value.now))) line.new result }
 {
     line.begin_full(form);

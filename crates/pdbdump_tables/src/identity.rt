@@ -18,7 +18,7 @@ use pdb_base::{RawString, Result};
 use pdb_file::Features;
 use pdb_identity::Identity;
 use pdb_output::Output;
-use pdbdump_rows::{Flag, Form, Line, Value, write_line};
+use pdbdump_rows::{Flag, Form, Line, LineResult, Value, write_line};
 use std::alloc::Global;
 use std::io::Write;
 
@@ -194,7 +194,7 @@ fn feature_flags(features: Features) -> [Flag; 4]
 }
 
 /// Adds the features, if there are any to be found.
-fn show_features(line: &mut Line, features: Option<Features>) -> Result<()>
+fn show_features(line: &mut Line, features: Option<Features>) -> LineResult
     ensures { ShowsFields ((FEATURES.now, optional_features features) ∷ []) line.old line.new result }
 {
     match features {
@@ -210,7 +210,7 @@ fn show_identity(
     identity: &Identity,
     guid: &str,
     key: &str,
-) -> Result<()>
+) -> LineResult
     requires guid { guid.now ≡ hyphenated_text upper identity.now.guid }
     requires key { key.now ≡ upper_key_of identity.now }
     ensures { ShowsFields (identity_shown name.now identity.now) line.old line.new result }

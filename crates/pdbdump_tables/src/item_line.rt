@@ -6,10 +6,10 @@ ghost use Rattle.pdb_tpi.specs.Item.{item_bytes, index_of};
 ghost use Rattle.pdb_tpi.specs.Record.{id_of, kind_of, type_of};
 
 use crate::refused_record::{ItemPlace, show_refused};
-use pdb_base::{Error, IdIndex, Result, TypeIndex};
+use pdb_base::{Error, IdIndex, TypeIndex};
 use pdb_tpi::Item;
-use pdbdump_rows::{Form, Line, show_id, show_type};
-use std::alloc::Global;
+use pdbdump_rows::{Form, Line, LineResult, show_id, show_type};
+use std::alloc::{AllocError, Global};
 
 /// Adds the fields of the type of an item, or of why it can't be parsed.
 fn show_type_item(
@@ -17,7 +17,7 @@ fn show_type_item(
     item: &Item<'_, TypeIndex>,
     place: ItemPlace,
     line: &mut Line,
-) -> Result<()>
+) -> LineResult
     ensures { ShowsFields (type_answer_row place (index_of item.now).0 (kind_of (item_bytes item.now))
         (type_of (index_of item.now).0 (item_bytes item.now))) line.old line.new result }
 {
@@ -25,7 +25,7 @@ fn show_type_item(
     let leaf = item.raw_kind();
     match item.parse(alloc) {
         Ok(value) => show_type(alloc, line, index, leaf, &value),
-        Err(Error::OutOfMemory) => Err(Error::OutOfMemory),
+        Err(Error::OutOfMemory) => Err(AllocError),
         Err(fault) => show_refused(alloc, line, index, leaf, place, &fault),
     }
 }
@@ -33,7 +33,7 @@ fn show_type_item(
 /// Makes the line of a type.
 ///
 /// # Errors
-/// Fails with `OutOfMemory` if an allocation fails.
+/// Fails if an allocation fails.
 #[tactic(auto, unfolding(crate::specs::Lines::type_line), using(pdbdump_rows::proofs::lemmas::Line::showing))]
 pub(crate) fn make_type(
     alloc: Global,
@@ -41,7 +41,7 @@ pub(crate) fn make_type(
     item: &Item<'_, TypeIndex>,
     place: ItemPlace,
     line: &mut Line,
-) -> Result<()>
+) -> LineResult
     ensures { EndsLine (type_line form place (index_of item.now).0 (item_bytes item.now)) line.new result }
 {
     line.begin(form);
@@ -55,7 +55,7 @@ fn show_id_item(
     item: &Item<'_, IdIndex>,
     place: ItemPlace,
     line: &mut Line,
-) -> Result<()>
+) -> LineResult
     ensures { ShowsFields (id_answer_row place (index_of item.now).0 (kind_of (item_bytes item.now))
         (id_of (item_bytes item.now))) line.old line.new result }
 {
@@ -63,7 +63,7 @@ fn show_id_item(
     let leaf = item.raw_kind();
     match item.parse(alloc) {
         Ok(value) => show_id(alloc, line, index, leaf, &value),
-        Err(Error::OutOfMemory) => Err(Error::OutOfMemory),
+        Err(Error::OutOfMemory) => Err(AllocError),
         Err(fault) => show_refused(alloc, line, index, leaf, place, &fault),
     }
 }
@@ -71,7 +71,7 @@ fn show_id_item(
 /// Makes the line of an id.
 ///
 /// # Errors
-/// Fails with `OutOfMemory` if an allocation fails.
+/// Fails if an allocation fails.
 #[tactic(auto, unfolding(crate::specs::Lines::id_line), using(pdbdump_rows::proofs::lemmas::Line::showing))]
 pub(crate) fn make_id(
     alloc: Global,
@@ -79,7 +79,7 @@ pub(crate) fn make_id(
     item: &Item<'_, IdIndex>,
     place: ItemPlace,
     line: &mut Line,
-) -> Result<()>
+) -> LineResult
     ensures { EndsLine (id_line form place (index_of item.now).0 (item_bytes item.now)) line.new result }
 {
     line.begin(form);

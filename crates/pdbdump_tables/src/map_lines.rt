@@ -11,7 +11,9 @@ use crate::conversions::{OfInternal, OfLoaded};
 use pdb_base::{Error, Result};
 use pdb_output::Output;
 use pdb_space::{PdbInternalRva, PdbInternalSectionOffset, Rva, SectionOffset};
-use pdbdump_rows::{Form, Line, Value, optional_hexadecimal, optional_number, write_line};
+use pdbdump_rows::{
+    Form, Line, LineResult, Value, optional_hexadecimal, optional_number, write_line,
+};
 use std::io::Write;
 
 /// Adds the fields of an address that is made of another.
@@ -20,7 +22,7 @@ fn show_address(
     from: &'static str,
     to: &'static str,
     address: Option<u32>,
-) -> Result<()>
+) -> LineResult
     ensures { ShowsFields (address_shown from.now to.now address) line.old line.new result }
 {
     line.field("from", Value::Word(from))?;
@@ -56,7 +58,7 @@ fn show_place(
     from: &'static str,
     to: &'static str,
     place: Option<SectionOffset>,
-) -> Result<()>
+) -> LineResult
     ensures { ShowsFields (place_shown from.now to.now place) line.old line.new result }
 {
     line.field("from", Value::Word(from))?;

@@ -8,7 +8,7 @@ ghost use Rattle.pdbdump_tables.specs.Tables.{all_names, offset_name_lines, name
 use pdb_base::{Error, RawString, Result};
 use pdb_output::Output;
 use pdb_space::{StringRef, StringTable};
-use pdbdump_rows::{Form, Line, Value, write_line};
+use pdbdump_rows::{Form, Line, LineResult, Value, write_line};
 use std::alloc::Global;
 use std::io::Write;
 
@@ -22,7 +22,7 @@ fn next_place(place: u32, size: usize) -> Option<u32>
 }
 
 /// Adds the fields of a name: its offset and its text.
-fn show_name(line: &mut Line, place: u32, name: RawString<'_>) -> Result<()>
+fn show_name(line: &mut Line, place: u32, name: RawString<'_>) -> LineResult
     ensures { ShowsFields (name_shown (place, name.entry.0.now)) line.old line.new result }
 {
     line.field("offset", Value::Hexadecimal(place))?;

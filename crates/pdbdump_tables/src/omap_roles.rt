@@ -12,12 +12,12 @@ use pdb_base::{Error, Result};
 use pdb_file::{DBIExtraStreams, PDB};
 use pdb_msf::Msf;
 use pdb_output::Output;
-use pdbdump_rows::{Form, Line, Value, write_line};
+use pdbdump_rows::{Form, Line, LineResult, Value, write_line};
 use std::alloc::Global;
 use std::io::Write;
 
 /// Adds the fields of the role of the table that follows, and the number of its stream.
-fn show_role(line: &mut Line, role: &'static str, number: u32) -> Result<()>
+fn show_role(line: &mut Line, role: &'static str, number: u32) -> LineResult
     ensures { ShowsFields (role_shown role.now number) line.old line.new result }
 {
     line.field("role", Value::Word(role))?;

@@ -9,7 +9,7 @@ ghost use Rattle.pdbdump_tables.specs.Refused.{part_shown, refused_line};
 
 use pdb_base::{Error, Result};
 use pdb_output::Output;
-use pdbdump_rows::{Form, Line, Value, show_error, write_line};
+use pdbdump_rows::{Form, Line, LineResult, Value, show_error, write_line};
 use std::alloc::Global;
 use std::io::Write;
 
@@ -31,7 +31,7 @@ pub enum Part {
 }
 
 /// Adds the field that names a part.
-fn show_part(line: &mut Line, part: Part) -> Result<()>
+fn show_part(line: &mut Line, part: Part) -> LineResult
     ensures { ShowsFields (part_shown part ∷ []) line.old line.new result }
 {
     match part {
@@ -45,7 +45,7 @@ fn show_part(line: &mut Line, part: Part) -> Result<()>
 }
 
 /// Adds the fields of a part that has an error.
-fn show_refused(alloc: Global, line: &mut Line, part: Part, error: &Error) -> Result<()>
+fn show_refused(alloc: Global, line: &mut Line, part: Part, error: &Error) -> LineResult
     ensures { ShowsFields (part_shown part ∷ refusal_shown (refusal_of error.now) ∷ []) line.old line.new result }
 {
     show_part(line, part)?;

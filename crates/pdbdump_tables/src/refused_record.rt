@@ -13,7 +13,7 @@ ghost use Rattle.pdbdump_tables.specs.Listed.{IsShown};
 use pdb_base::{Error, ItemIndex, Result};
 use pdb_output::Output;
 use pdb_tpi::{Item, OpenTable};
-use pdbdump_rows::{Form, Line, Value, show_error};
+use pdbdump_rows::{Form, Line, LineResult, Value, show_error};
 use std::alloc::Global;
 use std::io::Write;
 
@@ -32,7 +32,7 @@ pub(crate) struct ItemPlace {
 /// record is.
 ///
 /// # Errors
-/// Fails with `OutOfMemory` if an allocation fails.
+/// Fails if an allocation fails.
 #[tactic(auto, unfolding(crate::specs::Lines::refused_row))]
 pub(crate) fn show_refused(
     alloc: Global,
@@ -41,7 +41,7 @@ pub(crate) fn show_refused(
     leaf: u16,
     place: ItemPlace,
     fault: &Error,
-) -> Result<()>
+) -> LineResult
     ensures { ShowsFields (refused_row place index leaf (refusal_of fault.now)) line.old line.new result }
 {
     line.field("index", Value::Hexadecimal(index))?;
@@ -62,7 +62,7 @@ fn make_refused(
     place: ItemPlace,
     fault: &Error,
     line: &mut Line,
-) -> Result<()>
+) -> LineResult
     ensures { EndsLine (full_text form (refused_row place index leaf (refusal_of fault.now))) line.new result }
 {
     line.begin_full(form);

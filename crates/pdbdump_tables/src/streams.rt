@@ -20,7 +20,7 @@ use pdb_base::{Error, RawString, Result, Stream};
 use pdb_file::{DBIExtraStreams, PDB, StreamName};
 use pdb_msf::{Layout, Msf};
 use pdb_output::Output;
-use pdbdump_rows::{Form, Line, Value, optional_text, optional_word, write_line};
+use pdbdump_rows::{Form, Line, LineResult, Value, optional_text, optional_word, write_line};
 use std::alloc::Global;
 use std::io::Write;
 
@@ -74,7 +74,7 @@ fn show_stream(
     size: u32,
     role: Option<&'static str>,
     name: Option<RawString<'_>>,
-) -> Result<()>
+) -> LineResult
     ensures { ShowsFields (stream_shown page_size number size (option_map (λ role. role.now) role.entry)
         (option_map (λ name. name.0.now) name.entry)) line.old line.new result }
 {

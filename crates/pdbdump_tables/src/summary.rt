@@ -24,7 +24,7 @@ use pdb_base::{Error, ParseBuffer, Result};
 use pdb_file::{DBIExtraStreams, ID_STREAM, PDB, PDBInformation, TYPE_STREAM};
 use pdb_msf::Layout;
 use pdb_output::Output;
-use pdbdump_rows::{Form, Line, Value, write_line};
+use pdbdump_rows::{Form, Line, LineResult, Value, write_line};
 use std::alloc::Global;
 use std::io::Write;
 
@@ -46,7 +46,7 @@ fn pages_of(file: &[u8]) -> Result<(u32, u32)>
 
 /// Adds the fields of a file: the size of its pages in bytes, how many pages it uses, and its own
 /// size in bytes.
-fn show_pages(line: &mut Line, page_size: u32, pages: u32, size: usize) -> Result<()>
+fn show_pages(line: &mut Line, page_size: u32, pages: u32, size: usize) -> LineResult
     ensures { ShowsFields (pages_shown (page_size, pages) size) line.old line.new result }
 {
     line.field("page_size", Value::Number(page_size as u64))?;

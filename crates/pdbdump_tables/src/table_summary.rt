@@ -17,13 +17,13 @@ use pdb_base::{Error, Result};
 use pdb_file::PDB;
 use pdb_output::Output;
 use pdb_tpi::TypeInformation;
-use pdbdump_rows::{Form, Line, Value, write_line};
+use pdbdump_rows::{Form, Line, LineResult, Value, write_line};
 use std::alloc::Global;
 use std::io::Write;
 
 /// Adds the fields of a table: the number of its stream, how many records it has and how many of
 /// them are lists of fields that another list continues, and the indexes that its header counts.
-fn show_table(line: &mut Line, number: u32, walked: &Walked) -> Result<()>
+fn show_table(line: &mut Line, number: u32, walked: &Walked) -> LineResult
     ensures { ShowsFields (table_shown number walked.now.records walked.now.continued walked.now.header)
         line.old line.new result }
 {
@@ -61,7 +61,7 @@ fn write_head<W: Write>(
 }
 
 /// Adds the fields of a kind of a table's records: how many there are, and how many bytes they take.
-fn show_kind(line: &mut Line, number: u32, kind: KindCount) -> Result<()>
+fn show_kind(line: &mut Line, number: u32, kind: KindCount) -> LineResult
     ensures { ShowsFields (kind_shown number kind) line.old line.new result }
 {
     line.field("table", Value::Number(number as u64))?;

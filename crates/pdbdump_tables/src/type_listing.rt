@@ -16,7 +16,7 @@ use pdb_base::{Error, FallibleIterator, Result, Stream, TypeIndex};
 use pdb_output::Output;
 use pdb_tpi::{OpenTable, TypeInformation};
 use pdb_values::TypeData;
-use pdbdump_rows::{Form, Line, show_type};
+use pdbdump_rows::{Form, Line, LineResult, show_type};
 use std::alloc::Global;
 use std::io::Write;
 
@@ -108,7 +108,7 @@ fn make_full(
     leaf: u16,
     value: &TypeData<'_>,
     line: &mut Line,
-) -> Result<()>
+) -> LineResult
     ensures { EndsLine (full_text form (type_row index leaf (type_value value.now))) line.new result }
 {
     line.begin_full(form);

@@ -1,7 +1,7 @@
-//! The names of types.
+//! The names of types and ids.
 
 use pdb_base::RawString;
-use pdb_records::parse_type_data;
+use pdb_records::{parse_id_data, parse_type_data};
 use std::alloc::Global;
 use std::process::Abort;
 
@@ -43,6 +43,26 @@ const NAMES: &[(&[u8], Option<&str>)] = &[
     (b"\x03\x12", None),
 ];
 
+/// The bytes of an id, and its name.
+const NAMES_OF_IDS: &[(&[u8], Option<&str>)] = &[
+    (
+        b"\x01\x16\x00\x00\x00\x00\x02\x10\x00\x00function\x00",
+        Some("function"),
+    ),
+    (b"\x01\x16\x03\x10\x00\x00\x04\x10\x00\x00\x00", Some("")),
+    (
+        b"\x02\x16\x06\x10\x00\x00\x07\x10\x00\x00method\x00",
+        Some("method"),
+    ),
+    (b"\x05\x16\x00\x00\x00\x00text\x00", Some("text")),
+    (b"\x03\x16\x01\x00\x05\x10\x00\x00", None),
+    (b"\x04\x16\x01\x00\x00\x00\x05\x10\x00\x00", None),
+    (
+        b"\x06\x16\x00\x10\x00\x00\x05\x10\x00\x00\x2a\x00\x00\x00",
+        None,
+    ),
+];
+
 /// Whether this is the name, or there is none.
 fn is_name(name: Option<RawString<'_>>, want: Option<&str>) -> bool {
     match (name, want) {
@@ -58,9 +78,18 @@ fn is_named(rt: &impl Abort, alloc: Global, record: &[u8], want: Option<&str>) -
     is_name(data.name(), want)
 }
 
+/// Whether the id that a record says has this name.
+fn is_id_named(rt: &impl Abort, alloc: Global, record: &[u8], want: Option<&str>) -> bool {
+    let data = parse_id_data(alloc, record).expect(rt, "an id");
+    is_name(data.name(), want)
+}
+
 #[test]
 fn names(rt: HostRuntime) {
     for (record, want) in NAMES {
         assert!(rt; is_named(&rt, rt.alloc(), record, *want), "{record:?}");
+    }
+    for (record, want) in NAMES_OF_IDS {
+        assert!(rt; is_id_named(&rt, rt.alloc(), record, *want), "{record:?}");
     }
 }

@@ -1,10 +1,14 @@
 -- A line that is written field by field is the one line of its fields.
 use Rattle.std.proofs.Common.{◌≡◌, ℕ, Bool, true, false, List, [], ◌∷◌, ◌++◌, codes, refl, ap, sym, subst, Result, ◌∙◌}
-use Rattle.std.proofs.Common.{⊎_elim, append_assoc}
+use Rattle.std.proofs.Common.{Ok, Err, ⊎_elim, append_assoc}
+use Rattle.std.specs.Result.{IsErr, IsErrAnd}
+use Rattle.std.specs.declared.alloc.AllocError.{AllocError}
 use Rattle.std.specs.List.{filter, flat_map}
 use Rattle.std.proofs.lemmas.Bool.{cond-true, cond-false, cases_Bool}
 use Rattle.std.proofs.lemmas.List.{append-nil}
 use Rattle.pdb_base.specs.declared.error.Error.{Error}
+use Rattle.pdb_base.specs.declared.error.Error.TheVariants.{OutOfMemory}
+use Rattle.pdb_output.proofs.lemmas.Written.{lacks_all}
 use Rattle.pdb_output.specs.Output.{OutputState, Writes}
 use Rattle.pdbdump_rows.specs.declared.form.Form.{Form}
 use Rattle.pdbdump_rows.specs.declared.form.Form.TheVariants.{Text, Json}
@@ -138,7 +142,7 @@ full_is Json row = line_is Json row
 
 -- a line with these fields ends as the one line of them
 pub ends_line : (form : Form) (start : LineState) (row : ShownRow) (old new : LineState)
-    (result : Result (Unit {0}) Error) → old ≡ all_shown start row → start ≡ begun form
+    (result : Result (Unit {0}) AllocError) → old ≡ all_shown start row → start ≡ begun form
     → EndsLine (line_bytes old) new result
     → EndsLine (row_text form row) new result
 ends_line form start row old new result is first ends =
@@ -146,7 +150,7 @@ ends_line form start row old new result is first ends =
     (ap line_bytes (is ∙ ap (λ (line : LineState). all_shown line row) first) ∙ line_is form row) ends
 
 pub ends_full : (form : Form) (start : LineState) (row : ShownRow) (old new : LineState)
-    (result : Result (Unit {0}) Error) → old ≡ all_shown start row → start ≡ begun_full form
+    (result : Result (Unit {0}) AllocError) → old ≡ all_shown start row → start ≡ begun_full form
     → EndsLine (line_bytes old) new result
     → EndsLine (full_text form row) new result
 ends_full form start row old new result is first ends =
@@ -155,26 +159,33 @@ ends_full form start row old new result is first ends =
 
 -- ---- what a function that ends a line is proved of
 
-pub row_ended : (form : Form) (row : ShownRow) (start old new : LineState) (added result : Result (Unit {0}) Error)
+pub row_ended : (form : Form) (row : ShownRow) (start old new : LineState) (added result : Result (Unit {0}) AllocError)
     → IsLineEnded old added new result → ShowsFields row start old added → start ≡ begun form
     → EndsLine (row_text form row) new result
 row_ended form row start old new added result is shows first = is.row form start row shows first
 
-pub full_ended : (form : Form) (row : ShownRow) (start old new : LineState) (added result : Result (Unit {0}) Error)
+pub full_ended : (form : Form) (row : ShownRow) (start old new : LineState) (added result : Result (Unit {0}) AllocError)
     → IsLineEnded old added new result → ShowsFields row start old added → start ≡ begun_full form
     → EndsLine (full_text form row) new result
 full_ended form row start old new added result is shows first = is.full form start row shows first
 
 pub row_written : (form : Form) (row : ShownRow) (start line : LineState) (old new : OutputState)
-    (added result : Result (Unit {0}) Error) → IsLineWritten line added old new result
+    (added : Result (Unit {0}) AllocError) (result : Result (Unit {0}) Error) → IsLineWritten line added old new result
     → ShowsFields row start line added
     → start ≡ begun form → Writes (row_text form row) old new result
 row_written form row start line old new added result is shows first = is.row form start row shows first
 
 pub row_appended : (form : Form) (row : ShownRow) (start line : LineState) (old new : List ℕ)
-    (added result : Result (Unit {0}) Error) → IsLineAppended line added old new result
+    (added : Result (Unit {0}) AllocError) (result : Result (Unit {0}) Error) → IsLineAppended line added old new result
     → ShowsFields row start line added
     → start ≡ begun form → Adds (row_text form row) old new result
 row_appended form row start line old new added result is shows first = is.row form start row shows first
+
+-- memory ran out before the line was written
+pub line_lacks : (line : LineState) (added : Result (Unit {0}) AllocError) (old : OutputState)
+    (result : Result (Unit {0}) Error) → IsErr result × IsErrAnd result (λ e. e ≡ OutOfMemory)
+    → IsLineWritten line added old old result
+line_lacks line added old (Ok done) lacks = absurd cc
+line_lacks line added old (Err e) lacks = record { row = λ form start row shows first. lacks_all old _ e lacks.1 }
 
 pub ruleset showing = (row_ended, full_ended, row_written, row_appended)

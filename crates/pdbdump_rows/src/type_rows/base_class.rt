@@ -3,19 +3,18 @@
 ghost use Rattle.pdbdump_rows.specs.Line.{ShowsFields};
 ghost use Rattle.pdbdump_rows.specs.TypeRows.{base_class_fields, table_pointer_fields, virtual_base_fields};
 
-use crate::line::Line;
+use crate::line::{Line, LineResult};
 use crate::names::{
     ACCESS, ATTRIBUTES, BASE_CLASS, BASE_POINTER, BASE_POINTER_OFFSET, DIRECT, OFFSET, TABLE,
     VIRTUAL_BASE_OFFSET,
 };
 use crate::value::{Value, optional_word, type_index};
 use crate::words::{access_word, field_flags};
-use pdb_base::{Error, Result};
 use pdb_values::{BaseClassType, VirtualBaseClassType, VirtualFunctionTablePointerType};
 
 /// Adds the fields of a base class.
 #[tactic(auto, unfolding(crate::specs::TypeRows::base_class_fields))]
-pub(crate) fn show_base_class(line: &mut Line, base: BaseClassType) -> Result<()>
+pub(crate) fn show_base_class(line: &mut Line, base: BaseClassType) -> LineResult
     ensures { ShowsFields (base_class_fields base) line.old line.new result }
 {
     let attributes = field_flags(base.attributes);
@@ -28,7 +27,7 @@ pub(crate) fn show_base_class(line: &mut Line, base: BaseClassType) -> Result<()
 
 /// Adds the fields of a virtual base class.
 #[tactic(auto, unfolding(crate::specs::TypeRows::virtual_base_fields))]
-pub(crate) fn show_virtual_base(line: &mut Line, base: VirtualBaseClassType) -> Result<()>
+pub(crate) fn show_virtual_base(line: &mut Line, base: VirtualBaseClassType) -> LineResult
     ensures { ShowsFields (virtual_base_fields base) line.old line.new result }
 {
     let attributes = field_flags(base.attributes);
@@ -53,7 +52,7 @@ pub(crate) fn show_virtual_base(line: &mut Line, base: VirtualBaseClassType) -> 
 pub(crate) fn show_table_pointer(
     line: &mut Line,
     pointer: VirtualFunctionTablePointerType,
-) -> Result<()>
+) -> LineResult
     ensures { ShowsFields (table_pointer_fields pointer) line.old line.new result }
 {
     line.field(TABLE, type_index(pointer.table))?;

@@ -5,18 +5,17 @@ ghost use Rattle.pdb_values.specs.Union.{union_value};
 ghost use Rattle.pdbdump_rows.specs.Line.{ShowsFields};
 ghost use Rattle.pdbdump_rows.specs.TypeRows.{class_fields, union_fields};
 
-use crate::line::Line;
+use crate::line::{Line, LineResult};
 use crate::names::{
     COUNT, DERIVED_FROM, FIELDS, HFA, MOCOM, NAME, PROPERTIES, SIZE, UNIQUE_NAME, VTABLE_SHAPE,
 };
 use crate::value::{Value, nonzero, optional_text, optional_type, type_index};
 use crate::words::property_flags;
-use pdb_base::{Error, Result};
 use pdb_values::{ClassType, UnionType};
 
 /// Adds the fields of a class, a structure or an interface.
 #[tactic(auto, unfolding(crate::specs::TypeRows::class_fields))]
-pub(crate) fn show_class(line: &mut Line, class: &ClassType<'_>) -> Result<()>
+pub(crate) fn show_class(line: &mut Line, class: &ClassType<'_>) -> LineResult
     ensures { ShowsFields (class_fields (class_value class.now)) line.old line.new result }
 {
     let properties = property_flags(class.properties);
@@ -35,7 +34,7 @@ pub(crate) fn show_class(line: &mut Line, class: &ClassType<'_>) -> Result<()>
 
 /// Adds the fields of a union.
 #[tactic(auto, unfolding(crate::specs::TypeRows::union_fields))]
-pub(crate) fn show_union(line: &mut Line, union_type: &UnionType<'_>) -> Result<()>
+pub(crate) fn show_union(line: &mut Line, union_type: &UnionType<'_>) -> LineResult
     ensures { ShowsFields (union_fields (union_value union_type.now)) line.old line.new result }
 {
     let properties = property_flags(union_type.properties);

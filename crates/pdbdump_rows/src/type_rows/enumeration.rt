@@ -6,19 +6,19 @@ ghost use Rattle.pdbdump_rows.specs.Line.{ShowsFields};
 ghost use Rattle.pdbdump_rows.specs.Row.{value_shown};
 ghost use Rattle.pdbdump_rows.specs.TypeRows.{enumerate_fields, enumeration_fields, variant_shown};
 
-use crate::line::Line;
+use crate::line::{Line, LineResult};
 use crate::names::{
     ACCESS, ATTRIBUTES, COUNT, FIELDS, HFA, MOCOM, NAME, PROPERTIES, UNDERLYING_TYPE, UNIQUE_NAME,
     VALUE,
 };
 use crate::value::{Value, nonzero, optional_text, optional_word, type_index};
 use crate::words::{access_word, field_flags, property_flags};
-use pdb_base::{Error, Result, Variant};
+use pdb_base::Variant;
 use pdb_values::{EnumerateType, EnumerationType};
 
 /// Adds the fields of an enumeration.
 #[tactic(auto, unfolding(crate::specs::TypeRows::enumeration_fields))]
-pub(crate) fn show_enumeration(line: &mut Line, enumeration: &EnumerationType<'_>) -> Result<()>
+pub(crate) fn show_enumeration(line: &mut Line, enumeration: &EnumerationType<'_>) -> LineResult
     ensures { ShowsFields (enumeration_fields (enumeration_value enumeration.now)) line.old line.new result }
 {
     let properties = property_flags(enumeration.properties);
@@ -51,7 +51,7 @@ fn variant<'t>(number: Variant) -> Value<'t>
 
 /// Adds the fields of a value of an enumeration.
 #[tactic(auto, unfolding(crate::specs::TypeRows::enumerate_fields))]
-pub(crate) fn show_enumerate(line: &mut Line, value: &EnumerateType<'_>) -> Result<()>
+pub(crate) fn show_enumerate(line: &mut Line, value: &EnumerateType<'_>) -> LineResult
     ensures { ShowsFields (enumerate_fields (enumerate_value value.now)) line.old line.new result }
 {
     let attributes = field_flags(value.attributes);

@@ -3,27 +3,24 @@
 ghost use Rattle.pdbdump_rows.specs.Line.{ShowsFields};
 ghost use Rattle.pdbdump_rows.specs.TypeRows.{member_function_fields, procedure_fields};
 
-use crate::line::Line;
+use crate::line::{Line, LineResult};
 use crate::names::{
     ARGUMENT_LIST, ATTRIBUTES, CALLING_CONVENTION, CLASS_TYPE, PARAMETER_COUNT, RETURN_TYPE,
     THIS_ADJUSTMENT, THIS_POINTER_TYPE,
 };
 use crate::value::{Value, optional_type, type_index};
 use crate::words::function_flags;
-use pdb_base::{Error, Result};
 use pdb_values::{MemberFunctionType, ProcedureType};
 
 /// Adds the fields of the type of a function.
 #[tactic(auto, unfolding(crate::specs::TypeRows::procedure_fields))]
-pub(crate) fn show_procedure(line: &mut Line, procedure: ProcedureType) -> Result<()>
+pub(crate) fn show_procedure(line: &mut Line, procedure: ProcedureType) -> LineResult
     ensures { ShowsFields (procedure_fields procedure) line.old line.new result }
 {
+    let convention = procedure.attributes.calling_convention();
     let attributes = function_flags(procedure.attributes);
     line.field(RETURN_TYPE, optional_type(procedure.return_type))?;
-    line.field(
-        CALLING_CONVENTION,
-        Value::Number(procedure.attributes.calling_convention() as u64),
-    )?;
+    line.field(CALLING_CONVENTION, Value::Number(convention as u64))?;
     line.field(ATTRIBUTES, Value::Words(&attributes))?;
     line.field(
         PARAMETER_COUNT,
@@ -35,17 +32,15 @@ pub(crate) fn show_procedure(line: &mut Line, procedure: ProcedureType) -> Resul
 
 /// Adds the fields of the type of a method.
 #[tactic(auto, unfolding(crate::specs::TypeRows::member_function_fields))]
-pub(crate) fn show_member_function(line: &mut Line, function: MemberFunctionType) -> Result<()>
+pub(crate) fn show_member_function(line: &mut Line, function: MemberFunctionType) -> LineResult
     ensures { ShowsFields (member_function_fields function) line.old line.new result }
 {
+    let convention = function.attributes.calling_convention();
     let attributes = function_flags(function.attributes);
     line.field(RETURN_TYPE, type_index(function.return_type))?;
     line.field(CLASS_TYPE, type_index(function.class_type))?;
     line.field(THIS_POINTER_TYPE, optional_type(function.this_pointer_type))?;
-    line.field(
-        CALLING_CONVENTION,
-        Value::Number(function.attributes.calling_convention() as u64),
-    )?;
+    line.field(CALLING_CONVENTION, Value::Number(convention as u64))?;
     line.field(ATTRIBUTES, Value::Words(&attributes))?;
     line.field(
         PARAMETER_COUNT,

@@ -9,20 +9,19 @@ ghost use Rattle.pdbdump_rows.specs.Line.{ShowsFields};
 ghost use Rattle.pdbdump_rows.specs.TypeRows.{argument_list_fields, array_fields, method_list_fields};
 ghost use Rattle.pdbdump_rows.specs.TypeRows.{table_shape_fields, type_fields};
 
-use crate::line::Line;
+use crate::line::{Line, LineResult};
 use crate::lists::{byte_numbers, method_numbers, type_numbers};
 use crate::names::{
     ARGUMENTS, CONTINUATION, COUNT, DESCRIPTORS, DIMENSIONS, ELEMENT_TYPE, INDEXING_TYPE, METHODS,
     STRIDE,
 };
 use crate::value::{Value, optional_number, optional_type, type_index};
-use pdb_base::{Error, Result};
 use pdb_values::{ArgumentList, ArrayType, FieldList, MethodList, VirtualTableShapeType};
 use std::alloc::Global;
 
 /// Adds the fields of an array.
 #[tactic(auto, unfolding(crate::specs::TypeRows::array_fields))]
-pub(crate) fn show_array(line: &mut Line, array: &ArrayType) -> Result<()>
+pub(crate) fn show_array(line: &mut Line, array: &ArrayType) -> LineResult
     ensures { ShowsFields (array_fields (array_value array.now)) line.old line.new result }
 {
     line.field(ELEMENT_TYPE, type_index(array.element_type))?;
@@ -34,7 +33,7 @@ pub(crate) fn show_array(line: &mut Line, array: &ArrayType) -> Result<()>
 
 /// Adds the fields of a list of fields.
 #[tactic(auto, unfolding(crate::specs::TypeRows::field_list_fields), using(crate::proofs::RowLemmas::fields_counted))]
-pub(crate) fn show_field_list(line: &mut Line, list: &FieldList<'_>) -> Result<()>
+pub(crate) fn show_field_list(line: &mut Line, list: &FieldList<'_>) -> LineResult
     ensures { ShowsFields (type_fields (field_list_value list.now)) line.old line.new result }
 {
     line.field(COUNT, Value::Number(list.fields.as_slice().len() as u64))?;
@@ -44,7 +43,7 @@ pub(crate) fn show_field_list(line: &mut Line, list: &FieldList<'_>) -> Result<(
 
 /// Adds the fields of the types of a function's arguments.
 #[tactic(auto, unfolding(crate::specs::TypeRows::argument_list_fields))]
-pub(crate) fn show_argument_list(alloc: Global, line: &mut Line, list: &ArgumentList) -> Result<()>
+pub(crate) fn show_argument_list(alloc: Global, line: &mut Line, list: &ArgumentList) -> LineResult
     ensures { ShowsFields (argument_list_fields (argument_types list.now)) line.old line.new result }
 {
     let arguments = type_numbers(alloc, &list.arguments)?;
@@ -54,7 +53,7 @@ pub(crate) fn show_argument_list(alloc: Global, line: &mut Line, list: &Argument
 
 /// Adds the fields of a list of methods.
 #[tactic(auto, unfolding(crate::specs::TypeRows::method_list_fields))]
-pub(crate) fn show_method_list(alloc: Global, line: &mut Line, list: &MethodList) -> Result<()>
+pub(crate) fn show_method_list(alloc: Global, line: &mut Line, list: &MethodList) -> LineResult
     ensures { ShowsFields (method_list_fields (listed_methods list.now)) line.old line.new result }
 {
     let methods = list.methods.as_slice();
@@ -70,7 +69,7 @@ pub(crate) fn show_table_shape(
     alloc: Global,
     line: &mut Line,
     shape: VirtualTableShapeType<'_>,
-) -> Result<()>
+) -> LineResult
     ensures { ShowsFields (table_shape_fields (table_shape_value shape.entry)) line.old line.new result }
 {
     let descriptors = byte_numbers(alloc, shape.descriptors)?;

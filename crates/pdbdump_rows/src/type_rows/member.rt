@@ -4,16 +4,15 @@ ghost use Rattle.pdb_values.specs.Member.{member_value, nested_value, static_mem
 ghost use Rattle.pdbdump_rows.specs.Line.{ShowsFields};
 ghost use Rattle.pdbdump_rows.specs.TypeRows.{member_fields, nested_fields, static_member_fields};
 
-use crate::line::Line;
+use crate::line::{Line, LineResult};
 use crate::names::{ACCESS, ATTRIBUTES, FIELD_TYPE, NAME, NESTED_TYPE, OFFSET};
 use crate::value::{Value, optional_word, type_index};
 use crate::words::{access_word, field_flags};
-use pdb_base::{Error, Result};
 use pdb_values::{MemberType, NestedType, StaticMemberType};
 
 /// Adds the fields of a data member.
 #[tactic(auto, unfolding(crate::specs::TypeRows::member_fields))]
-pub(crate) fn show_member(line: &mut Line, member: &MemberType<'_>) -> Result<()>
+pub(crate) fn show_member(line: &mut Line, member: &MemberType<'_>) -> LineResult
     ensures { ShowsFields (member_fields (member_value member.now)) line.old line.new result }
 {
     let attributes = field_flags(member.attributes);
@@ -27,7 +26,7 @@ pub(crate) fn show_member(line: &mut Line, member: &MemberType<'_>) -> Result<()
 
 /// Adds the fields of a static data member.
 #[tactic(auto, unfolding(crate::specs::TypeRows::static_member_fields))]
-pub(crate) fn show_static_member(line: &mut Line, member: &StaticMemberType<'_>) -> Result<()>
+pub(crate) fn show_static_member(line: &mut Line, member: &StaticMemberType<'_>) -> LineResult
     ensures { ShowsFields (static_member_fields (static_member_value member.now)) line.old line.new result }
 {
     let attributes = field_flags(member.attributes);
@@ -40,7 +39,7 @@ pub(crate) fn show_static_member(line: &mut Line, member: &StaticMemberType<'_>)
 
 /// Adds the fields of a type that is declared in a class.
 #[tactic(auto, unfolding(crate::specs::TypeRows::nested_fields))]
-pub(crate) fn show_nested(line: &mut Line, nested: &NestedType<'_>) -> Result<()>
+pub(crate) fn show_nested(line: &mut Line, nested: &NestedType<'_>) -> LineResult
     ensures { ShowsFields (nested_fields (nested_value nested.now)) line.old line.new result }
 {
     let attributes = field_flags(nested.attributes);

@@ -4,11 +4,10 @@ ghost use Rattle.pdb_values.specs.Method.{method_value, overloaded_method_value}
 ghost use Rattle.pdbdump_rows.specs.Line.{ShowsFields};
 ghost use Rattle.pdbdump_rows.specs.TypeRows.{listed_method_fields, method_fields, overloaded_method_fields};
 
-use crate::line::Line;
+use crate::line::{Line, LineResult};
 use crate::names::{ACCESS, ATTRIBUTES, COUNT, METHOD_LIST, METHOD_TYPE, NAME, VTABLE_OFFSET};
 use crate::value::{Value, optional_number, optional_word, type_index};
 use crate::words::{access_word, field_flags};
-use pdb_base::{Error, Result};
 use pdb_values::{MethodListEntry, MethodType, OverloadedMethodType};
 
 /// Adds the fields of the methods of one name.
@@ -16,7 +15,7 @@ use pdb_values::{MethodListEntry, MethodType, OverloadedMethodType};
 pub(crate) fn show_overloaded_method(
     line: &mut Line,
     methods: &OverloadedMethodType<'_>,
-) -> Result<()>
+) -> LineResult
     ensures { ShowsFields (overloaded_method_fields (overloaded_method_value methods.now)) line.old line.new result }
 {
     line.field(NAME, Value::Text(methods.name))?;
@@ -27,7 +26,7 @@ pub(crate) fn show_overloaded_method(
 
 /// Adds the fields of a method that shares its name with no other.
 #[tactic(auto, unfolding(crate::specs::TypeRows::method_fields))]
-pub(crate) fn show_method(line: &mut Line, method: &MethodType<'_>) -> Result<()>
+pub(crate) fn show_method(line: &mut Line, method: &MethodType<'_>) -> LineResult
     ensures { ShowsFields (method_fields (method_value method.now)) line.old line.new result }
 {
     let attributes = field_flags(method.attributes);
@@ -41,7 +40,7 @@ pub(crate) fn show_method(line: &mut Line, method: &MethodType<'_>) -> Result<()
 
 /// Adds the fields of one of the methods of a name.
 #[tactic(auto, unfolding(crate::specs::TypeRows::listed_method_fields))]
-pub fn show_listed_method(line: &mut Line, method: MethodListEntry) -> Result<()>
+pub fn show_listed_method(line: &mut Line, method: MethodListEntry) -> LineResult
     ensures { ShowsFields (listed_method_fields method) line.old line.new result }
 {
     let attributes = field_flags(method.attributes);

@@ -3,19 +3,18 @@
 ghost use Rattle.pdbdump_rows.specs.Line.{ShowsFields};
 ghost use Rattle.pdbdump_rows.specs.TypeRows.{bitfield_fields, modifier_fields, pointer_fields};
 
-use crate::line::Line;
+use crate::line::{Line, LineResult};
 use crate::names::{
     ATTRIBUTES, CONTAINING_CLASS, LENGTH, MODIFIERS, POINTER_KIND, POINTER_MODE, POSITION, SIZE,
     UNDERLYING_TYPE,
 };
 use crate::value::{Value, optional_type, type_index};
 use crate::words::{kind_word, mode_word, modifier_flags, pointer_flags};
-use pdb_base::{Error, Result};
 use pdb_values::{BitfieldType, ModifierType, PointerType};
 
 /// Adds the fields of a pointer.
 #[tactic(auto, unfolding(crate::specs::TypeRows::pointer_fields))]
-pub(crate) fn show_pointer(line: &mut Line, pointer: PointerType) -> Result<()>
+pub(crate) fn show_pointer(line: &mut Line, pointer: PointerType) -> LineResult
     ensures { ShowsFields (pointer_fields pointer) line.old line.new result }
 {
     let word = pointer.attributes;
@@ -31,7 +30,7 @@ pub(crate) fn show_pointer(line: &mut Line, pointer: PointerType) -> Result<()>
 
 /// Adds the fields of a type with modifiers.
 #[tactic(auto, unfolding(crate::specs::TypeRows::modifier_fields))]
-pub(crate) fn show_modifier(line: &mut Line, modifier: ModifierType) -> Result<()>
+pub(crate) fn show_modifier(line: &mut Line, modifier: ModifierType) -> LineResult
     ensures { ShowsFields (modifier_fields modifier) line.old line.new result }
 {
     let modifiers = modifier_flags(modifier);
@@ -42,7 +41,7 @@ pub(crate) fn show_modifier(line: &mut Line, modifier: ModifierType) -> Result<(
 
 /// Adds the fields of a bit field, a member that takes some bits of its type.
 #[tactic(auto, unfolding(crate::specs::TypeRows::bitfield_fields))]
-pub(crate) fn show_bitfield(line: &mut Line, bitfield: BitfieldType) -> Result<()>
+pub(crate) fn show_bitfield(line: &mut Line, bitfield: BitfieldType) -> LineResult
     ensures { ShowsFields (bitfield_fields bitfield) line.old line.new result }
 {
     line.field(UNDERLYING_TYPE, type_index(bitfield.underlying_type))?;

@@ -8,11 +8,10 @@ ghost use Rattle.pdbdump_rows.specs.Row.{value_shown};
 ghost use Rattle.pdbdump_rows.specs.TypeRows.{primitive_fields};
 ghost use Rattle.pdbdump_rows.specs.Words.{indirection_word};
 
-use crate::line::Line;
+use crate::line::{Line, LineResult};
 use crate::names::{INDIRECTION, PRIMITIVE_KIND};
 use crate::value::Value;
 use crate::words::{indirection_word, primitive_word};
-use pdb_base::{Error, Result};
 use pdb_values::{Indirection, PrimitiveType};
 
 /// Returns the value of the kind of pointer to a primitive type, or `Absent` if it isn't a pointer.
@@ -27,7 +26,7 @@ fn indirection<'t>(pointer: Option<Indirection>) -> Value<'t>
 
 /// Adds the fields of a type that has no record.
 #[tactic(auto, unfolding(crate::specs::TypeRows::primitive_fields))]
-pub(crate) fn show_primitive(line: &mut Line, primitive: PrimitiveType) -> Result<()>
+pub(crate) fn show_primitive(line: &mut Line, primitive: PrimitiveType) -> LineResult
     ensures { ShowsFields (primitive_fields primitive) line.old line.new result }
 {
     line.field(PRIMITIVE_KIND, Value::Word(primitive_word(primitive.kind)))?;

@@ -15,7 +15,7 @@ loop-is_set-preserved c =
       | then-is_set+in_ok-push_word w ↦
           word_added (in_quotes c.args.form) c.args.flags.now c.loop-is_set.is_set-index _ _ _ c.push.new.self.items _ _
           c.loop-is_set-test.true w.if-is_set.true c.loop-is_set.invariant.0 c.loop-is_set.invariant.1 w.is_first-is
-          (ap (λ v. v.items) w.out-is ∙ w.in_ok-push_word.ensures.ok)
+          (ap (λ v. v.items) w.out-is ∙ w.in_ok-push_word.ensures)
       | else-is_set w ↦
           word_kept (in_quotes c.args.form) c.args.flags.now c.loop-is_set.is_set-index _ _ _ c.push.new.self.items _ _
           c.loop-is_set-test.true w.if-is_set.false c.loop-is_set.invariant.0 c.loop-is_set.invariant.1 w.is_first-is
