@@ -164,9 +164,9 @@ pub row_ended : (form : Form) (row : ShownRow) (start old new : LineState) (adde
     → EndsLine (row_text form row) new result
 row_ended form row start old new added result is shows first = is.row form start row shows first
 
-pub full_ended : (form : Form) (row : ShownRow) (start old new : LineState) (added result : Result (Unit {0}) AllocError)
-    → IsLineEnded old added new result → ShowsFields row start old added → start ≡ begun_full form
-    → EndsLine (full_text form row) new result
+pub full_ended : (form : Form) (row : ShownRow) (start old new : LineState)
+    (added result : Result (Unit {0}) AllocError) → IsLineEnded old added new result
+    → ShowsFields row start old added → start ≡ begun_full form → EndsLine (full_text form row) new result
 full_ended form row start old new added result is shows first = is.full form start row shows first
 
 pub row_written : (form : Form) (row : ShownRow) (start line : LineState) (old new : OutputState)
