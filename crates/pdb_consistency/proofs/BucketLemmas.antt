@@ -12,7 +12,7 @@ use Rattle.pdb_consistency.specs.Words.{mismatches_at}
 use Rattle.pdb_consistency.specs.declared.inconsistency.Inconsistency.TheVariants.{BucketsCut, NameCount, NameOffset}
 use Rattle.pdb_consistency.specs.declared.mismatch.Extent.{Extent}
 use Rattle.pdb_consistency.specs.declared.mismatch.Mismatch.{Mismatch}
-use Rattle.pdb_consistency.proofs.MismatchLemmas.{asked_in_one, asked_in_two, told}
+use Rattle.pdb_consistency.proofs.MismatchLemmas.{asked_in_two, told}
 
 pub bucket_told : (number : ℕ) (stream : List ℕ) (place byte offset : ℕ) (given : Option Mismatch)
     → byte ≡ bucket_byte stream place → offset ≡ word_at byte stream

@@ -1,9 +1,7 @@
 //! Declarators of C++, which are built from the name outwards.
 
-ghost use Rattle.pdb_base.specs.Memory.{FailsOnlyForMemory};
-
+use crate::memory::AllocResult;
 use crate::qualifiers::Qualifiers;
-use pdb_base::Result;
 use std::alloc::Global;
 
 /// A part of a declaration: a name with what is around it, such as `*names[4]`.
@@ -16,9 +14,7 @@ pub(crate) struct Declarator {
 
 impl Declarator {
     /// Returns the declarator of a name, which may be empty.
-    pub(crate) fn of(alloc: Global, name: &[u8]) -> Result<Self>
-        ensures { FailsOnlyForMemory result }
-    {
+    pub(crate) fn of(alloc: Global, name: &[u8]) -> AllocResult<Self> {
         let text = Vec::from_slice(alloc, name)?;
         Ok(Declarator {
             text,
@@ -27,9 +23,12 @@ impl Declarator {
     }
 
     /// Returns the declarator behind the sign of a pointer and its qualifiers.
-    pub(crate) fn pointer(&self, alloc: Global, sign: &[u8], qualifiers: Qualifiers) -> Result<Self>
-        ensures { FailsOnlyForMemory result }
-    {
+    pub(crate) fn pointer(
+        &self,
+        alloc: Global,
+        sign: &[u8],
+        qualifiers: Qualifiers,
+    ) -> AllocResult<Self> {
         let mut text = Vec::from_slice(alloc, sign)?;
         text.extend_from_slice(qualifiers.text().trim_end().as_bytes())?;
         if !self.text.is_empty() && !qualifiers.text().is_empty() {
@@ -44,9 +43,7 @@ impl Declarator {
 
     /// Puts brackets behind, and parentheses around what is there if it begins with the sign of a
     /// pointer.
-    pub(crate) fn push_brackets(&mut self, alloc: Global, brackets: &[u8]) -> Result<()>
-        ensures { FailsOnlyForMemory result }
-    {
+    pub(crate) fn push_brackets(&mut self, alloc: Global, brackets: &[u8]) -> AllocResult<()> {
         if self.is_pointer {
             let mut text = Vec::from_slice(alloc, "(".as_bytes())?;
             text.extend_from_slice(&self.text)?;
@@ -58,11 +55,8 @@ impl Declarator {
     }
 
     /// Puts a text behind.
-    pub(crate) fn push_behind(&mut self, text: &[u8]) -> Result<()>
-        ensures { FailsOnlyForMemory result }
-    {
-        self.text.extend_from_slice(text)?;
-        Ok(())
+    pub(crate) fn push_behind(&mut self, text: &[u8]) -> AllocResult<()> {
+        self.text.extend_from_slice(text)
     }
 
     /// Returns the declaration: the name of a type with its qualifiers, and the declarator behind
@@ -72,9 +66,7 @@ impl Declarator {
         alloc: Global,
         qualifiers: Qualifiers,
         type_name: &[u8],
-    ) -> Result<Vec<u8>>
-        ensures { FailsOnlyForMemory result }
-    {
+    ) -> AllocResult<Vec<u8>> {
         let mut text = Vec::from_slice(alloc, qualifiers.text().as_bytes())?;
         text.extend_from_slice(type_name)?;
         if !text.is_empty() && !self.text.is_empty() {

@@ -2,7 +2,6 @@
 
 ghost use Rattle.std.specs.Prelude.{◌≡◌, ◌++◌, IfOk, Ok, OnOk};
 ghost use Rattle.pdb_base.specs.Answer.{Answers};
-ghost use Rattle.pdb_base.specs.Memory.{FailsOnlyForMemory};
 ghost use Rattle.pdb_tpi.specs.Item.{item_bytes, index_of};
 ghost use Rattle.pdb_tpi.specs.Record.{type_of};
 ghost use Rattle.pdb_tpi.specs.Steps.{walk_rest};
@@ -11,11 +10,12 @@ ghost use Rattle.pdb_values.specs.TypeView.{type_value};
 ghost use Rattle.pdb_types.specs.Entries.{IsIndexed, all_entries, entries_of, is_list};
 
 use crate::entry::{Entry, push_entries};
+use crate::memory::AllocResult;
 use pdb_base::{Error, FallibleIterator, Result, TypeIndex};
 use pdb_tpi::constants::{LF_ARGLIST, LF_FIELDLIST, LF_METHODLIST};
 use pdb_tpi::{Type, TypeInformation};
 use pdb_values::TypeData;
-use std::alloc::Global;
+use std::alloc::{AllocError, Global};
 
 /// What a walk along a table finds.
 #[derive(Debug, Drop)]
@@ -42,9 +42,8 @@ fn is_list(kind: u16) -> bool
 impl DefinitionWalk {
     /// Notes that a type is as large as another, if that is a type of the table, whose least index
     /// is given.
-    fn note_modified(&mut self, index: TypeIndex, other: TypeIndex, least: u32) -> Result<()>
-        ensures ok { OnOk result (self.new.entries ≡ self.old.entries) }
-        ensures memory { FailsOnlyForMemory result }
+    fn note_modified(&mut self, index: TypeIndex, other: TypeIndex, least: u32) -> AllocResult<()>
+        ensures { OnOk result (self.new.entries ≡ self.old.entries) }
     {
         if other.0 >= least {
             self.modified.push(index)?;
@@ -53,9 +52,8 @@ impl DefinitionWalk {
     }
 
     /// Notes what a type says of its size, where `least` is the least index of the table.
-    fn note_size(&mut self, index: TypeIndex, value: &TypeData<'_>, least: u32) -> Result<()>
-        ensures ok { OnOk result (self.new.entries ≡ self.old.entries) }
-        ensures memory { FailsOnlyForMemory result }
+    fn note_size(&mut self, index: TypeIndex, value: &TypeData<'_>, least: u32) -> AllocResult<()>
+        ensures { OnOk result (self.new.entries ≡ self.old.entries) }
     {
         match value {
             TypeData::Modifier(modifier) => {
@@ -73,33 +71,30 @@ impl DefinitionWalk {
     }
 
     /// Notes a type, where `least` is the least index of the table.
-    fn note_value(&mut self, index: TypeIndex, value: &TypeData<'_>, least: u32) -> Result<()>
-        ensures ok { OnOk result (self.new.entries.items
+    fn note_value(&mut self, index: TypeIndex, value: &TypeData<'_>, least: u32) -> AllocResult<()>
+        ensures { OnOk result (self.new.entries.items
             ≡ self.old.entries.items ++ entries_of index.0 (Ok (type_value value.now))) }
-        ensures memory { FailsOnlyForMemory result }
     {
         self.note_size(index, value, least)?;
         push_entries(index, value, &mut self.entries)
     }
 
     /// Notes the type of an item, if it can be read.
-    fn note_read(&mut self, alloc: Global, item: &Type<'_>, least: u32) -> Result<()>
-        ensures ok { OnOk result (self.new.entries.items ≡ self.old.entries.items
+    fn note_read(&mut self, alloc: Global, item: &Type<'_>, least: u32) -> AllocResult<()>
+        ensures { OnOk result (self.new.entries.items ≡ self.old.entries.items
             ++ entries_of (index_of item.now).0 (type_of (index_of item.now).0 (item_bytes item.now))) }
-        ensures memory { FailsOnlyForMemory result }
     {
         match item.parse(alloc) {
             Ok(value) => self.note_value(item.index(), &value, least),
-            Err(Error::OutOfMemory) => Err(Error::OutOfMemory),
+            Err(Error::OutOfMemory) => Err(AllocError),
             Err(_) => Ok(()),
         }
     }
 
     /// Notes the type of an item. A list has no name, and isn't read.
-    fn note(&mut self, alloc: Global, item: &Type<'_>, least: u32) -> Result<()>
-        ensures ok { OnOk result (self.new.entries.items ≡ self.old.entries.items
+    fn note(&mut self, alloc: Global, item: &Type<'_>, least: u32) -> AllocResult<()>
+        ensures { OnOk result (self.new.entries.items ≡ self.old.entries.items
             ++ entries_of (index_of item.now).0 (type_of (index_of item.now).0 (item_bytes item.now))) }
-        ensures memory { FailsOnlyForMemory result }
     {
         if is_list(item.raw_kind()) {
             return Ok(());

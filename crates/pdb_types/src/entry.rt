@@ -1,15 +1,15 @@
 //! The entries of the index of definitions.
 
 ghost use Rattle.std.specs.Prelude.{◌≡◌, ◌++◌, OnOk, Ok};
-ghost use Rattle.pdb_base.specs.Memory.{FailsOnlyForMemory};
 ghost use Rattle.pdb_types.specs.Declaration.{declaration_value, type_name};
 ghost use Rattle.pdb_types.specs.Entries.{entries_of, name_entry, names_entries, rank};
 ghost use Rattle.pdb_values.specs.TypeView.{type_value};
 
 use crate::declaration::{Declaration, declaration_of};
+use crate::memory::AllocResult;
 use crate::name_hash::name_hash;
 use crate::type_name::TypeName;
-use pdb_base::{Result, TypeIndex};
+use pdb_base::TypeIndex;
 use pdb_values::TypeData;
 
 /// How many indexes there are.
@@ -43,10 +43,13 @@ impl Entry {
 }
 
 /// Appends an entry for each name of a definition.
-fn push_names(index: TypeIndex, names: &Declaration<'_>, entries: &mut Vec<Entry>) -> Result<()>
-    ensures ok { OnOk result
+fn push_names(
+    index: TypeIndex,
+    names: &Declaration<'_>,
+    entries: &mut Vec<Entry>,
+) -> AllocResult<()>
+    ensures { OnOk result
         (entries.new.items ≡ entries.old.items ++ names_entries index.0 (declaration_value names.now)) }
-    ensures memory { FailsOnlyForMemory result }
 {
     entries.push(Entry::of(index, TypeName::Source(names.name.as_bytes())))?;
     if let Some(name) = names.unique_name {
@@ -63,10 +66,9 @@ pub(crate) fn push_entries(
     index: TypeIndex,
     value: &TypeData<'_>,
     entries: &mut Vec<Entry>,
-) -> Result<()>
-    ensures ok { OnOk result
+) -> AllocResult<()>
+    ensures { OnOk result
         (entries.new.items ≡ entries.old.items ++ entries_of index.0 (Ok (type_value value.now))) }
-    ensures memory { FailsOnlyForMemory result }
 {
     match declaration_of(value) {
         Some(names) if !names.is_forward() => push_names(index, &names, entries),

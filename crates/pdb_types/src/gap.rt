@@ -2,13 +2,12 @@
 
 ghost use Rattle.std.specs.Prelude.{◌≡◌, ◌++◌, ◌≤◌, ◌<◌, ◌^◌, IfOk, OnOk, map};
 ghost use Rattle.std.specs.List.{All};
-ghost use Rattle.pdb_base.specs.Memory.{FailsOnlyForMemory};
 ghost use Rattle.pdb_types.specs.Gap.{AreGapRows, bytes_touched, greatest_end, hole_row, tail_row, tail_start};
 ghost use Rattle.pdb_types.specs.Gap.{unused_row};
 ghost use Rattle.pdb_types.specs.Span.{AreGaps, gap_of};
 
+use crate::memory::AllocResult;
 use crate::span::{Span, gaps, greatest};
-use pdb_base::Result;
 use std::alloc::Global;
 
 /// Why no field of a class takes the bits of a gap.
@@ -50,9 +49,8 @@ fn bytes_of(bits: Span) -> Span
 }
 
 /// Returns the bytes of which spans of bits have some, a span for each.
-fn bytes_of_all(alloc: Global, spans: &[Span]) -> Result<Vec<Span>>
-    ensures ok { IfOk result (λ bytes. bytes.items ≡ map bytes_touched spans.now) }
-    ensures memory { FailsOnlyForMemory result }
+fn bytes_of_all(alloc: Global, spans: &[Span]) -> AllocResult<Vec<Span>>
+    ensures { IfOk result (λ bytes. bytes.items ≡ map bytes_touched spans.now) }
 {
     let bytes = spans.iter().map(|span| bytes_of(*span)).collect(alloc)?;
     Ok(bytes)
@@ -97,11 +95,10 @@ fn hole_row(bytes: Span) -> Gap
 }
 
 /// Returns a hole for each gap between bytes.
-fn hole_rows(alloc: Global, holes: &[Span]) -> Result<Vec<Gap>>
+fn hole_rows(alloc: Global, holes: &[Span]) -> AllocResult<Vec<Gap>>
     requires some { All (λ hole. hole.start < hole.end) holes.now }
     requires within { All (λ hole. hole.end ≤ 2 ^ 64) holes.now }
-    ensures ok { IfOk result (λ rows. rows.items ≡ map hole_row holes.now) }
-    ensures memory { FailsOnlyForMemory result }
+    ensures { IfOk result (λ rows. rows.items ≡ map hole_row holes.now) }
 {
     let mut rows = Vec::new(alloc);
     for hole in holes {
@@ -111,10 +108,9 @@ fn hole_rows(alloc: Global, holes: &[Span]) -> Result<Vec<Gap>>
 }
 
 /// Appends the bytes of the virtual base classes, if there are any.
-fn push_tail(rows: &mut Vec<Gap>, start: u128, size: u64) -> Result<()>
+fn push_tail(rows: &mut Vec<Gap>, start: u128, size: u64) -> AllocResult<()>
     requires { start ≤ size }
-    ensures ok { OnOk result (rows.new.items ≡ rows.old.items ++ map tail_row (gap_of start size)) }
-    ensures memory { FailsOnlyForMemory result }
+    ensures { OnOk result (rows.new.items ≡ rows.old.items ++ map tail_row (gap_of start size)) }
 {
     let end = size as u128;
     if start < end {
@@ -130,18 +126,16 @@ fn push_tail(rows: &mut Vec<Gap>, start: u128, size: u64) -> Result<()>
 }
 
 /// Returns the gaps between spans, which are consumed.
-fn gaps_between(alloc: Global, spans: Vec<Span>, end: u128) -> Result<Vec<Span>>
-    ensures gaps { IfOk result (λ gaps. AreGaps spans.items end gaps.items) }
-    ensures memory { FailsOnlyForMemory result }
+fn gaps_between(alloc: Global, spans: Vec<Span>, end: u128) -> AllocResult<Vec<Span>>
+    ensures { IfOk result (λ gaps. AreGaps spans.items end gaps.items) }
 {
     let mut spans = spans;
     gaps(alloc, &mut spans, end)
 }
 
 /// Returns spans, followed by those of the bits of gaps.
-fn with_bits(spans: Vec<Span>, rows: &[Gap]) -> Result<Vec<Span>>
-    ensures ok { IfOk result (λ all. all.items ≡ spans.items ++ map (λ row. row.bits) rows.now) }
-    ensures memory { FailsOnlyForMemory result }
+fn with_bits(spans: Vec<Span>, rows: &[Gap]) -> AllocResult<Vec<Span>>
+    ensures { IfOk result (λ all. all.items ≡ spans.items ++ map (λ row. row.bits) rows.now) }
 {
     let mut all = spans;
     for row in rows {
@@ -151,9 +145,8 @@ fn with_bits(spans: Vec<Span>, rows: &[Gap]) -> Result<Vec<Span>>
 }
 
 /// Appends the unused bits.
-fn push_unused(rows: &mut Vec<Gap>, unused: &[Span]) -> Result<()>
-    ensures ok { OnOk result (rows.new.items ≡ rows.old.items ++ map unused_row unused.now) }
-    ensures memory { FailsOnlyForMemory result }
+fn push_unused(rows: &mut Vec<Gap>, unused: &[Span]) -> AllocResult<()>
+    ensures { OnOk result (rows.new.items ≡ rows.old.items ++ map unused_row unused.now) }
 {
     for bits in unused {
         rows.push(Gap {
@@ -175,9 +168,8 @@ pub(crate) fn gap_rows(
     spans: Vec<Span>,
     size: u64,
     is_virtual: bool,
-) -> Result<Vec<Gap>>
-    ensures rows { IfOk result (λ rows. AreGapRows spans.items size is_virtual rows.items) }
-    ensures memory { FailsOnlyForMemory result }
+) -> AllocResult<Vec<Gap>>
+    ensures { IfOk result (λ rows. AreGapRows spans.items size is_virtual rows.items) }
 {
     let bytes = bytes_of_all(alloc, &spans)?;
     let tail = tail_start(&bytes, size, is_virtual);

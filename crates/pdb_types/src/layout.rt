@@ -4,7 +4,6 @@ ghost use Rattle.std.specs.Prelude.{◌≡◌, IfOk, IfSome, Some, map};
 ghost use Rattle.std.specs.List.{list_any};
 ghost use Rattle.std.specs.Option.{option_map};
 ghost use Rattle.pdb_base.specs.Answer.{Answers};
-ghost use Rattle.pdb_base.specs.Memory.{FailsOnlyForMemory};
 ghost use Rattle.pdb_values.specs.TypeView.{type_value};
 ghost use Rattle.pdb_types.specs.Extent.{bits_of};
 ghost use Rattle.pdb_types.specs.Layout.{HasGaps, body_layout, body_of, field_of, field_span, field_value};
@@ -16,6 +15,7 @@ use crate::definitions::Definitions;
 use crate::extent::Extent;
 use crate::field_place::{FieldKind, FieldPlace, place_of};
 use crate::gap::{Gap, gap_rows};
+use crate::memory::AllocResult;
 use crate::span::Span;
 use crate::type_at::type_at;
 use pdb_base::{Result, TypeIndex};
@@ -112,9 +112,8 @@ fn body_of(value: &TypeData<'_>) -> Option<ClassBody>
 }
 
 /// Returns the bits that fields take, a span for each.
-fn spans_of(alloc: Global, fields: &[LayoutField<'_>]) -> Result<Vec<Span>>
-    ensures ok { IfOk result (λ spans. spans.items ≡ map field_span fields.now) }
-    ensures memory { FailsOnlyForMemory result }
+fn spans_of(alloc: Global, fields: &[LayoutField<'_>]) -> AllocResult<Vec<Span>>
+    ensures { IfOk result (λ spans. spans.items ≡ map field_span fields.now) }
 {
     let mut spans = Vec::new(alloc);
     for field in fields {

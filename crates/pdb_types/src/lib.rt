@@ -15,6 +15,7 @@ mod gap;
 mod kind_name;
 pub mod laws;
 mod layout;
+mod memory;
 mod name_hash;
 mod open_definitions;
 mod primitive_size;

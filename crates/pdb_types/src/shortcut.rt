@@ -1,14 +1,14 @@
 //! Shortcuts along types of which each is as large as another one.
 
 ghost use Rattle.std.specs.Prelude.{IfOk, IfSome, OnOk};
-ghost use Rattle.pdb_base.specs.Memory.{FailsOnlyForMemory};
 ghost use Rattle.pdb_tpi.specs.Table.{Table};
 ghost use Rattle.pdb_types.specs.Shortcut.{AreShortcuts, IsAsLarge};
 
 use crate::definitions::Definitions;
+use crate::memory::AllocResult;
 use crate::size_source::SizeSource;
-use pdb_base::{Error, FallibleIterator, Result, TypeIndex};
-use std::alloc::Global;
+use pdb_base::{Error, FallibleIterator, TypeIndex};
+use std::alloc::{AllocError, Global};
 
 /// The record kinds of a type with a modifier and of a bit field.
 const MODIFIER: u16 = 0x1001;
@@ -46,13 +46,12 @@ impl<'t> Definitions<'t> {
     /// Returns the type of a lower index that is as large as a type, if the record of the type or
     /// of its definition says so.
     #[tactic(auto, using(crate::proofs::SizeLemmas::lower_large))]
-    fn lower_type(&self, alloc: Global, index: TypeIndex) -> Result<Option<TypeIndex>>
-        ensures lower { IfOk result (λ lower. IfSome lower (λ other. IsAsLarge self.now index.0 other.0)) }
-        ensures memory { FailsOnlyForMemory result }
+    fn lower_type(&self, alloc: Global, index: TypeIndex) -> AllocResult<Option<TypeIndex>>
+        ensures { IfOk result (λ lower. IfSome lower (λ other. IsAsLarge self.now index.0 other.0)) }
     {
         match self.size_source(alloc, index) {
             Ok(SizeSource::SameAs(other)) if other.0 < index.0 => Ok(Some(other)),
-            Err(Error::OutOfMemory) => Err(Error::OutOfMemory),
+            Err(Error::OutOfMemory) => Err(AllocError),
             _ => Ok(None),
         }
     }
@@ -66,10 +65,9 @@ impl<'t> Definitions<'t> {
         index: TypeIndex,
         has_names: bool,
         shortcuts: &[Shortcut],
-    ) -> Result<Option<TypeIndex>>
+    ) -> AllocResult<Option<TypeIndex>>
         requires { AreShortcuts self.now shortcuts.now }
-        ensures end { IfOk result (λ end. IfSome end (λ other. IsAsLarge self.now index.0 other.0)) }
-        ensures memory { FailsOnlyForMemory result }
+        ensures { IfOk result (λ end. IfSome end (λ other. IsAsLarge self.now index.0 other.0)) }
     {
         let mut end = index;
         for _ in 0..RUN {
@@ -94,10 +92,9 @@ impl<'t> Definitions<'t> {
         index: TypeIndex,
         has_names: bool,
         shortcuts: &mut Vec<Shortcut>,
-    ) -> Result<()>
+    ) -> AllocResult<()>
         requires { AreShortcuts self.now shortcuts.old.items }
-        ensures are { OnOk result (AreShortcuts self.now shortcuts.new.items) }
-        ensures memory { FailsOnlyForMemory result }
+        ensures { OnOk result (AreShortcuts self.now shortcuts.new.items) }
     {
         if let Some(end) = self.shortcut_end(alloc, index, has_names, shortcuts)? {
             shortcuts.push(Shortcut { index, end })?;
@@ -111,9 +108,8 @@ impl<'t> Definitions<'t> {
     /// So if all of the table are given that are over types of the table, a size is found along at
     /// most eight types and a shortcut, also where a million types with modifiers are one behind
     /// another.
-    fn shortcuts_from(&self, alloc: Global, types: &[TypeIndex]) -> Result<Vec<Shortcut>>
-        ensures are { IfOk result (λ shortcuts. AreShortcuts self.now shortcuts.items) }
-        ensures memory { FailsOnlyForMemory result }
+    fn shortcuts_from(&self, alloc: Global, types: &[TypeIndex]) -> AllocResult<Vec<Shortcut>>
+        ensures { IfOk result (λ shortcuts. AreShortcuts self.now shortcuts.items) }
     {
         let mut shortcuts = Vec::new(alloc);
         for index in types {
@@ -123,9 +119,8 @@ impl<'t> Definitions<'t> {
     }
 
     /// Returns the shortcuts from all types of the table, as `shortcuts_from` does.
-    fn all_shortcuts(&self, alloc: Global) -> Result<Vec<Shortcut>>
-        ensures are { IfOk result (λ shortcuts. AreShortcuts self.now shortcuts.items) }
-        ensures memory { FailsOnlyForMemory result }
+    fn all_shortcuts(&self, alloc: Global) -> AllocResult<Vec<Shortcut>>
+        ensures { IfOk result (λ shortcuts. AreShortcuts self.now shortcuts.items) }
     {
         let mut items = self.types().items().iter();
         let mut shortcuts = Vec::new(alloc);
@@ -143,9 +138,8 @@ impl<'t> Definitions<'t> {
         alloc: Global,
         has_names: bool,
         modified: &[TypeIndex],
-    ) -> Result<Vec<Shortcut>>
-        ensures are { IfOk result (λ shortcuts. AreShortcuts self.now shortcuts.items) }
-        ensures memory { FailsOnlyForMemory result }
+    ) -> AllocResult<Vec<Shortcut>>
+        ensures { IfOk result (λ shortcuts. AreShortcuts self.now shortcuts.items) }
     {
         if has_names {
             self.all_shortcuts(alloc)

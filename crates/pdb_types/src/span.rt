@@ -2,10 +2,9 @@
 
 ghost use Rattle.std.specs.Prelude.{◌≡◌, ◌++◌, IfOk, OnOk, max, min};
 ghost use Rattle.std.specs.List.Sorted.{IsNonDecreasingBy};
-ghost use Rattle.pdb_base.specs.Memory.{FailsOnlyForMemory};
 ghost use Rattle.pdb_types.specs.Span.{AreGaps, gap_of};
 
-use pdb_base::Result;
+use crate::memory::AllocResult;
 use std::alloc::Global;
 
 /// Places one behind another, such as the bits of a member of a class.
@@ -33,9 +32,8 @@ pub(crate) fn greatest(left: u128, right: u128) -> u128
 }
 
 /// Appends the gap from a place to another, if there is one.
-fn push_gap(gaps: &mut Vec<Span>, start: u128, end: u128) -> Result<()>
-    ensures ok { OnOk result (gaps.new.items ≡ gaps.old.items ++ gap_of start end) }
-    ensures memory { FailsOnlyForMemory result }
+fn push_gap(gaps: &mut Vec<Span>, start: u128, end: u128) -> AllocResult<()>
+    ensures { OnOk result (gaps.new.items ≡ gaps.old.items ++ gap_of start end) }
 {
     if start < end {
         gaps.push(Span { start, end })?;
@@ -44,10 +42,9 @@ fn push_gap(gaps: &mut Vec<Span>, start: u128, end: u128) -> Result<()>
 }
 
 /// Returns the gaps between spans that are sorted by their starts.
-fn sorted_gaps(alloc: Global, spans: &[Span], end: u128) -> Result<Vec<Span>>
+fn sorted_gaps(alloc: Global, spans: &[Span], end: u128) -> AllocResult<Vec<Span>>
     requires { IsNonDecreasingBy (λ span. span.start) spans.now }
-    ensures gaps { IfOk result (λ gaps. AreGaps spans.now end gaps.items) }
-    ensures memory { FailsOnlyForMemory result }
+    ensures { IfOk result (λ gaps. AreGaps spans.now end gaps.items) }
 {
     let mut gaps = Vec::new(alloc);
     let mut at = 0;
@@ -66,10 +63,9 @@ fn sorted_gaps(alloc: Global, spans: &[Span], end: u128) -> Result<Vec<Span>>
 /// The spans may overlap and come in any order, and may go beyond the end.
 ///
 /// # Errors
-/// Fails with `OutOfMemory` if an allocation fails.
-pub fn gaps(alloc: Global, spans: &mut [Span], end: u128) -> Result<Vec<Span>>
-    ensures gaps { IfOk result (λ gaps. AreGaps spans.old end gaps.items) }
-    ensures memory { FailsOnlyForMemory result }
+/// Fails if an allocation fails.
+pub fn gaps(alloc: Global, spans: &mut [Span], end: u128) -> AllocResult<Vec<Span>>
+    ensures { IfOk result (λ gaps. AreGaps spans.old end gaps.items) }
 {
     spans.sort_unstable_by_key(|span| span.start);
     sorted_gaps(alloc, spans, end)

@@ -1,12 +1,12 @@
 //! The text of types as C++ declares them.
 
-ghost use Rattle.pdb_base.specs.Memory.{FailsOnlyForMemory};
 ghost use Rattle.pdb_types.specs.Text.{FailsAsTable};
 
 use crate::declaration::declaration_of;
 use crate::declarator::Declarator;
 use crate::definitions::Definitions;
 use crate::kind_name::kind_name;
+use crate::memory::AllocResult;
 use crate::qualifiers::Qualifiers;
 use crate::type_at::type_at;
 use itoa::Buffer;
@@ -39,9 +39,7 @@ fn sign_of(mode: PointerMode) -> &'static str {
 
 /// Returns how many parts of a size are in another one, in brackets, or empty brackets if the size
 /// is 0.
-fn brackets_of(alloc: Global, part: u64, whole: u64) -> Result<Vec<u8>>
-    ensures { FailsOnlyForMemory result }
-{
+fn brackets_of(alloc: Global, part: u64, whole: u64) -> AllocResult<Vec<u8>> {
     let mut brackets = Vec::from_slice(alloc, "[".as_bytes())?;
     if part > 0 {
         let mut buffer = Buffer::new();
@@ -57,9 +55,7 @@ fn push_dimensions(
     dimensions: &[u32],
     element: u64,
     declarator: &mut Declarator,
-) -> Result<()>
-    ensures { FailsOnlyForMemory result }
-{
+) -> AllocResult<()> {
     let mut part = element;
     let mut all = Vec::new(alloc);
     for dimension in dimensions {
@@ -73,9 +69,7 @@ fn push_dimensions(
 }
 
 /// Puts the width of a bit field behind a declarator.
-fn push_width(width: u8, declarator: &mut Declarator) -> Result<()>
-    ensures { FailsOnlyForMemory result }
-{
+fn push_width(width: u8, declarator: &mut Declarator) -> AllocResult<()> {
     let mut buffer = Buffer::new();
     declarator.push_behind(" : ".as_bytes())?;
     declarator.push_behind(buffer.format(width).as_bytes())
@@ -109,9 +103,7 @@ fn primitive_text(
     primitive: PrimitiveType,
     qualifiers: Qualifiers,
     declarator: &Declarator,
-) -> Result<Vec<u8>>
-    ensures { FailsOnlyForMemory result }
-{
+) -> AllocResult<Vec<u8>> {
     let name = kind_name(primitive.kind).as_bytes();
     if primitive.indirection.is_none() {
         return declarator.declaration(alloc, qualifiers, name);
@@ -135,9 +127,7 @@ fn last_text(
     value: &TypeData<'_>,
     qualifiers: Qualifiers,
     declarator: &Declarator,
-) -> Result<Vec<u8>>
-    ensures { FailsOnlyForMemory result }
-{
+) -> AllocResult<Vec<u8>> {
     if let TypeData::Primitive(primitive) = value {
         return primitive_text(alloc, *primitive, qualifiers, declarator);
     }
@@ -321,10 +311,10 @@ impl<'t> Definitions<'t> {
             qualifiers = self.push_part(alloc, &value, qualifiers, &mut declarator)?;
             match next_of(&value) {
                 Some(next) => index = next,
-                None => return last_text(alloc, &value, qualifiers, &declarator),
+                None => return Ok(last_text(alloc, &value, qualifiers, &declarator)?),
             }
         }
-        declarator.declaration(alloc, qualifiers, "..".as_bytes())
+        Ok(declarator.declaration(alloc, qualifiers, "..".as_bytes())?)
     }
 
     /// Returns the declaration of a name that has a type, as C++ spells it, such as

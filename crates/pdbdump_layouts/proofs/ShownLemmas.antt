@@ -28,13 +28,10 @@ use Rattle.pdbdump_rows.specs.declared.form.Form.{Form}
 use Rattle.pdb_types.specs.declared.layout.Layout.{Layout}
 
 -- what a pattern and a name mean
-pub patterned_by : (table other : Table) (name bytes : List ℕ) (result : Result (Vec TypeIndex Global) Error)
-    → other ≡ table → bytes ≡ name → list_any is_sign name ≡ true
-    → IfOk result (λ found. AreClasses other (Some bytes) (map (λ index. index.0) found.items))
-    → IfOk result (λ found. AreTypesNamed table name (map (λ index. index.0) found.items))
-patterned_by table other name bytes (Ok found) same also is are =
-    by_pattern (map (λ index. index.0) found.items) is (rw (same, also) at are)
-patterned_by table other name bytes (Err e) same also is are = tt
+pub patterned_by : (table other : Table) (name bytes : List ℕ) (found : List ℕ)
+    → other ≡ table → bytes ≡ name → list_any is_sign name ≡ true → AreClasses other (Some bytes) found
+    → AreTypesNamed table name found
+patterned_by table other name bytes found same also is are = by_pattern found is (rw (same, also) at are)
 
 pub named_by : (table : Table) (name : List ℕ) (result : Result (Vec TypeIndex Global) Error)
     → Answers (λ found. map (λ index. index.0) found.items) result (Ok (all_definitions table (source_name name)))

@@ -103,7 +103,8 @@ fn push_field<'t>(
     line.push(b';')?;
     let mut comment = field_place(alloc, start, field)?;
     push_role(alloc, definitions, field, &mut comment)?;
-    push_commented(&line, &comment, text)
+    push_commented(&line, &comment, text)?;
+    Ok(())
 }
 
 /// Appends the line of a field or a gap.
@@ -121,7 +122,8 @@ fn push_row<'t>(
         }
         LayoutRow::Gap(gap) => {
             line.extend_from_slice(&gap_text(alloc, gap)?)?;
-            push_remark(&line, &gap_comment(alloc, shown_row.start, gap)?, text)
+            push_remark(&line, &gap_comment(alloc, shown_row.start, gap)?, text)?;
+            Ok(())
         }
     }
 }

@@ -3,7 +3,6 @@
 ghost use Rattle.std.specs.Prelude.{◌≡◌, ◌↔◌, map, Ok, IfOk, IfSome, IsTrue};
 ghost use Rattle.std.specs.Option.{option_map};
 ghost use Rattle.pdb_base.specs.Answer.{Answers};
-ghost use Rattle.pdb_base.specs.Memory.{FailsOnlyForMemory};
 ghost use Rattle.pdb_tpi.specs.Item.{item_bytes, index_of};
 ghost use Rattle.pdb_tpi.specs.Record.{type_of};
 ghost use Rattle.pdb_types.specs.Layout.{HasGaps, layout_value};
@@ -14,11 +13,11 @@ ghost use Rattle.pdbdump_layouts.specs.Classes.{AreClasses, IsClassIn, IsNameWan
 ghost use Rattle.pdbdump_layouts.specs.Classes.{class_layout, class_of, named_class, modified_type};
 
 use crate::pattern::matches;
-use pdb_base::{Error, RawString, Result, TypeIndex};
+use pdb_base::{Error, RawString, TypeIndex};
 use pdb_tpi::{OpenTable, Type};
 use pdb_types::{Definitions, Layout};
 use pdb_values::{ClassKind, TypeData};
-use std::alloc::Global;
+use std::alloc::{AllocError, Global};
 
 /// How many types are read at most from one with modifiers to the one without.
 const MOST_TYPES: u32 = 16;
@@ -77,14 +76,13 @@ fn defined_class<'t>(value: &TypeData<'t>) -> Option<Class<'t>>
 
 /// Returns the class or union that a record defines, or None if it defines none. A record that can't
 /// be read defines none.
-fn class_defined<'t>(alloc: Global, item: &Type<'t>) -> Result<Option<Class<'t>>>
-    ensures class { IfOk result (λ class. option_map named_class class
+fn class_defined<'t>(alloc: Global, item: &Type<'t>) -> Result<Option<Class<'t>>, AllocError>
+    ensures { IfOk result (λ class. option_map named_class class
         ≡ class_defined (type_of (index_of item.now).0 (item_bytes item.now))) }
-    ensures memory { FailsOnlyForMemory result }
 {
     match item.parse(alloc) {
         Ok(value) => Ok(defined_class(&value)),
-        Err(Error::OutOfMemory) => Err(Error::OutOfMemory),
+        Err(Error::OutOfMemory) => Err(AllocError),
         Err(_) => Ok(None),
     }
 }
@@ -100,10 +98,9 @@ fn is_name_wanted(pattern: Option<&[u8]>, name: RawString<'_>) -> bool
 }
 
 /// Returns whether a record is that of a class or a union that is defined and whose name is wanted.
-fn is_class(alloc: Global, item: &Type<'_>, pattern: Option<&[u8]>) -> Result<bool>
-    ensures is { IfOk result (λ is. IsTrue is ↔ IsClassIn (option_map (λ signs. signs.now) pattern.entry)
+fn is_class(alloc: Global, item: &Type<'_>, pattern: Option<&[u8]>) -> Result<bool, AllocError>
+    ensures { IfOk result (λ is. IsTrue is ↔ IsClassIn (option_map (λ signs. signs.now) pattern.entry)
         (type_of (index_of item.now).0 (item_bytes item.now))) }
-    ensures memory { FailsOnlyForMemory result }
 {
     match class_defined(alloc, item)? {
         Some(class) => Ok(is_name_wanted(pattern, class.name)),
@@ -120,10 +117,9 @@ pub(crate) fn classes_in(
     alloc: Global,
     types: &OpenTable<TypeIndex>,
     pattern: Option<&[u8]>,
-) -> Result<Vec<TypeIndex>>
-    ensures classes { IfOk result (λ found. AreClasses types.now.table (option_map (λ signs. signs.now) pattern.entry)
+) -> Result<Vec<TypeIndex>, AllocError>
+    ensures { IfOk result (λ found. AreClasses types.now.table (option_map (λ signs. signs.now) pattern.entry)
         (map (λ index. index.0) found.items)) }
-    ensures memory { FailsOnlyForMemory result }
 {
     let header = types.items().header();
     let mut found = Vec::new(alloc);
@@ -149,7 +145,7 @@ pub(crate) fn type_at<'t>(
     alloc: Global,
     types: &'t OpenTable<TypeIndex>,
     index: TypeIndex,
-) -> Result<TypeData<'t>>
+) -> Result<TypeData<'t>, Error>
     ensures { Answers type_value result (type_at types.now.table index.0) }
 {
     types.item(index)?.parse(alloc)
@@ -174,7 +170,7 @@ pub(crate) fn class_layout<'t>(
     alloc: Global,
     definitions: &Definitions<'t>,
     index: TypeIndex,
-) -> Result<Option<Layout<'t>>>
+) -> Result<Option<Layout<'t>>, Error>
     ensures fields { Answers (option_map layout_value) result (class_layout definitions.now index.0) }
     ensures gaps { IfOk result (λ layout. IfSome layout HasGaps) }
 {

@@ -18,7 +18,7 @@ fn field_name(alloc: Global, field: &LayoutField<'_>) -> Result<Vec<u8>> {
         FieldKind::Base => Ok(Vec::from_slice(alloc, b"__BaseClass")?),
         FieldKind::VirtualBasePointer(_) => Ok(Vec::from_slice(alloc, b"__VBptr")?),
         FieldKind::VirtualFunctionPointer => Ok(Vec::from_slice(alloc, b"__VFN_table")?),
-        FieldKind::Member(name) => escape_text(alloc, name.as_bytes()),
+        FieldKind::Member(name) => Ok(escape_text(alloc, name.as_bytes())?),
     }
 }
 
@@ -70,7 +70,8 @@ fn push_row<'t>(
     place.extend_from_slice(format!(in alloc; "+0x{offset:03x}")?.as_bytes())?;
     let name = field_name(alloc, field)?;
     let type_text = field_type(alloc, definitions, field)?;
-    push_named(&place, &name, &type_text, text)
+    push_named(&place, &name, &type_text, text)?;
+    Ok(())
 }
 
 /// Returns a layout in the style of WinDbg's `dt`: the name of the class, and a line for each

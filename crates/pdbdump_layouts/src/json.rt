@@ -26,7 +26,8 @@ fn show_part<'t>(
     let type_text = definitions.text_of(alloc, index, b"")?;
     let declaration = definitions.text_of(alloc, index, name)?;
     let offset = shown.start.saturating_add(part.place.offset);
-    show_field(line, shown.depth, offset, part, &type_text, &declaration)
+    show_field(line, shown.depth, offset, part, &type_text, &declaration)?;
+    Ok(())
 }
 
 /// Appends the object of a field or a gap.

@@ -1,12 +1,10 @@
 //! The fields of a layout and its gaps, in the order of their places.
 
 ghost use Rattle.std.specs.Prelude.{◌≡◌, ◌++◌, map, IfOk, OnOk};
-ghost use Rattle.pdb_base.specs.Memory.{FailsOnlyForMemory};
 ghost use Rattle.pdbdump_layouts.specs.LayoutRow.{AreRowsOf, layout_field_row, layout_gap_row, row_bits, unsorted_rows};
 
-use pdb_base::Result;
 use pdb_types::{Gap, Layout, LayoutField, Span};
-use std::alloc::Global;
+use std::alloc::{AllocError, Global};
 
 /// A field or a gap of a layout.
 #[derive(Clone, Copy)]
@@ -31,9 +29,11 @@ impl<'t> LayoutRow<'t> {
 }
 
 /// Appends a `LayoutRow` for each field.
-fn push_field_rows<'t>(rows: &mut Vec<LayoutRow<'t>>, fields: &[LayoutField<'t>]) -> Result<()>
-    ensures ok { OnOk result (rows.new.items ≡ rows.old.items ++ map layout_field_row fields.now) }
-    ensures memory { FailsOnlyForMemory result }
+fn push_field_rows<'t>(
+    rows: &mut Vec<LayoutRow<'t>>,
+    fields: &[LayoutField<'t>],
+) -> Result<(), AllocError>
+    ensures { OnOk result (rows.new.items ≡ rows.old.items ++ map layout_field_row fields.now) }
 {
     for field in fields {
         rows.push(LayoutRow::Field(*field))?;
@@ -42,9 +42,8 @@ fn push_field_rows<'t>(rows: &mut Vec<LayoutRow<'t>>, fields: &[LayoutField<'t>]
 }
 
 /// Appends a `LayoutRow` for each gap.
-fn push_gap_rows<'t>(rows: &mut Vec<LayoutRow<'t>>, gaps: &[Gap]) -> Result<()>
-    ensures ok { OnOk result (rows.new.items ≡ rows.old.items ++ map layout_gap_row gaps.now) }
-    ensures memory { FailsOnlyForMemory result }
+fn push_gap_rows<'t>(rows: &mut Vec<LayoutRow<'t>>, gaps: &[Gap]) -> Result<(), AllocError>
+    ensures { OnOk result (rows.new.items ≡ rows.old.items ++ map layout_gap_row gaps.now) }
 {
     for gap in gaps {
         rows.push(LayoutRow::Gap(*gap))?;
@@ -53,9 +52,8 @@ fn push_gap_rows<'t>(rows: &mut Vec<LayoutRow<'t>>, gaps: &[Gap]) -> Result<()>
 }
 
 /// Returns a `LayoutRow` for each field of a layout, and then one for each gap.
-fn unsorted_rows<'t>(alloc: Global, layout: &Layout<'t>) -> Result<Vec<LayoutRow<'t>>>
-    ensures ok { IfOk result (λ rows. rows.items ≡ unsorted_rows layout.now) }
-    ensures memory { FailsOnlyForMemory result }
+fn unsorted_rows<'t>(alloc: Global, layout: &Layout<'t>) -> Result<Vec<LayoutRow<'t>>, AllocError>
+    ensures { IfOk result (λ rows. rows.items ≡ unsorted_rows layout.now) }
 {
     let mut rows = Vec::new(alloc);
     push_field_rows(&mut rows, &layout.fields)?;
@@ -68,9 +66,11 @@ fn unsorted_rows<'t>(alloc: Global, layout: &Layout<'t>) -> Result<Vec<LayoutRow
 ///
 /// # Errors
 /// Fails with `OutOfMemory` if an allocation fails.
-pub(crate) fn rows_of<'t>(alloc: Global, layout: &Layout<'t>) -> Result<Vec<LayoutRow<'t>>>
-    ensures rows { IfOk result (λ rows. AreRowsOf layout.now rows.items) }
-    ensures memory { FailsOnlyForMemory result }
+pub(crate) fn rows_of<'t>(
+    alloc: Global,
+    layout: &Layout<'t>,
+) -> Result<Vec<LayoutRow<'t>>, AllocError>
+    ensures { IfOk result (λ rows. AreRowsOf layout.now rows.items) }
 {
     let mut rows = unsorted_rows(alloc, layout)?;
     rows.sort_by_key(|row| row.bits().start)?;

@@ -38,7 +38,8 @@ pub(crate) fn types_named(
         return Ok(vec![in alloc; index]?);
     }
     if is_pattern(name.as_bytes()) {
-        return classes_in(alloc, definitions.types(), Some(name.as_bytes()));
+        let classes = classes_in(alloc, definitions.types(), Some(name.as_bytes()))?;
+        return Ok(classes);
     }
     definitions.all_definitions(alloc, name.as_bytes())
 }

@@ -20,12 +20,12 @@ use crate::named::{member_line, types_named};
 use crate::options::{Options, Order, Style};
 use crate::text::escape_text;
 use crate::totals::totals_of;
-use pdb_base::{Error, Result, Stream, TypeIndex};
+use pdb_base::{Error, Stream, TypeIndex};
 use pdb_output::Output;
 use pdb_tpi::{OpenTable, TypeInformation};
 use pdb_types::{Definitions, Layout};
 use pdbdump_rows::{Form, error_text};
-use std::alloc::Global;
+use std::alloc::{AllocError, Global};
 use std::io::Write;
 
 /// By what a class is sorted: a number, the greatest first, and then a name.
@@ -58,7 +58,7 @@ fn layout_text<'t>(
     layout: &Layout<'t>,
     options: &Options,
     form: Form,
-) -> Result<Vec<u8>> {
+) -> Result<Vec<u8>, Error> {
     let class = class_of(&type_at(alloc, definitions.types(), layout.index)?);
     let class = class.as_ref();
     let expansion = expand(alloc, definitions, layout, options.depth)?;
@@ -76,7 +76,7 @@ fn tell<E: Write>(
     why: &[u8],
     progress: &mut Progress,
     err: &mut Output<E>,
-) -> Result<()>
+) -> Result<(), Error>
     ensures told { OnOk result ((out : OutputState) → IsMessageTold
         (record { progress = progress.old; out = out; err = err.old })
         (record { progress = progress.new; out = out; err = err.new })) }
@@ -98,7 +98,7 @@ fn tell_index<E: Write>(
     why: &[u8],
     progress: &mut Progress,
     err: &mut Output<E>,
-) -> Result<()>
+) -> Result<(), Error>
     ensures told { OnOk result ((out : OutputState) → IsMessageTold
         (record { progress = progress.old; out = out; err = err.old })
         (record { progress = progress.new; out = out; err = err.new })) }
@@ -116,7 +116,7 @@ fn tell_fault<E: Write>(
     fault: &Error,
     progress: &mut Progress,
     err: &mut Output<E>,
-) -> Result<()>
+) -> Result<(), Error>
     ensures told { OnOk result ((out : OutputState) → IsMessageTold
         (record { progress = progress.old; out = out; err = err.old })
         (record { progress = progress.new; out = out; err = err.new })) }
@@ -155,7 +155,7 @@ fn write_layout<O: Write>(
     form: Form,
     progress: &mut Progress,
     out: &mut Output<O>,
-) -> Result<()>
+) -> Result<(), Error>
     ensures written { OnOk result
         (Gets out.old out.new (layout_separator form progress.old.has_shown ++ text.now)) }
     ensures shown { OnOk result (progress.new.has_shown ≡ true) }
@@ -178,7 +178,7 @@ fn show_layout<O: Write, E: Write>(
     progress: &mut Progress,
     out: &mut Output<O>,
     err: &mut Output<E>,
-) -> Result<()>
+) -> Result<(), Error>
     requires layout { HasLayout definitions.now index.0 layout.now }
     requires wanted { is_wanted options.now layout.now ≡ true }
     ensures shown { OnOk result (IsTypeShown definitions.now options.now form index.0
@@ -202,7 +202,7 @@ fn show_type<O: Write, E: Write>(
     progress: &mut Progress,
     out: &mut Output<O>,
     err: &mut Output<E>,
-) -> Result<()>
+) -> Result<(), Error>
     ensures shown { OnOk result (IsTypeShown definitions.now options.now form index.0
         (record { progress = progress.old; out = out.old; err = err.old })
         (record { progress = progress.new; out = out.new; err = err.new })) }
@@ -240,7 +240,7 @@ fn show_types<O: Write, E: Write>(
     progress: &mut Progress,
     out: &mut Output<O>,
     err: &mut Output<E>,
-) -> Result<()>
+) -> Result<(), Error>
     ensures shown { OnOk result (AreTypesShown definitions.now options.now form (map (λ index. index.0) indexes.now)
         (record { progress = progress.old; out = out.old; err = err.old })
         (record { progress = progress.new; out = out.new; err = err.new })) }
@@ -277,29 +277,29 @@ fn rank_number(
     definitions: &Definitions<'_>,
     index: TypeIndex,
     order: Order,
-) -> Result<u64>
-    ensures { FailsOnlyForMemory result }
-{
+) -> Result<u64, AllocError> {
     if order == Order::Name {
         return Ok(0);
     }
     match class_layout(alloc, definitions, index) {
         Ok(Some(layout)) => Ok(number_of(&layout, order)),
-        Err(Error::OutOfMemory) => Err(Error::OutOfMemory),
+        Err(Error::OutOfMemory) => Err(AllocError),
         Ok(None) | Err(_) => Ok(0),
     }
 }
 
 /// Returns the name by which a type is sorted, which is empty if it is no class or union.
-fn rank_name<'t>(alloc: Global, definitions: &Definitions<'t>, index: TypeIndex) -> Result<&'t [u8]>
-    ensures { FailsOnlyForMemory result }
-{
+fn rank_name<'t>(
+    alloc: Global,
+    definitions: &Definitions<'t>,
+    index: TypeIndex,
+) -> Result<&'t [u8], AllocError> {
     match type_at(alloc, definitions.types(), index) {
         Ok(value) => match class_of(&value) {
             Some(class) => Ok(class.name.as_bytes()),
             None => Ok(b""),
         },
-        Err(Error::OutOfMemory) => Err(Error::OutOfMemory),
+        Err(Error::OutOfMemory) => Err(AllocError),
         Err(_) => Ok(b""),
     }
 }
@@ -310,10 +310,9 @@ fn ranks_of<'t>(
     definitions: &Definitions<'t>,
     indexes: &[TypeIndex],
     order: Order,
-) -> Result<Vec<Rank<'t>>>
-    ensures indexes { IfOk result
+) -> Result<Vec<Rank<'t>>, AllocError>
+    ensures { IfOk result
         (λ ranks. map (λ rank. rank.index.0) ranks.items ≡ map (λ index. index.0) indexes.now) }
-    ensures memory { FailsOnlyForMemory result }
 {
     let mut ranks = Vec::new(alloc);
     for index in indexes {
@@ -327,9 +326,8 @@ fn ranks_of<'t>(
 }
 
 /// Returns the types of ranks.
-fn types_of(alloc: Global, ranks: &[Rank<'_>]) -> Result<Vec<TypeIndex>>
-    ensures types { IfOk result (λ types. map (λ index. index.0) types.items ≡ map (λ rank. rank.index.0) ranks.now) }
-    ensures memory { FailsOnlyForMemory result }
+fn types_of(alloc: Global, ranks: &[Rank<'_>]) -> Result<Vec<TypeIndex>, AllocError>
+    ensures { IfOk result (λ types. map (λ index. index.0) types.items ≡ map (λ rank. rank.index.0) ranks.now) }
 {
     let mut types = Vec::new(alloc);
     for rank in ranks {
@@ -344,10 +342,9 @@ fn sort_types(
     definitions: &Definitions<'_>,
     indexes: Vec<TypeIndex>,
     order: Option<Order>,
-) -> Result<Vec<TypeIndex>>
-    ensures ordered { IfOk result (λ sorted. AreOrdered order (map (λ index. index.0) indexes.items)
+) -> Result<Vec<TypeIndex>, AllocError>
+    ensures { IfOk result (λ sorted. AreOrdered order (map (λ index. index.0) indexes.items)
         (map (λ index. index.0) sorted.items)) }
-    ensures memory { FailsOnlyForMemory result }
 {
     let Some(order) = order else {
         return Ok(indexes);
@@ -373,7 +370,7 @@ fn find_name<O: Write, E: Write>(
     progress: &mut Progress,
     out: &mut Output<O>,
     err: &mut Output<E>,
-) -> Result<()>
+) -> Result<(), Error>
     ensures meant { OnOk result (IsNameMeant definitions.now name.now (map (λ index. index.0) found.old.items)
         (record { progress = progress.old; out = out.old; err = err.old })
         (record { progress = progress.new; out = out.new; err = err.new }) (map (λ index. index.0) found.new.items)) }
@@ -405,7 +402,7 @@ fn find_names<O: Write, E: Write>(
     progress: &mut Progress,
     out: &mut Output<O>,
     err: &mut Output<E>,
-) -> Result<()>
+) -> Result<(), Error>
     ensures meant { OnOk result (AreNamesMeant definitions.now (map (λ name. name.now) names.now)
         (map (λ index. index.0) found.old.items) (map (λ index. index.0) found.new.items)
         (record { progress = progress.old; out = out.old; err = err.old })
@@ -419,9 +416,12 @@ fn find_names<O: Write, E: Write>(
 }
 
 /// Returns the classes of a table if all are shown, and else none.
-fn first_types(alloc: Global, types: &OpenTable<TypeIndex>, has_all: bool) -> Result<Vec<TypeIndex>>
-    ensures first { IfOk result (λ found. AreFirst types.now.table has_all (map (λ index. index.0) found.items)) }
-    ensures memory { FailsOnlyForMemory result }
+fn first_types(
+    alloc: Global,
+    types: &OpenTable<TypeIndex>,
+    has_all: bool,
+) -> Result<Vec<TypeIndex>, AllocError>
+    ensures { IfOk result (λ found. AreFirst types.now.table has_all (map (λ index. index.0) found.items)) }
 {
     if has_all {
         classes_in(alloc, types, None)
@@ -441,7 +441,7 @@ fn show_asked<O: Write, E: Write>(
     progress: &mut Progress,
     out: &mut Output<O>,
     err: &mut Output<E>,
-) -> Result<()>
+) -> Result<(), Error>
     ensures shown { OnOk result (AreLayoutsShown definitions.now (map (λ name. name.now) names.now) options.now form
         (record { progress = progress.old; out = out.old; err = err.old })
         (record { progress = progress.new; out = out.new; err = err.new })) }
@@ -472,7 +472,7 @@ fn show_asked<O: Write, E: Write>(
 }
 
 /// Returns a table that knows where all its types are.
-fn learn_table(alloc: Global, stream: Stream) -> Result<OpenTable<TypeIndex>>
+fn learn_table(alloc: Global, stream: Stream) -> Result<OpenTable<TypeIndex>, Error>
     ensures { Answers (λ types. types.table) result (table_of stream) }
 {
     let table = TypeInformation::parse(stream)?;
@@ -499,7 +499,7 @@ pub fn show_layouts<O: Write, E: Write>(
     form: Form,
     out: &mut Output<O>,
     err: &mut Output<E>,
-) -> Result<bool>
+) -> Result<bool, Error>
     ensures shown { IsShowResult stream (map (λ name. name.now) names.now) options.now form
         out.old out.new err.old err.new result }
     ensures answered { IsCallAnswered result err.old err.new }

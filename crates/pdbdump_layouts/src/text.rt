@@ -1,10 +1,8 @@
 //! Pieces of text.
 
-ghost use Rattle.pdb_base.specs.Memory.{FailsOnlyForMemory};
-
-use pdb_base::{RawString, Result};
+use pdb_base::RawString;
 use pdbdump_rows::{Line, Value};
-use std::alloc::Global;
+use std::alloc::{AllocError, Global};
 
 /// Where the comment of a line begins.
 const COMMENT: usize = 44;
@@ -13,16 +11,14 @@ const COMMENT: usize = 44;
 const NAME: usize = 17;
 
 /// Returns a text of a file as lines show it, with escapes for control characters.
-pub(crate) fn escape_text(alloc: Global, text: &[u8]) -> Result<Vec<u8>>
-    ensures { FailsOnlyForMemory result }
-{
+pub(crate) fn escape_text(alloc: Global, text: &[u8]) -> Result<Vec<u8>, AllocError> {
     let mut line = Line::new(alloc);
     line.field("name", Value::Text(RawString::from(text)))?;
     Ok(Vec::from_slice(alloc, line.as_bytes())?)
 }
 
 /// Appends spaces up to a column, counted from the start of the line, and at least one.
-fn push_spaces(start: usize, column: usize, text: &mut Vec<u8>) -> Result<()> {
+fn push_spaces(start: usize, column: usize, text: &mut Vec<u8>) -> Result<(), AllocError> {
     text.push(b' ')?;
     for _ in text.len().saturating_sub(start)..column {
         text.push(b' ')?;
@@ -31,7 +27,11 @@ fn push_spaces(start: usize, column: usize, text: &mut Vec<u8>) -> Result<()> {
 }
 
 /// Appends a line of text with a comment behind it.
-pub(crate) fn push_commented(line: &[u8], comment: &[u8], text: &mut Vec<u8>) -> Result<()> {
+pub(crate) fn push_commented(
+    line: &[u8],
+    comment: &[u8],
+    text: &mut Vec<u8>,
+) -> Result<(), AllocError> {
     let start = text.len();
     text.extend_from_slice(line)?;
     push_spaces(start, COMMENT - 3, text)?;
@@ -42,7 +42,11 @@ pub(crate) fn push_commented(line: &[u8], comment: &[u8], text: &mut Vec<u8>) ->
 }
 
 /// Appends a comment with a further comment behind it.
-pub(crate) fn push_remark(line: &[u8], comment: &[u8], text: &mut Vec<u8>) -> Result<()> {
+pub(crate) fn push_remark(
+    line: &[u8],
+    comment: &[u8],
+    text: &mut Vec<u8>,
+) -> Result<(), AllocError> {
     let start = text.len();
     text.extend_from_slice(line)?;
     push_spaces(start, COMMENT, text)?;
@@ -57,7 +61,7 @@ pub(crate) fn push_named(
     name: &[u8],
     type_text: &[u8],
     text: &mut Vec<u8>,
-) -> Result<()> {
+) -> Result<(), AllocError> {
     text.extend_from_slice(place)?;
     text.push(b' ')?;
     let start = text.len();
@@ -75,7 +79,7 @@ pub(crate) fn plural(count: u64) -> &'static str {
 }
 
 /// Appends the spaces of a depth.
-pub(crate) fn push_indent(depth: u32, width: u32, text: &mut Vec<u8>) -> Result<()> {
+pub(crate) fn push_indent(depth: u32, width: u32, text: &mut Vec<u8>) -> Result<(), AllocError> {
     for _ in 0..depth {
         for _ in 0..width {
             text.push(b' ')?;

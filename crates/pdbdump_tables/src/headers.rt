@@ -1,15 +1,14 @@
 //! The headers that name streams of symbols and of hashes.
 
 ghost use Rattle.std.specs.Prelude.{◌≡◌, IfOk};
-ghost use Rattle.pdb_base.specs.Memory.{FailsOnlyForMemory};
 ghost use Rattle.pdb_msf.specs.File.{stream_of};
 ghost use Rattle.pdbdump_tables.specs.Headers.{debug_header_found, headers_found, table_header_found, table_header_in};
 
 use crate::streams::stream;
-use pdb_base::{Error, Result, Stream};
+use pdb_base::{Error, Stream};
 use pdb_file::{DBIHeader, ID_STREAM, PDB, TYPE_STREAM};
 use pdb_tpi::{Header, TypeInformation};
-use std::alloc::Global;
+use std::alloc::{AllocError, Global};
 
 /// The number of the stream of debug information.
 const DEBUG_STREAM: u32 = 3;
@@ -33,15 +32,14 @@ pub struct Headers {
 
 /// Reads the header of the stream of debug information, or returns None if it can't be read.
 #[tactic(auto, unfolding(crate::specs::Headers::debug_header_found))]
-fn debug_header(alloc: Global, file: &mut PDB<Vec<u8>>) -> Result<Option<DBIHeader>>
+fn debug_header(alloc: Global, file: &mut PDB<Vec<u8>>) -> Result<Option<DBIHeader>, AllocError>
     ensures header { IfOk result (λ header. header ≡ debug_header_found file.old.source.items file.old.head) }
-    ensures memory { FailsOnlyForMemory result }
     ensures bytes { file.new.source.items ≡ file.old.source.items }
     ensures head { file.new.head ≡ file.old.head }
 {
     match stream(alloc, file, DEBUG_STREAM, Some(DEBUG_HEADER_SIZE)) {
         Ok(stream) => Ok(DBIHeader::parse(&stream).ok()),
-        Err(Error::OutOfMemory) => Err(Error::OutOfMemory),
+        Err(Error::OutOfMemory) => Err(AllocError),
         Err(_) => Ok(None),
     }
 }
@@ -62,23 +60,25 @@ fn table_header_in(stream: Stream) -> Option<Header>
 
 /// Reads the header of a table, or returns None if it can't be read.
 #[tactic(auto, unfolding(crate::specs::Headers::table_header_found))]
-fn table_header(alloc: Global, file: &mut PDB<Vec<u8>>, number: u32) -> Result<Option<Header>>
+fn table_header(
+    alloc: Global,
+    file: &mut PDB<Vec<u8>>,
+    number: u32,
+) -> Result<Option<Header>, AllocError>
     ensures header { IfOk result (λ header. header ≡ table_header_found file.old.source.items file.old.head number) }
-    ensures memory { FailsOnlyForMemory result }
     ensures bytes { file.new.source.items ≡ file.old.source.items }
     ensures head { file.new.head ≡ file.old.head }
 {
     match stream(alloc, file, number, Some(TABLE_HEADER_SIZE)) {
         Ok(stream) => Ok(table_header_in(stream)),
-        Err(Error::OutOfMemory) => Err(Error::OutOfMemory),
+        Err(Error::OutOfMemory) => Err(AllocError),
         Err(_) => Ok(None),
     }
 }
 
 /// Reads the headers of streams 2 to 4.
-pub fn headers_of(alloc: Global, file: &mut PDB<Vec<u8>>) -> Result<Headers>
+pub fn headers_of(alloc: Global, file: &mut PDB<Vec<u8>>) -> Result<Headers, AllocError>
     ensures headers { IfOk result (λ headers. headers ≡ headers_found file.old.source.items file.old.head) }
-    ensures memory { FailsOnlyForMemory result }
     ensures bytes { file.new.source.items ≡ file.old.source.items }
     ensures head { file.new.head ≡ file.old.head }
 {

@@ -3,7 +3,6 @@
 ghost use Rattle.std.specs.Prelude.{◌≡◌, ◌↔◌, [], ◌∷◌, map, string_bytes, IsTrue, IfOk};
 ghost use Rattle.std.specs.Char.{to_ascii_lowercase};
 ghost use Rattle.uuid.specs.Text.{hyphenated_text, upper};
-ghost use Rattle.pdb_base.specs.Memory.{FailsOnlyForMemory};
 ghost use Rattle.pdb_output.specs.Output.{Writes};
 ghost use Rattle.pdbdump_rows.specs.Line.{ShowsFields};
 ghost use Rattle.pdbdump_rows.specs.Row.{value_shown};
@@ -14,12 +13,12 @@ ghost use Rattle.pdbdump_tables.specs.Identity.{identity_shown, key_line, lower_
 ghost use Rattle.pdbdump_tables.specs.Identity.{optional_features, optional_flag, optional_machine, store_path};
 ghost use Rattle.pdbdump_tables.specs.Identity.{upper_key_of};
 
-use pdb_base::{RawString, Result};
+use pdb_base::{Error, RawString};
 use pdb_file::Features;
 use pdb_identity::Identity;
 use pdb_output::Output;
 use pdbdump_rows::{Flag, Form, Line, LineResult, Value, write_line};
-use std::alloc::Global;
+use std::alloc::{AllocError, Global};
 use std::io::Write;
 
 // The names of the fields.
@@ -68,9 +67,8 @@ pub enum KeyStyle {
 
 /// Returns the path of a file in a symbol store as a line.
 #[tactic(auto, unfolding(crate::specs::Identity::store_path))]
-fn upper_path(alloc: Global, name: &str, identity: &Identity) -> Result<Vec<u8>>
-    ensures ok { IfOk result (λ line. line.items ≡ store_path name.now (upper_key_of identity.now)) }
-    ensures memory { FailsOnlyForMemory result }
+fn upper_path(alloc: Global, name: &str, identity: &Identity) -> Result<Vec<u8>, AllocError>
+    ensures { IfOk result (λ line. line.items ≡ store_path name.now (upper_key_of identity.now)) }
 {
     let key = identity.key();
     Ok(format!(in alloc; "{name}/{key}/{name}\n")?.into_bytes())
@@ -78,10 +76,9 @@ fn upper_path(alloc: Global, name: &str, identity: &Identity) -> Result<Vec<u8>>
 
 /// Returns the path of a file in a symbol store as a line in lower case.
 #[tactic(auto, unfolding(crate::specs::Identity::store_path))]
-fn lower_path(alloc: Global, name: &str, identity: &Identity) -> Result<Vec<u8>>
-    ensures ok { IfOk result (λ line. line.items ≡
+fn lower_path(alloc: Global, name: &str, identity: &Identity) -> Result<Vec<u8>, AllocError>
+    ensures { IfOk result (λ line. line.items ≡
         store_path (map to_ascii_lowercase name.now) (lower_key_of identity.now)) }
-    ensures memory { FailsOnlyForMemory result }
 {
     let name = name.to_ascii_lowercase(alloc)?;
     let key = identity.lower_key();
@@ -89,9 +86,8 @@ fn lower_path(alloc: Global, name: &str, identity: &Identity) -> Result<Vec<u8>>
 }
 
 /// Returns the key of a file as text.
-fn key_text(alloc: Global, identity: &Identity) -> Result<String>
-    ensures ok { IfOk result (λ text. string_bytes text ≡ upper_key_of identity.now) }
-    ensures memory { FailsOnlyForMemory result }
+fn key_text(alloc: Global, identity: &Identity) -> Result<String, AllocError>
+    ensures { IfOk result (λ text. string_bytes text ≡ upper_key_of identity.now) }
 {
     let key = identity.key();
     Ok(format!(in alloc; "{key}")?)
@@ -99,28 +95,25 @@ fn key_text(alloc: Global, identity: &Identity) -> Result<String>
 
 /// Returns what the first line of a symbol file of Breakpad says of a file.
 #[tactic(auto, unfolding(crate::specs::Identity::module_text))]
-fn module_text(alloc: Global, cpu: &str, key: &str, name: &str) -> Result<String>
-    ensures ok { IfOk result (λ text. string_bytes text ≡ module_text cpu.now key.now name.now) }
-    ensures memory { FailsOnlyForMemory result }
+fn module_text(alloc: Global, cpu: &str, key: &str, name: &str) -> Result<String, AllocError>
+    ensures { IfOk result (λ text. string_bytes text ≡ module_text cpu.now key.now name.now) }
 {
     Ok(format!(in alloc; "{cpu} {key} {name}\n")?)
 }
 
 /// Returns the line that a symbol file of Breakpad begins with.
 #[tactic(auto, unfolding(crate::specs::Identity::module_line))]
-fn module_line(alloc: Global, cpu: &str, key: &str, name: &str) -> Result<Vec<u8>>
-    ensures ok { IfOk result (λ line. line.items ≡ module_line cpu.now key.now name.now) }
-    ensures memory { FailsOnlyForMemory result }
+fn module_line(alloc: Global, cpu: &str, key: &str, name: &str) -> Result<Vec<u8>, AllocError>
+    ensures { IfOk result (λ line. line.items ≡ module_line cpu.now key.now name.now) }
 {
     let text = module_text(alloc, cpu, key, name)?;
     Ok(format!(in alloc; "MODULE windows {text}")?.into_bytes())
 }
 
 /// Returns the line of a file that its symbol file of Breakpad begins with.
-fn breakpad_line(alloc: Global, name: &str, identity: &Identity) -> Result<Vec<u8>>
-    ensures ok { IfOk result (λ line. line.items ≡
+fn breakpad_line(alloc: Global, name: &str, identity: &Identity) -> Result<Vec<u8>, AllocError>
+    ensures { IfOk result (λ line. line.items ≡
         module_line (cpu_of identity.now) (upper_key_of identity.now) name.now) }
-    ensures memory { FailsOnlyForMemory result }
 {
     let key = key_text(alloc, identity)?;
     module_line(alloc, identity.cpu(), &key, name)
@@ -128,9 +121,8 @@ fn breakpad_line(alloc: Global, name: &str, identity: &Identity) -> Result<Vec<u
 
 /// Returns the GUID of a file as a line.
 #[tactic(auto, unfolding(crate::specs::Identity::guid_line))]
-fn guid_line(alloc: Global, identity: &Identity) -> Result<Vec<u8>>
-    ensures ok { IfOk result (λ line. line.items ≡ guid_line identity.now) }
-    ensures memory { FailsOnlyForMemory result }
+fn guid_line(alloc: Global, identity: &Identity) -> Result<Vec<u8>, AllocError>
+    ensures { IfOk result (λ line. line.items ≡ guid_line identity.now) }
 {
     let mut buffer = [0u8; 36];
     let guid = identity.guid.hyphenated().encode_upper(&mut buffer);
@@ -138,9 +130,13 @@ fn guid_line(alloc: Global, identity: &Identity) -> Result<Vec<u8>>
 }
 
 /// Returns the line of a file's identity in a style.
-fn key_line(alloc: Global, style: KeyStyle, name: &str, identity: &Identity) -> Result<Vec<u8>>
-    ensures ok { IfOk result (λ line. line.items ≡ key_line style name.now identity.now) }
-    ensures memory { FailsOnlyForMemory result }
+fn key_line(
+    alloc: Global,
+    style: KeyStyle,
+    name: &str,
+    identity: &Identity,
+) -> Result<Vec<u8>, AllocError>
+    ensures { IfOk result (λ line. line.items ≡ key_line style name.now identity.now) }
 {
     match style {
         KeyStyle::Key => upper_path(alloc, name, identity),
@@ -242,7 +238,7 @@ fn write_object<W: Write>(
     name: &str,
     identity: &Identity,
     out: &mut Output<W>,
-) -> Result<()>
+) -> Result<(), Error>
     ensures { Writes (identity_line Form.Json style name.now identity.now) out.old out.new result }
 {
     let mut buffer = [0u8; 36];
@@ -262,7 +258,7 @@ fn write_key<W: Write>(
     name: &str,
     identity: &Identity,
     out: &mut Output<W>,
-) -> Result<()>
+) -> Result<(), Error>
     ensures { Writes (identity_line Form.Text style name.now identity.now) out.old out.new result }
 {
     let line = key_line(alloc, style, name, identity)?;
@@ -281,7 +277,7 @@ pub fn write_identity<W: Write>(
     identity: &Identity,
     form: Form,
     out: &mut Output<W>,
-) -> Result<()>
+) -> Result<(), Error>
     ensures { Writes (identity_line form style name.now identity.now) out.old out.new result }
 {
     match form {
@@ -293,10 +289,9 @@ pub fn write_identity<W: Write>(
 /// Returns whether a word is the key of a file, in upper or in lower case.
 ///
 /// # Errors
-/// Fails with `OutOfMemory` if an allocation fails.
-pub fn is_key(alloc: Global, word: &str, identity: &Identity) -> Result<bool>
-    ensures ok { IfOk result (λ is_key. IsTrue is_key ↔ IsKey word.now identity.now) }
-    ensures memory { FailsOnlyForMemory result }
+/// Fails if an allocation fails.
+pub fn is_key(alloc: Global, word: &str, identity: &Identity) -> Result<bool, AllocError>
+    ensures { IfOk result (λ is_key. IsTrue is_key ↔ IsKey word.now identity.now) }
 {
     let key = key_text(alloc, identity)?;
     Ok(word.eq_ignore_ascii_case(&key))

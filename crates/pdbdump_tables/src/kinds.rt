@@ -3,17 +3,16 @@
 ghost use Rattle.std.specs.Prelude.{◌≡◌, ℕ, ◌+◌, ◌<◌, ◌≤◌, ◌^◌, length, slice_index_or, slice_set, vec_len, IfOk};
 ghost use Rattle.std.specs.Prelude.{if◌then◌else◌};
 ghost use Rattle.std.specs.List.{range_with_len};
-ghost use Rattle.pdb_base.specs.Memory.{FailsOnlyForMemory};
 ghost use Rattle.pdbdump_tables.specs.Kinds.{goes_on, occurring_kinds, by_frequency};
 ghost use Rattle.pdbdump_tables.specs.Tally.{IsTally, IsWalked, noted_kind};
 ghost use Rattle.pdb_tpi.specs.Item.{item_bytes, index_of};
 ghost use Rattle.pdb_tpi.specs.Table.{IsTable};
 
-use pdb_base::{Error, FallibleIterator, Result, TypeIndex};
+use pdb_base::{Error, FallibleIterator, TypeIndex};
 use pdb_tpi::{Header, Item, TypeInformation};
 use pdb_values::TypeData;
 use pdb_values::constants::LF_FIELDLIST;
-use std::alloc::Global;
+use std::alloc::{AllocError, Global};
 use std::cmp::Reverse;
 
 /// How many numbers a kind can be.
@@ -34,12 +33,11 @@ pub struct KindCount {
 }
 
 /// Returns the kinds that have records, the lowest number first.
-fn kinds_present(alloc: Global, counts: &[u64], sizes: &[u64]) -> Result<Vec<KindCount>>
+fn kinds_present(alloc: Global, counts: &[u64], sizes: &[u64]) -> Result<Vec<KindCount>, AllocError>
     requires counts { length counts.now ≡ 0x10000 }
     requires sizes { length sizes.now ≡ 0x10000 }
-    ensures present { IfOk result (λ kinds. kinds.items ≡
+    ensures { IfOk result (λ kinds. kinds.items ≡
         occurring_kinds (noted_kind counts.now sizes.now) (range_with_len 0 0x10000)) }
-    ensures memory { FailsOnlyForMemory result }
 {
     let mut kinds = Vec::new(alloc);
     for leaf in 0..KINDS {
@@ -56,13 +54,12 @@ fn kinds_present(alloc: Global, counts: &[u64], sizes: &[u64]) -> Result<Vec<Kin
 }
 
 /// Returns the kinds that have records, the most frequent first.
-fn rank(alloc: Global, counts: &[u64], sizes: &[u64]) -> Result<Vec<KindCount>>
+fn rank(alloc: Global, counts: &[u64], sizes: &[u64]) -> Result<Vec<KindCount>, AllocError>
     requires counts { length counts.now ≡ 0x10000 }
     requires sizes { length sizes.now ≡ 0x10000 }
-    ensures ranked { (most : ℕ) → ((leaf : ℕ) → slice_index_or counts.now leaf 0 ≤ most) →
+    ensures { (most : ℕ) → ((leaf : ℕ) → slice_index_or counts.now leaf 0 ≤ most) →
         IfOk result (λ kinds. kinds.items ≡
         by_frequency most (occurring_kinds (noted_kind counts.now sizes.now) (range_with_len 0 0x10000))) }
-    ensures memory { FailsOnlyForMemory result }
 {
     let mut kinds = kinds_present(alloc, counts, sizes)?;
     kinds.sort_by_key(|kind| Reverse(kind.count))?;
@@ -96,10 +93,9 @@ fn note(counts: &mut Vec<u64>, kind: u16, amount: u64)
 }
 
 /// Returns `count` counts of 0.
-fn zeros(alloc: Global, count: usize) -> Result<Vec<u64>>
+fn zeros(alloc: Global, count: usize) -> Result<Vec<u64>, AllocError>
     ensures kinds { IfOk result (λ counts. vec_len counts ≡ count) }
     ensures zeros { IfOk result (λ counts. (leaf : ℕ) → leaf < count → slice_index_or counts.items leaf 0 ≡ 0) }
-    ensures memory { FailsOnlyForMemory result }
 {
     let counts = vec![in alloc; 0; count]?;
     Ok(counts)
@@ -107,16 +103,15 @@ fn zeros(alloc: Global, count: usize) -> Result<Vec<u64>>
 
 /// Returns whether a record is a list of fields that another list continues.
 #[tactic(auto, unfolding(crate::specs::Kinds::goes_on))]
-fn goes_on(alloc: Global, item: &Item<'_, TypeIndex>) -> Result<bool>
-    ensures ok { IfOk result (λ is. is ≡ goes_on (index_of item.now).0 (item_bytes item.now)) }
-    ensures memory { FailsOnlyForMemory result }
+fn goes_on(alloc: Global, item: &Item<'_, TypeIndex>) -> Result<bool, AllocError>
+    ensures { IfOk result (λ is. is ≡ goes_on (index_of item.now).0 (item_bytes item.now)) }
 {
     if item.raw_kind() != LF_FIELDLIST {
         return Ok(false);
     }
     match item.parse(alloc) {
         Ok(TypeData::FieldList(list)) => Ok(list.continuation.is_some()),
-        Err(Error::OutOfMemory) => Err(Error::OutOfMemory),
+        Err(Error::OutOfMemory) => Err(AllocError),
         _ => Ok(false),
     }
 }
@@ -129,10 +124,9 @@ fn as_count(is: bool) -> u64
 }
 
 /// Walks over a table, and counts its records.
-fn count_records(alloc: Global, table: &TypeInformation) -> Result<Tally>
+fn count_records(alloc: Global, table: &TypeInformation) -> Result<Tally, AllocError>
     requires { IsTable table.now }
-    ensures tally { IfOk result (IsTally table.now) }
-    ensures memory { FailsOnlyForMemory result }
+    ensures { IfOk result (IsTally table.now) }
 {
     let mut counts = zeros(alloc, KINDS)?;
     let mut sizes = zeros(alloc, KINDS)?;
@@ -188,9 +182,8 @@ pub struct Walked {
 
 /// Walks over a table, and returns its header, which kinds its records have, how many records there
 /// are, and the fault at which the walk stops, if it does.
-pub fn walk_over(alloc: Global, table: &TypeInformation) -> Result<Walked>
-    ensures walked { IfOk result (IsWalked table.now) }
-    ensures memory { FailsOnlyForMemory result }
+pub fn walk_over(alloc: Global, table: &TypeInformation) -> Result<Walked, AllocError>
+    ensures { IfOk result (IsWalked table.now) }
 {
     let header = table.header();
     let Tally {

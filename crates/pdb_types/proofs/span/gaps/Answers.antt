@@ -9,7 +9,7 @@ pub sorted_gaps-requires : goal.sorted_gaps-requires
 sorted_gaps-requires c = IsNonDecreasingBy-from_sort_by_key
     (λ (span : Span). span.start) _ c.sort_unstable_by_key.ensures.sorted (λ a r f k. search rules)
 
-pub returns-clause-gaps : goal.returns-clause-gaps
-returns-clause-gaps c =
+pub returns : goal.returns
+returns c =
     IfOk-weaker _ _ _ (λ gaps are. gaps_moved _ _ _ _ c.sort_unstable_by_key.ensures.permutation are)
-    c.sorted_gaps.ensures.gaps
+    c.sorted_gaps.ensures

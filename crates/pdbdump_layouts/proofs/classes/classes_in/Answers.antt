@@ -12,7 +12,7 @@ loop-number-init c =
 pub loop-number-preserved-then-not-branch : goal.loop-number-preserved-then-not-branch
 loop-number-preserved-then-not-branch c =
     selected_passed _ _ _ _ (rw (c.header-header.ensures.header, c.items.ensures) at c.loop-number.auto.number)
-    c.loop-number.invariant (λ is. false≢true (sym c.if-not-branch.true ∙ c.in_ok-is_class.ensures.is.1
+    c.loop-number.invariant (λ is. false≢true (sym c.if-not-branch.true ∙ c.in_ok-is_class.ensures.1
     (class_item _ _ _ _ _ c.in-Ok.ensures.index c.in-Ok.ensures.item is)))
 
 pub loop-number-preserved : goal.loop-number-preserved
@@ -20,10 +20,10 @@ loop-number-preserved c =
     rw (c.in_ok-push.ensures.items, map-append)
     (selected_taken _ _ _ _ (rw (c.header-header.ensures.header, c.items.ensures) at c.loop-number.auto.number)
     c.loop-number.invariant (item_class _ _ _ _ _ c.in-Ok.ensures.index c.in-Ok.ensures.item
-    (c.in_ok-is_class.ensures.is.0 c.if-not-branch.false)))
+    (c.in_ok-is_class.ensures.0 c.if-not-branch.false)))
 
-pub returns-in_default-clause-classes : goal.returns-in_default-clause-classes
-returns-in_default-clause-classes c =
+pub returns-in_default : goal.returns-in_default
+returns-in_default c =
     let least = rw (c.header-header.ensures.header, c.items.ensures) at c.loop-number.auto.number in
     let most = rw (c.header-header.ensures.header, c.items.ensures) at c.loop-number-test.true in
     selected_rest _ _ _ _ _ least (omega (arith, most)) c.loop-number.invariant

@@ -37,7 +37,7 @@ push_inner-returns-clause-follows t c =
     on_ok_weaker _ (held _ _ _ _ _ _ _ _ _ _ _ _ _ (omega arith) c.take.ensures.asked (grind (arith, common_steps))
     c.inner_start.ensures c.deref.ensures.value (a_class _ _ _ _ (rw c.in-Some.is at c.inner_type.ensures)
     (rw c.in-Some-2.is at c.in_ok-layout.ensures.fields) (rw c.in-Some-2.is at c.in_ok-layout.ensures.gaps))
-    c.in_ok-rows.ensures.rows) c.push_rows.ensures.expanded
+    c.in_ok-rows.ensures) c.push_rows.ensures.expanded
 
 pub push_rows-loop-row-init : goal.push_rows-loop-row-init
 push_rows-loop-row-init t c = (refl, none_shown _ _ _ _, none_expanded _ _ _ _ _ _)

@@ -4,8 +4,8 @@ use Rattle.std.proofs.lemmas.List.Sorted.{IsNonDecreasingBy-from_sort_by_key}
 use Rattle.pdbdump_layouts.specs.LayoutRow.{row_start}
 use Rattle.pdbdump_layouts.proofs.layout_row.rows_of.Goals as goal
 
-pub returns-clause-rows : goal.returns-clause-rows
-returns-clause-rows c = record {
+pub returns : goal.returns
+returns c = record {
   each = rw c.in_ok-rows.ensures.ok at c.in_ok-sort_by_key.ensures.permutation;
   sorted = IsNonDecreasingBy-from_sort_by_key row_start _ c.in_ok-sort_by_key.ensures.sorted (λ a r f k. search rules);
   stable = rw c.in_ok-rows.ensures.ok at (c.in_ok-sort_by_key.ensures.stable row_start

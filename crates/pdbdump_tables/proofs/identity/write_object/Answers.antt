@@ -1,10 +1,11 @@
+use Rattle.std.proofs.Common.{refl}
 use Rattle.pdb_base.proofs.lemmas.Refused.{passed_on}
 use Rattle.pdb_output.proofs.lemmas.Written.{lacks_all}
 use Rattle.pdbdump_tables.specs.Identity.{identity_line}
 use Rattle.pdbdump_tables.proofs.identity.write_object.Goals as goal
 
 pub returns-in_err-key : goal.returns-in_err-key
-returns-in_err-key g c = rw (passed_on _ _ c.from_residual.ensures.1) (lacks_all _ _ _ c.in_err-key.ensures.memory)
+returns-in_err-key g c = rw (passed_on _ _ c.from_residual.ensures.1) (lacks_all _ _ _ refl)
 
 pub returns : goal.returns
 unfolding identity_line

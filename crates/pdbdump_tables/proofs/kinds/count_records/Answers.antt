@@ -36,10 +36,10 @@ loop-item-preserved c =
       arith,
       c.note-in-Ok-Some.new.counts.ok.0,
       c.note-in-Ok-Some.ensures.kinds,
-    )) c.in_ok-is_continued-in-Ok-Some.ensures.ok)
+    )) c.in_ok-is_continued-in-Ok-Some.ensures)
 
-pub returns-in-Ok-None-clause-tally : goal.returns-in-Ok-None-clause-tally
-returns-in-Ok-None-clause-tally c =
+pub returns-in-Ok-None : goal.returns-in-Ok-None
+returns-in-Ok-None c =
     let step = rw c.in-Ok-None.field-0-is at c.in-Ok-None.ensures in
     let all = counted_all _ _ _ _ _ _ c.loop-item.invariant (step_none _ _ _ step).0 in
     record {
@@ -52,8 +52,8 @@ returns-in-Ok-None-clause-tally c =
           sym (stops_not _ _ _ _ c.loop-item.invariant.same step);
     }
 
-pub returns-in-Err-clause-tally : goal.returns-in-Err-clause-tally
-returns-in-Err-clause-tally c =
+pub returns-in-Err : goal.returns-in-Err
+returns-in-Err c =
     let all = counted_all _ _ _ _ _ _ c.loop-item.invariant (step_err _ _ _ _ c.in-Err.ensures).past in
     record {
       counts = c.loop-item.invariant.count_notes.kinds;

@@ -22,6 +22,6 @@ loop-leaf-preserved c =
           (ap (λ (kinds : Vec KindCount). kinds.items) w.kinds-is) c.loop-leaf.invariant
     ]
 
-pub returns-clause-present : goal.returns-clause-present
-returns-clause-present c = present_end (noted_kind c.args.counts.now c.args.sizes.now) 0x10000 c.loop-leaf.leaf _ _
+pub returns : goal.returns
+returns c = present_end (noted_kind c.args.counts.now c.args.sizes.now) 0x10000 c.loop-leaf.leaf _ _
     c.loop-leaf-test.false c.loop-leaf.invariant

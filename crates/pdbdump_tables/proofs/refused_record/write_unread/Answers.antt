@@ -12,7 +12,7 @@ returns-in_default g c =
 
 pub returns-in_err-make_refused : goal.returns-in_err-make_refused
 returns-in_err-make_refused g c =
-    rw (passed_on _ _ c.from_residual.ensures.1) (lacks_early _ _ _ c.in_err-make_refused.ensures)
+    rw (passed_on _ _ c.from_residual.ensures.1) (lacks_early _ _ _ refl)
 
 pub returns-in_err-write : goal.returns-in_err-write
 returns-in_err-write g c =

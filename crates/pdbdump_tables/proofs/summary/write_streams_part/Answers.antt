@@ -1,3 +1,4 @@
+use Rattle.std.proofs.Common.{refl}
 use Rattle.pdb_base.proofs.lemmas.Refused.{passed_on}
 use Rattle.pdb_output.proofs.lemmas.Written.{first_cut, lacks_all}
 use Rattle.pdbdump_tables.specs.Summary.{streams_part}
@@ -5,7 +6,7 @@ use Rattle.pdbdump_tables.proofs.summary.write_streams_part.Goals as goal
 
 pub returns-in_err-headers-clause-lines : goal.returns-in_err-headers-clause-lines
 returns-in_err-headers-clause-lines g c =
-    rw (passed_on _ _ c.from_residual.ensures.1) (lacks_all _ _ _ c.in_err-headers.ensures.memory)
+    rw (passed_on _ _ c.from_residual.ensures.1) (lacks_all _ _ _ refl)
 
 pub returns-in_err-roles-clause-lines : goal.returns-in_err-roles-clause-lines
 unfolding streams_part

@@ -1,5 +1,5 @@
 -- What stands there at each exit.
-use Rattle.std.proofs.Common.{Ok, Err, ◌∙◌}
+use Rattle.std.proofs.Common.{Ok, Err, refl, ◌∙◌}
 use Rattle.pdb_base.proofs.lemmas.Refused.{passed_on}
 use Rattle.pdbdump_tables.proofs.ListingLemmas.{ends_cut, ends_lacking, ends_stopped, ends_whole, line_written}
 use Rattle.pdbdump_tables.proofs.ListingLemmas.{placed_next, so_far_more}
@@ -13,7 +13,7 @@ returns-in_err-item g c = rw (passed_on _ _ c.from_residual.ensures.1)
 pub returns-in_err-make_type : goal.returns-in_err-make_type
 returns-in_err-make_type g c =
     rw (passed_on _ _ c.from_residual-in_err-make_type.ensures.1)
-    (ends_lacking _ _ _ _ _ _ c.loop-line.invariant c.in_err-make_type.ensures)
+    (ends_lacking _ _ _ _ _ _ c.loop-line.invariant refl)
 
 pub returns-in_err-write : goal.returns-in_err-write
 returns-in_err-write g c =

@@ -8,7 +8,7 @@ use Rattle.pdbdump_tables.proofs.type_listing.write_value.Goals as goal
 
 pub returns-in_err-make_full : goal.returns-in_err-make_full
 returns-in_err-make_full g c =
-    rw (passed_on _ _ c.from_residual.ensures.1) (lacks_early _ _ _ c.in_err-make_full.ensures)
+    rw (passed_on _ _ c.from_residual.ensures.1) (lacks_early _ _ _ refl)
 
 pub returns-in_err-write : goal.returns-in_err-write
 returns-in_err-write g c =

@@ -16,7 +16,7 @@ returns-in_err-item c = rw (passed_on _ _ c.from_residual.ensures.1)
 
 pub loop-found-preserved : goal.loop-found-preserved
 loop-found-preserved c =
-    rw c.in_ok-note.ensures.ok (found_more _ _ _ _ _ _ c.loop-found.invariant
+    rw c.in_ok-note.ensures (found_more _ _ _ _ _ _ c.loop-found.invariant
     (rw c.in-Some.is at c.in_ok-item.ensures))
 
 pub returns : goal.returns
