@@ -1,4 +1,4 @@
-//! Results of calls that fail only for lack of memory.
+//! Results of calls that fail only if an allocation does.
 
 use std::alloc::AllocError;
 

@@ -1,6 +1,7 @@
 -- Steps of showing layouts.
 use Rattle.std.proofs.Common.{◌≡◌, ◌≢◌, ◌⊎◌, subst, refl, inl, inr, ℕ, ◌<◌, true, List, [], ◌++◌, map, arith, length}
 use Rattle.std.proofs.Common.{◌∷◌, Some, Ok, Err, Result, Vec, Global, IfOk, OnOk}
+use Rattle.std.specs.declared.alloc.AllocError.{AllocError}
 use Rattle.std.specs.List.{list_any}
 use Rattle.std.proofs.lemmas.List.{length-map, map-append}
 use Rattle.std.proofs.lemmas.List.Sorted.{IsPermutation-map}
@@ -105,7 +106,8 @@ types_more table options form indexes all index old mid new are before shown =
     rw are (AreTypesShown.more indexes index old mid new before shown)
 
 -- types in the order of their ranks
-pub ordered_by : (found : List ℕ) (ranks ranks' sorted : List Rank) (result : Result (Vec TypeIndex Global) Error)
+pub ordered_by : (found : List ℕ) (ranks ranks' sorted : List Rank)
+    (result : Result (Vec TypeIndex Global) AllocError)
     → map (λ rank. rank.index.0) ranks ≡ found → sorted ≡ ranks' → IsPermutation ranks ranks'
     → IfOk result (λ types. map (λ index. index.0) types.items ≡ map (λ rank. rank.index.0) sorted)
     → IfOk result (λ types. IsPermutation found (map (λ index. index.0) types.items))
