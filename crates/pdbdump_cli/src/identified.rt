@@ -3,19 +3,18 @@
 ghost use Rattle.std.specs.Prelude.{◌≡◌, ◌↔◌, IsTrue, IfOk};
 ghost use Rattle.std.specs.Option.{option_map};
 ghost use Rattle.pdb_base.specs.Answer.{Answers};
-ghost use Rattle.pdb_base.specs.Memory.{FailsOnlyForMemory};
 ghost use Rattle.pdbdump_cli.specs.IdWords.{identify_view};
 ghost use Rattle.pdbdump_cli.specs.Identified.{IsConcluded, IsExpected, IsIdDone, IsIdentified, IsIdentityShown};
 ghost use Rattle.pdbdump_cli.specs.Identified.{identity_in, other_format};
 
 use crate::command::Identify;
 use crate::served::end;
-use pdb_container::{PDB, Result};
+use pdb_container::{Error, PDB};
 use pdb_identity::{Format, Identity};
 use pdb_output::Output;
 use pdbdump_rows::Form;
 use pdbdump_tables::{is_key, write_identity};
-use std::alloc::Global;
+use std::alloc::{AllocError, Global};
 use std::io::Write;
 
 /// What is written if the file is not the expected one.
@@ -41,7 +40,7 @@ fn other_format(format: Format) -> Option<&'static str>
 
 /// Reads what identifies a file.
 #[tactic(auto, unfolding(crate::specs::Identified::identity_in))]
-fn identity_in(alloc: Global, file: Vec<u8>) -> Result<Identity>
+fn identity_in(alloc: Global, file: Vec<u8>) -> Result<Identity, Error>
     ensures { Answers (λ identity. identity) result (identity_in file.items) }
 {
     let mut file = PDB::open(alloc, file)?;
@@ -49,10 +48,13 @@ fn identity_in(alloc: Global, file: Vec<u8>) -> Result<Identity>
 }
 
 /// Returns whether a file has the key that is expected, if any is.
-fn is_expected(alloc: Global, expected: Option<&str>, identity: &Identity) -> Result<bool>
-    ensures ok { IfOk result (λ is_expected. IsTrue is_expected ↔
+fn is_expected(
+    alloc: Global,
+    expected: Option<&str>,
+    identity: &Identity,
+) -> Result<bool, AllocError>
+    ensures { IfOk result (λ is_expected. IsTrue is_expected ↔
         IsExpected (option_map (λ word. word.now) expected.entry) identity.now) }
-    ensures memory { FailsOnlyForMemory result }
 {
     match expected {
         Some(word) => is_key(alloc, word, identity),
@@ -68,7 +70,7 @@ fn write_found<W: Write>(
     identity: &Identity,
     form: Form,
     out: &mut Output<W>,
-) -> Result<bool>
+) -> Result<bool, Error>
     ensures { IsIdentityShown form (identify_view asked.now) identity.now out.old out.new result }
 {
     let is_expected = is_expected(alloc, asked.expected, identity)?;
@@ -83,7 +85,7 @@ fn identify<W: Write>(
     asked: &Identify<'_>,
     form: Form,
     out: &mut Output<W>,
-) -> Result<bool>
+) -> Result<bool, Error>
     ensures { IsIdentified form (identify_view asked.now) file.items out.old out.new result }
 {
     match identity_in(alloc, file) {
@@ -95,7 +97,7 @@ fn identify<W: Write>(
 /// Ends the program after a file was identified.
 fn conclude<O: Write, E: Write>(
     alloc: Global,
-    identified: Result<bool>,
+    identified: Result<bool, Error>,
     out: &mut Output<O>,
     err: &mut Output<E>,
 ) -> u8

@@ -3,13 +3,12 @@
 ghost use Rattle.std.specs.Prelude.{◌≡◌, map, IfOk};
 ghost use Rattle.std.specs.Option.{option_map};
 ghost use Rattle.std.specs.List.{list_any};
-ghost use Rattle.pdb_base.specs.Memory.{FailsOnlyForMemory};
 ghost use Rattle.pdbdump_cli.specs.ValidateWords.{is_unknown, options_in, paths_in, validate_of, validate_view};
 
 use crate::command::{Validate, ValidateOptions};
 use crate::words::{any_is, is_option};
 use pdb_consistency::Extent;
-use std::alloc::Global;
+use std::alloc::{AllocError, Global};
 
 /// Returns whether a word is an option that `validate` doesn't take.
 fn is_unknown(word: &str) -> bool
@@ -26,10 +25,9 @@ fn any_unknown(words: &[&str]) -> bool
 }
 
 /// Returns the words that are no options, which are paths.
-fn paths_in<'w>(alloc: Global, words: &[&'w str]) -> pdb_container::Result<Vec<&'w str>>
-    ensures paths { IfOk result (λ paths. map (λ path. path.now) paths.items ≡
+fn paths_in<'w>(alloc: Global, words: &[&'w str]) -> Result<Vec<&'w str>, AllocError>
+    ensures { IfOk result (λ paths. map (λ path. path.now) paths.items ≡
         paths_in (map (λ word. word.now) words.now)) }
-    ensures memory { FailsOnlyForMemory result }
 {
     let mut paths = Vec::new(alloc);
     for word in words {
@@ -61,15 +59,11 @@ fn options_in(words: &[&str]) -> ValidateOptions
 /// them: `--all`, `--strict`, `--quiet` and paths in any order, at least one path.
 ///
 /// # Errors
-/// Fails with `OutOfMemory` if an allocation fails.
+/// Fails if an allocation fails.
 #[tactic(auto, unfolding(crate::specs::ValidateWords::validate_of), using(crate::proofs::ValidateLemmas::any_said))]
-pub fn validate_of<'w>(
-    alloc: Global,
-    words: &[&'w str],
-) -> pdb_container::Result<Option<Validate<'w>>>
-    ensures ok { IfOk result (λ asked. option_map validate_view asked ≡
+pub fn validate_of<'w>(alloc: Global, words: &[&'w str]) -> Result<Option<Validate<'w>>, AllocError>
+    ensures { IfOk result (λ asked. option_map validate_view asked ≡
         validate_of (map (λ word. word.now) words.now)) }
-    ensures memory { FailsOnlyForMemory result }
 {
     if any_unknown(words) {
         return Ok(None);

@@ -3,7 +3,6 @@
 ghost use Rattle.std.specs.Prelude.{◌≡◌, map, IfOk};
 ghost use Rattle.std.specs.Option.{option_map};
 ghost use Rattle.std.specs.List.{list_any};
-ghost use Rattle.pdb_base.specs.Memory.{FailsOnlyForMemory};
 ghost use Rattle.pdb_cli.specs.Words.{same};
 ghost use Rattle.pdbdump_cli.specs.Words.{arguments_view, arguments_with, call_of, call_view, call_with, command_with};
 ghost use Rattle.pdbdump_cli.specs.Words.{extract_of, extract_view, first_verb, frame_option, is_option};
@@ -14,9 +13,8 @@ ghost use Rattle.pdbdump_cli.specs.Words.{with_option, with_stream};
 use crate::command::{Call, Command, Extract, Misuse, Task, Verb};
 use crate::id_options::{IdOptions, with_id_option};
 use pdb_cli::number;
-use pdb_container::Error;
 use pdbdump_tables::MapStreams;
-use std::alloc::Global;
+use std::alloc::{AllocError, Global};
 
 /// Returns whether one of the words is the wanted one.
 pub fn any_is(words: &[&str], wanted: &str) -> bool
@@ -26,10 +24,9 @@ pub fn any_is(words: &[&str], wanted: &str) -> bool
 }
 
 /// Returns the words without `--json`, which may be anywhere among them.
-pub fn plain_words<'w>(alloc: Global, words: &[&'w str]) -> pdb_container::Result<Vec<&'w str>>
-    ensures plain { IfOk result (λ plain. map (λ word. word.now) plain.items ≡
+pub fn plain_words<'w>(alloc: Global, words: &[&'w str]) -> Result<Vec<&'w str>, AllocError>
+    ensures { IfOk result (λ plain. map (λ word. word.now) plain.items ≡
         plain_words (map (λ word. word.now) words.now)) }
-    ensures memory { FailsOnlyForMemory result }
 {
     let mut plain = Vec::new(alloc);
     for word in words {

@@ -28,8 +28,8 @@ other_word words i d within none =
     list_all-map is_utf8 (λ (word : Bor (List ℕ)). word.now) words
     ∙ list_all_at (λ (word : Bor (List ℕ)). is_utf8 word.now) words i d within false_here
 
-pub returns-in-Err-clause-texts : goal.returns-in-Err-clause-texts
-returns-in-Err-clause-texts c =
+pub returns-in-Err : goal.returns-in-Err
+returns-in-Err c =
     rw (other_word c.args.words.now c.loop-word.word-index _ c.loop-word-test.true c.in-Err.ensures.cases.0) refl
 
 pub loop-word-preserved : goal.loop-word-preserved
