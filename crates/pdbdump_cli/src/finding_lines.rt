@@ -22,7 +22,8 @@ use pdb_base::{Error, RawString, Result};
 use pdb_validation::{Finding, Problem};
 use pdbdump_rows::names::INDEX;
 use pdbdump_rows::{Form, Line, LineResult, Value, append_line, error_text, optional_number};
-use std::alloc::Global;
+use std::alloc::{AllocError, Global};
+use std::result;
 
 /// Appends a label and a number behind it in hexadecimal digits.
 #[tactic(auto, unfolding(crate::specs::FindingLines::label_and_number))]
@@ -70,20 +71,18 @@ fn push_place(alloc: Global, finding: &Finding, out: &mut Vec<u8>) -> Result<()>
 }
 
 /// Returns what is wrong, in words.
-fn problem_text(alloc: Global, problem: &Problem) -> Result<Vec<u8>>
-    ensures ok { IfOk result (λ text. text.items ≡ problem_words (problem_view problem.now)) }
-    ensures memory { FailsOnlyForMemory result }
+fn problem_text(alloc: Global, problem: &Problem) -> result::Result<Vec<u8>, AllocError>
+    ensures { IfOk result (λ text. text.items ≡ problem_words (problem_view problem.now)) }
 {
     match problem {
-        Problem::Error(error) => Ok(error_text(alloc, error)?),
+        Problem::Error(error) => error_text(alloc, error),
         Problem::Inconsistent(_) => Ok(format!(in alloc; "{problem}")?.into_bytes()),
     }
 }
 
 /// Returns the code of a finding as text.
-fn code_text(alloc: Global, finding: &Finding) -> Result<String>
-    ensures ok { IfOk result (λ text. string_bytes text ≡ fault_code (finding_view finding.now)) }
-    ensures memory { FailsOnlyForMemory result }
+fn code_text(alloc: Global, finding: &Finding) -> result::Result<String, AllocError>
+    ensures { IfOk result (λ text. string_bytes text ≡ fault_code (finding_view finding.now)) }
 {
     let code = finding.code();
     Ok(format!(in alloc; "{code}")?)
