@@ -4,4 +4,3 @@ pub mod MergeLemmas
 pub mod TableLemmas
 pub mod SortLemmas
 pub mod LawLemmas
-pub mod SplitLemmas

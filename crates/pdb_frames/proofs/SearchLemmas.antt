@@ -183,22 +183,20 @@ last_from span address (suc k) (x ∷ y ∷ xs) d up within below above =
     (λ j before. below (suc j) (omega (arith, before)))
     (λ j behind inside. above (suc j) (omega (arith, behind)) (omega (arith, inside)))
 
-pub found_none : {A : Type 0} (span : A → Span) (address : ℕ) (xs : List A) (place last : ℕ)
-    → IsFound (start_at span xs) (length xs) address place last → place ≡ 0 → IsStrictlyIncreasing (starts span xs)
+pub found_none : {A : Type 0} (span : A → Span) (address : ℕ) (xs : List A) (last : ℕ)
+    → IsFound (start_at span xs) (length xs) address 0 last → IsStrictlyIncreasing (starts span xs)
     → xs ≡ from_address span address xs
-found_none span address xs place last found none up =
+found_none span address xs last found up =
     sym (none_from span address xs (rising (starts span xs) up)
-    (λ j within. found.above (starts_rise span xs up) j (omega (arith, none)) within))
+    (λ j within. found.above (starts_rise span xs up) j (omega arith) within))
 
-pub found_last : {A : Type 0} (span : A → Span) (address : ℕ) (xs : List A) (place last : ℕ) (d : A)
-    → IsFound (start_at span xs) (length xs) address place last → 0 < place → IsStrictlyIncreasing (starts span xs)
-    → cond (begins (span (get_or xs (place - 1) d)) address) (drop (place - 1) xs) (drop place xs)
+found_last : {A : Type 0} (span : A → Span) (address : ℕ) (xs : List A) (place last : ℕ) (d : A)
+    → IsFound (start_at span xs) (length xs) address (suc place) last → IsStrictlyIncreasing (starts span xs)
+    → cond (begins (span (get_or xs place d)) address) (drop place xs) (drop (suc place) xs)
     ≡ from_address span address xs
-found_last span address xs place last d found some up =
-    let one : place ≡ suc (place - 1) = omega (arith, some) in
-    ap (λ (n : ℕ). cond (begins (span (get_or xs (place - 1) d)) address) (drop (place - 1) xs) (drop n xs)) one
-    ∙ sym (last_from span address (place - 1) xs d (rising (starts span xs) up) (omega (arith, some, found.within))
-    (λ j before. found.below (starts_rise span xs up) j (omega (arith, before, some)))
+found_last span address xs place last d found up =
+    sym (last_from span address place xs d (rising (starts span xs) up) (omega (arith, found.within))
+    (λ j before. found.below (starts_rise span xs up) j (omega (arith, before)))
     (λ j behind inside. found.above (starts_rise span xs up) j (omega (arith, behind)) inside))
 
 -- ---- what stands in bytes
@@ -219,55 +217,23 @@ found_in span size value bytes address place last found =
     subst (λ (n : ℕ). IsFound (start_at span (values_of_size size value bytes)) n address place last)
     (sym (spelled_length size value bytes)) found
 
-abbrev span_with : ℕ → ℕ → Span
-span_with start size = record { start = start; size = size }
-
-span_is : (there : Span) (start size : ℕ) → there.start ≡ start → there.size ≡ size
-    → there ≡ record { start = start; size = size }
-span_is there start size same also = ap (λ (n : ℕ). span_with n there.size) same
-    ∙ ap (λ (n : ℕ). span_with start n) also
-
--- the record before the place found, of which its start and its size are known
-found_there : {A : Type 0} (span : A → Span) (size : ℕ) (value : List ℕ → A) (bytes : List ℕ)
-    (address place start code : ℕ) → IsFound (start_at span (values_of_size size value bytes))
-    (length bytes / size) address place start → 0 < place
-    → code ≡ (span (value (take size (drop (size * (place - 1)) bytes)))).size
+-- the record before the place found, of which it is known whether the rest begins with it
+pub found_there : {A : Type 0} (span : A → Span) (size : ℕ) (value : List ℕ → A) (bytes : List ℕ)
+    (address place last start code : ℕ) (first : Bool)
+    → IsFound (start_at span (values_of_size size value bytes)) (length bytes / size) address place start
+    → place ≡ suc last → code ≡ (span (value (take size (drop (size * last) bytes)))).size
+    → first ≡ begins (record { start = start; size = code }) address
     → IsStrictlyIncreasing (starts span (values_of_size size value bytes))
-    → cond (begins (record { start = start; size = code }) address) (drop (place - 1) (values_of_size size value bytes))
-    (drop place (values_of_size size value bytes)) ≡ from_address span address (values_of_size size value bytes)
-found_there {A} span size value bytes address place start code found some is up =
+    → cond first (drop last (values_of_size size value bytes)) (drop place (values_of_size size value bytes))
+    ≡ from_address span address (values_of_size size value bytes)
+found_there {A} span size value bytes address place last start code first found next is begun up =
     let records = values_of_size size value bytes in
-    let within : place - 1 < length bytes / size = omega (arith, some, found.within) in
-    let here = spelled_at size value bytes (place - 1) (value []) within in
-    let starts_here : (span (get_or records (place - 1) (value []))).start ≡ start = ap (λ (x : A). (span x).start) here
-    ∙ sym (start_there span size value bytes (place - 1) within) ∙ (found.before some).0 in
-    let sized : (span (get_or records (place - 1) (value []))).size ≡ code = ap (λ (x : A). (span x).size) here
-    ∙ sym is in
-    ap (λ (s : Span). cond (begins s address) (drop (place - 1) records) (drop place records))
-    (sym (span_is (span (get_or records (place - 1) (value []))) start code starts_here sized))
-    ∙ found_last span address records place start (value [])
-    (found_in span size value bytes address place start found) some up
-
-pub found_begins : {A : Type 0} (span : A → Span) (size : ℕ) (value : List ℕ → A) (bytes : List ℕ)
-    (address place start code : ℕ) → IsFound (start_at span (values_of_size size value bytes))
-    (length bytes / size) address place start → 0 < place
-    → code ≡ (span (value (take size (drop (size * (place - 1)) bytes)))).size
-    → begins (record { start = start; size = code }) address ≡ true
-    → IsStrictlyIncreasing (starts span (values_of_size size value bytes))
-    → drop (place - 1) (values_of_size size value bytes) ≡ from_address span address (values_of_size size value bytes)
-found_begins {A} span size value bytes address place start code found some is test up =
-    ap (λ (b : Bool). cond b (drop (place - 1) (values_of_size size value bytes))
-    (drop place (values_of_size size value bytes)))
-    (sym test) ∙ found_there span size value bytes address place start code found some is up
-
-pub found_passes : {A : Type 0} (span : A → Span) (size : ℕ) (value : List ℕ → A) (bytes : List ℕ)
-    (address place start code : ℕ) → IsFound (start_at span (values_of_size size value bytes))
-    (length bytes / size) address place start → 0 < place
-    → code ≡ (span (value (take size (drop (size * (place - 1)) bytes)))).size
-    → begins (record { start = start; size = code }) address ≡ false
-    → IsStrictlyIncreasing (starts span (values_of_size size value bytes))
-    → drop place (values_of_size size value bytes) ≡ from_address span address (values_of_size size value bytes)
-found_passes {A} span size value bytes address place start code found some is test up =
-    ap (λ (b : Bool). cond b (drop (place - 1) (values_of_size size value bytes))
-    (drop place (values_of_size size value bytes)))
-    (sym test) ∙ found_there span size value bytes address place start code found some is up
+    let there = value (take size (drop (size * last) bytes)) in
+    let within : last < length bytes / size = omega (arith, next, found.within) in
+    let before : last ≡ place - 1 = omega (arith, next) in
+    let at : (span there).start ≡ start = sym (start_there span size value bytes last within)
+    ∙ ap (λ (n : ℕ). start_at span records n) before ∙ (found.before (omega (arith, next))).0 in
+    let first_is : first ≡ begins (span (get_or records last there)) address =
+    begun ∙ rw (spelled_at size value bytes last there within, at, is) refl in
+    rw (first_is, next) (found_last span address records last start there
+    (rw next at (found_in span size value bytes address place start found)) up)

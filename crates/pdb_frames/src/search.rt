@@ -1,5 +1,4 @@
-//! Search for an address among the records of a stream, by halving and by splitting into eight
-//! parts.
+//! Binary search for an address among the records of a stream.
 
 ghost use Rattle.std.specs.Prelude.{◌≡◌, ◌<◌, ◌≤◌, ◌/◌, length, map};
 ghost use Rattle.std.specs.List.Sorted.{IsStrictlyIncreasing};
@@ -28,61 +27,18 @@ struct Found {
     start: u32,
 }
 
-/// The largest number of records of a table that a processor's caches hold.
-const FEW: usize = 1 << 17;
-
-/// The largest number of records that lie so close together that reading their starts hardly waits
-/// for memory, in a table that the caches don't hold.
-const NEAR: usize = 256;
-
-/// The number of parts into which records are split when the starts of several are read at once.
-const PARTS: usize = 8;
-
-/// Returns the most records among which a search reads several starts at once, in a table of this
-/// many records.
-fn most_near(records: usize) -> usize
-    ensures { 0 < result }
-{
-    if records > FEW { NEAR } else { FEW }
-}
-
 /// Searches for the last record that starts at or below an address.
 ///
-/// As long as more records are left than lie near one another, each step halves them with a branch:
-/// a processor that predicts it reads on before it knows which half counts. Then they are split
-/// into eight parts by the starts of seven records, which are read without waiting for one another,
-/// and the last few are halved. These steps don't branch: the distance of the address from the
-/// start is kept beside the index, since one subtraction both compares and gives the distance.
-#[tactic(auto, using(pdb_base::proofs::lemmas::Halving::halving_begins, pdb_base::proofs::lemmas::Halving::halving_takes, pdb_base::proofs::lemmas::Halving::halving_passes, pdb_base::proofs::lemmas::Halving::halving_ends, crate::proofs::SplitLemmas::first_part, crate::proofs::SplitLemmas::second_part, crate::proofs::SplitLemmas::known_by_distance, crate::proofs::SplitLemmas::split_begins, crate::proofs::SplitLemmas::part_inside))]
+/// Each comparison halves the records that are left to search, whatever its result. The distance of
+/// the address from the start is kept beside the index, since one subtraction both compares and
+/// gives the distance. So a step needs no branch.
+#[tactic(auto, using(pdb_base::proofs::lemmas::Halving::halving_begins, pdb_base::proofs::lemmas::Halving::halving_takes, pdb_base::proofs::lemmas::Halving::halving_passes, pdb_base::proofs::lemmas::Halving::halving_ends))]
 fn search<R: FrameRecord>(bytes: &[u8], address: u32) -> Found
     ensures { IsFound (start_at R.span (values_of_size R.SIZE R.value bytes.now)) (length bytes.now / R.SIZE) address
         result.place result.start }
 {
-    let (mut place, mut size) = (0, bytes.len() / R::SIZE);
-    let near = most_near(size);
-    while size > near {
-        let half = size / 2;
-        if start_at::<R>(bytes, place + half) <= address {
-            place += half;
-        }
-        size -= half;
-    }
-    let mut distance = address;
-    if place > 0 {
-        distance -= start_at::<R>(bytes, place);
-    }
-    while size >= PARTS {
-        let (first, step) = (place, size / PARTS);
-        for part in 1..PARTS {
-            let ahead = first + part * step;
-            let next = start_at::<R>(bytes, ahead);
-            if next <= address {
-                place = ahead;
-                distance = address - next;
-            }
-        }
-        size -= (PARTS - 1) * step;
-    }
+    let (mut place, mut distance) = (0, address);
+    let mut size = bytes.len() / R::SIZE;
     while size > 0 {
         let middle = place + size / 2;
         let next = start_at::<R>(bytes, middle);

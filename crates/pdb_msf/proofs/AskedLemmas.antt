@@ -6,10 +6,6 @@ use Rattle.pdb_msf.specs.Header.{Head}
 use Rattle.pdb_msf.specs.Directory.{PagesOfStream, directory_of, stream_entry_of}
 use Rattle.pdb_msf.specs.File.{described_stream, requested_size}
 
--- nothing more is asked
-pub asks_nothing : (asked : ℕ) → asked < 2 ^ 64 → asked ≡ raised_by 0 asked
-asks_nothing asked fits = omega arith
-
 -- a call that stops after a first part has asked for no more than this part
 pub asks_stopped : (X : Type 0) (old new part rest : ℕ) (e : Error) → old < 2 ^ 64 → new ≡ raised_by part old
     → Asks old new (part + rest) (let r : Result X Error = Err e in r)

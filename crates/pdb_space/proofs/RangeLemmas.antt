@@ -357,11 +357,6 @@ parts_until_not_empty (mapping ∷ table) asked =
       | false ↦ some
     ]
 
-pub parts_until_laid : (table : List OmapValue) (asked : Range ℕ) → IsSortedBySource table
-    → end_to_end (parts_until table asked) ≡ pointwise (shift table) asked
-parts_until_laid table asked sorted = ap end_to_end (parts_until_sorted table asked sorted)
-    ∙ parts_are_pointwise table asked sorted
-
 -- ---- without a table
 
 kept-numbers : (s count : ℕ) → s + count ≤ largest

@@ -1,19 +1,18 @@
 -- What the search for an address has found, in the words of tables and ranges.
 use Rattle.std.proofs.Common.{◌≡◌, ℕ, zero, suc, ◌-◌, ◌/◌, ◌<◌, ◌≤◌, true, false, leb, List, [], ◌∷◌, length, get_or}
-use Rattle.std.proofs.Common.{drop, drop-cons, refl, sym, ap, subst, ◌∙◌, arith, Some, None, Option}
+use Rattle.std.proofs.Common.{drop, refl, sym, ap, subst, ◌∙◌, arith, Some, None, Option}
 use Rattle.std.specs.declared.ops.Range.{Range}
-use Rattle.std.specs.List.{filter, last_or, Contains, All, cons_option}
+use Rattle.std.specs.List.{filter, last_or, Contains}
 use Rattle.std.proofs.lemmas.Bool.{le-leb, lt-leb}
-use Rattle.std.proofs.lemmas.List.{get_or-map, length-drop}
+use Rattle.std.proofs.lemmas.List.{get_or-map}
 use Rattle.std.proofs.lemmas.List.Elements.{Contains-get_or}
 use Rattle.std.proofs.lemmas.List.Sorted.{IsNonDecreasingBy-drop}
 use Rattle.pdb_base.specs.Halving.{Rises, IsFound}
 use Rattle.pdb_base.proofs.lemmas.Records.{spelled_length}
 use Rattle.pdb_space.specs.Omap.{OmapValue, IsSortedBySource, last_at_or_below, mapping_of, mappings_of, shift}
 use Rattle.pdb_space.specs.Omap.{source_at, target_at}
-use Rattle.pdb_space.specs.Ranges.{part, next_source, parts, parts_until, end_to_end, pointwise, IsNotEmpty}
-use Rattle.pdb_space.proofs.RangeLemmas.{part-none, parts_until_sorted, parts_until_few, parts_until_not_empty}
-use Rattle.pdb_space.proofs.RangeLemmas.{parts_are_pointwise, length-cons_option, part-not_empty, All-cons_option}
+use Rattle.pdb_space.specs.Ranges.{parts, parts_until, end_to_end, pointwise}
+use Rattle.pdb_space.proofs.RangeLemmas.{part-none, parts_until_sorted, parts_are_pointwise}
 
 nowhere : OmapValue
 nowhere = record { source = 0; target = 0 }
@@ -115,50 +114,18 @@ parts-drop (suc passed) (mapping ∷ next ∷ table) asked ended =
       (ended (suc k) (omega (arith, before))).1,
     )))
 
--- the parts from the record before the place found on
-abbrev pub parts_from : List OmapValue → Range ℕ → ℕ → ℕ → List (Range ℕ)
-parts_from table asked place last =
-    cons_option (part (mapping_with last (target_at table (place - 1)))
-    (next_source (drop place table) asked.end) asked) (parts_until (drop place table) asked)
-
 pub found_parts : (table : List OmapValue) (asked : Range ℕ) (place last : ℕ)
-    → IsFound (source_at table) (length table) asked.start place last → 0 < place → IsSortedBySource table
-    → parts_from table asked place last ≡ parts table asked
-found_parts table asked place last found some sorted =
-    let within : place - 1 < length table = omega (arith, some, found.within) in
-    let one : suc (place - 1) ≡ place = omega (arith, some) in
-    let record_is = entry table (place - 1) last within (found.before some).0 in
-    let split : drop (place - 1) table ≡ mapping_with last (target_at table (place - 1)) ∷ drop place table =
-    drop-cons table (place - 1) nowhere within
-    ∙ ap (λ (n : ℕ). get_or table (place - 1) nowhere ∷ drop n table) one
-    ∙ ap (λ (m : OmapValue). m ∷ drop place table) record_is in
-    let rest = parts_until_sorted (drop place table) asked
-    (IsNonDecreasingBy-drop (λ m. m.source) place table sorted) in
-    ap (λ (ranges : List (Range ℕ)). cons_option
-    (part (mapping_with last (target_at table (place - 1))) (next_source (drop place table) asked.end) asked)
-    ranges) rest
-    ∙ ap (λ (records : List OmapValue). parts records asked) (sym split)
-    ∙ parts-drop (place - 1) table asked (λ k before.
-    (omega (arith, before, found.within), found.below (rising table sorted) (suc k) (omega (arith, before))))
+    → IsFound (source_at table) (length table) asked.start place last → IsSortedBySource table
+    → parts_until (drop (place - 1) table) asked ≡ parts table asked
+found_parts table asked place last found sorted =
+    parts_until_sorted (drop (place - 1) table) asked (IsNonDecreasingBy-drop (λ m. m.source) (place - 1) table sorted)
+    ∙ parts-drop (place - 1) table asked (λ k before. (
+      omega (arith, before, found.within),
+      found.below (rising table sorted) (suc k) (omega (arith, before)),
+    ))
 
 pub found_laid : (table : List OmapValue) (asked : Range ℕ) (place last : ℕ)
-    → IsFound (source_at table) (length table) asked.start place last → 0 < place → IsSortedBySource table
-    → end_to_end (parts_from table asked place last) ≡ pointwise (shift table) asked
-found_laid table asked place last found some sorted =
-    ap end_to_end (found_parts table asked place last found some sorted) ∙ parts_are_pointwise table asked sorted
-
-pub found_few : (table : List OmapValue) (asked : Range ℕ) (place last : ℕ)
-    → IsFound (source_at table) (length table) asked.start place last → 0 < place
-    → length (parts_from table asked place last) ≤ length table
-found_few table asked place last found some =
-    let one = length-cons_option (part (mapping_with last (target_at table (place - 1)))
-    (next_source (drop place table) asked.end) asked) (parts_until (drop place table) asked) in
-    omega (arith, one, parts_until_few (drop place table) asked, length-drop place table, some, found.within)
-
-pub found_not_empty : (table : List OmapValue) (asked : Range ℕ) (place last : ℕ)
-    → All IsNotEmpty (parts_from table asked place last)
-found_not_empty table asked place last =
-    All-cons_option (part (mapping_with last (target_at table (place - 1)))
-    (next_source (drop place table) asked.end) asked) (parts_until (drop place table) asked)
-    (part-not_empty (mapping_with last (target_at table (place - 1))) (next_source (drop place table) asked.end) asked)
-    (parts_until_not_empty (drop place table) asked)
+    → IsFound (source_at table) (length table) asked.start place last → IsSortedBySource table
+    → end_to_end (parts_until (drop (place - 1) table) asked) ≡ pointwise (shift table) asked
+found_laid table asked place last found sorted =
+    ap end_to_end (found_parts table asked place last found sorted) ∙ parts_are_pointwise table asked sorted

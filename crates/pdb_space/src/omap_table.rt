@@ -136,21 +136,14 @@ impl OMAPTable {
     /// Together, the ranges hold in order what `lookup` returns for the addresses one by one,
     /// except those that it moves to 0xffffffff. This needn't hold if the table isn't sorted, but
     /// there is always at most one range for each record.
-    #[tactic(auto, using(crate::proofs::RangeLemmas::parts_until_sorted, crate::proofs::RangeLemmas::parts_until_laid, crate::proofs::RangeLemmas::parts_until_few, crate::proofs::RangeLemmas::parts_until_not_empty, pdb_base::proofs::lemmas::Records::spelled_length))]
+    #[tactic(auto, using(pdb_base::proofs::lemmas::Records::spelled_length))]
     pub fn lookup_range(&self, range: Range<u32>) -> RangeIter<'_>
         ensures parts { IsSortedBySource self.now → result ≡ parts self.now range }
         ensures laid { IsSortedBySource self.now → end_to_end result ≡ pointwise (shift self.now) range }
         ensures few { length result ≤ length self.now }
         ensures not_empty { All IsNotEmpty result }
     {
-        let bytes = self.bytes();
-        let found = search(bytes, range.start, &mut Count::new());
-        let Some(last) = found.place.checked_sub(1) else {
-            return RangeIter::over_records(None, self.records(), range);
-        };
-        let rest = self.records_from(found.place);
-        let record = OMAPRecord::new(found.source, target_at(bytes, last));
-        let first = record.part(rest.next_source(range.end), &range);
-        RangeIter::over_records(first, rest, range)
+        let found = search(self.bytes(), range.start, &mut Count::new());
+        RangeIter::over_records(self.records_from(found.place.saturating_sub(1)), range)
     }
 }

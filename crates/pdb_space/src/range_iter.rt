@@ -58,18 +58,13 @@ impl<'t> RangeIter<'t> {
         }
     }
 
-    /// Returns an iterator over `first`, if it is given, and then over the ranges to which the
-    /// records move parts of `asked`, stopping before the first record whose source is at or past
-    /// the end of `asked`.
-    pub(crate) fn over_records(
-        first: Option<Range<u32>>,
-        records: OMAPRecords<'t>,
-        asked: Range<u32>,
-    ) -> Self
-        ensures { result ≡ cons_option first (parts_until records.entry asked) }
+    /// Returns an iterator over the ranges to which the records move parts of `asked`, stopping
+    /// before the first record whose source is at or past the end of `asked`.
+    pub(crate) fn over_records(records: OMAPRecords<'t>, asked: Range<u32>) -> Self
+        ensures { result ≡ parts_until records.entry asked }
     {
         RangeIter {
-            first,
+            first: None,
             records,
             asked,
         }

@@ -1,10 +1,8 @@
-use Rattle.std.proofs.Common.{ap}
 use Rattle.std.specs.Prelude.{nat_eq}
 use Rattle.std.specs.Cmp.{unsigned_Decides, booleans_Decides}
 use denote.Enum.Bare.{sameb, same_true, true_same}
 use Rattle.pdb_base.specs.Derived.{TellsApart}
 use Rattle.pdb_base.proofs.lemmas.Derived.{both, options}
-use Rattle.pdb_frames.specs.declared.frame_data.FrameData.{FrameData}
 use Rattle.pdb_frames.specs.contracts.frame_type.FrameType.{the_type}
 use Rattle.pdb_frames.proofs.laws.derived.records.Goals as goal
 
@@ -40,38 +38,5 @@ returns-clause-frames c a b =
         uses_base_pointer = same.1.1.1.1.1.1.1.1.1.1.1.0 i;
         program = same.1.1.1.1.1.1.1.1.1.1.1.1 i;
       },
-      λ is. fields.1 (
-        ap (λ (x : FrameData). x.ty) is,
-        (
-          ap (λ (x : FrameData). x.code_start) is,
-          (
-            ap (λ (x : FrameData). x.code_size) is,
-            (
-              ap (λ (x : FrameData). x.locals_size) is,
-              (
-                ap (λ (x : FrameData). x.params_size) is,
-                (
-                  ap (λ (x : FrameData). x.prolog_size) is,
-                  (
-                    ap (λ (x : FrameData). x.saved_regs_size) is,
-                    (
-                      ap (λ (x : FrameData). x.max_stack_size) is,
-                      (
-                        ap (λ (x : FrameData). x.has_structured_eh) is,
-                        (
-                          ap (λ (x : FrameData). x.has_cpp_eh) is,
-                          (
-                            ap (λ (x : FrameData). x.is_function_start) is,
-                            (ap (λ (x : FrameData). x.uses_base_pointer) is, ap (λ (x : FrameData). x.program) is),
-                          ),
-                        ),
-                      ),
-                    ),
-                  ),
-                ),
-              ),
-            ),
-          ),
-        ),
-      ),
+      λ is. fields.1 (cc, (cc, (cc, (cc, (cc, (cc, (cc, (cc, (cc, (cc, (cc, (cc, cc)))))))))))),
     )

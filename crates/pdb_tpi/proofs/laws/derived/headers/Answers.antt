@@ -1,7 +1,5 @@
-use Rattle.std.proofs.Common.{ap}
 use Rattle.std.specs.Cmp.{unsigned_Decides}
 use Rattle.pdb_base.proofs.lemmas.Derived.{both}
-use Rattle.pdb_tpi.specs.declared.header.Header.{Header}
 use Rattle.pdb_tpi.proofs.DerivedLemmas.{slices}
 use Rattle.pdb_tpi.proofs.laws.derived.headers.Goals as goal
 
@@ -32,38 +30,5 @@ returns-clause-equal c a b =
         ti_off = same.1.1.1.1.1.1.1.1.1.1.0 i;
         hash_adj = same.1.1.1.1.1.1.1.1.1.1.1 i;
       },
-      λ is. fields.1 (
-        ap (λ (x : Header). x.version) is,
-        (
-          ap (λ (x : Header). x.header_size) is,
-          (
-            ap (λ (x : Header). x.minimum_index) is,
-            (
-              ap (λ (x : Header). x.maximum_index) is,
-              (
-                ap (λ (x : Header). x.gprec_size) is,
-                (
-                  ap (λ (x : Header). x.tpi_hash_stream) is,
-                  (
-                    ap (λ (x : Header). x.tpi_hash_pad_stream) is,
-                    (
-                      ap (λ (x : Header). x.hash_key_size) is,
-                      (
-                        ap (λ (x : Header). x.hash_bucket_size) is,
-                        (
-                          ap (λ (x : Header). x.hash_values) is,
-                          (
-                            ap (λ (x : Header). x.ti_off) is,
-                            ap (λ (x : Header). x.hash_adj) is,
-                          ),
-                        ),
-                      ),
-                    ),
-                  ),
-                ),
-              ),
-            ),
-          ),
-        ),
-      ),
+      λ is. fields.1 (cc, (cc, (cc, (cc, (cc, (cc, (cc, (cc, (cc, (cc, (cc, cc))))))))))),
     )
