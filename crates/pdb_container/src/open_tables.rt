@@ -126,40 +126,35 @@ impl OpenTables {
                 Ok(Reply::Bytes(stream.into_bytes()))
             }
             Query::TypeRecord { stream, index } => {
-                let mut types = table_of_stream(alloc, file, stream, self.types.take())?;
+                let types = table_of_stream(alloc, file, stream, self.types.take())?;
+                let types = self.types.insert(types);
                 if F::STAYS_OPEN {
                     types.table.learn(TypeIndex(index));
                 }
-                let reply = type_reply(alloc, &types.table, index);
-                self.types = Some(types);
-                reply
+                type_reply(alloc, &types.table, index)
             }
             Query::Fields { stream, index } => {
-                let mut types = table_of_stream(alloc, file, stream, self.types.take())?;
-                let reply = fields_reply(alloc, &mut types.table, index);
-                self.types = Some(types);
-                reply
+                let types = table_of_stream(alloc, file, stream, self.types.take())?;
+                let types = self.types.insert(types);
+                fields_reply(alloc, &mut types.table, index)
             }
             Query::IdRecord { stream, index } => {
-                let mut ids = table_of_stream(alloc, file, stream, self.ids.take())?;
+                let ids = table_of_stream(alloc, file, stream, self.ids.take())?;
+                let ids = self.ids.insert(ids);
                 if F::STAYS_OPEN {
                     ids.table.learn(IdIndex(index));
                 }
-                let reply = id_reply(alloc, &ids.table, index);
-                self.ids = Some(ids);
-                reply
+                id_reply(alloc, &ids.table, index)
             }
             Query::Name { stream, offset } => {
                 let names = table_of_stream(alloc, file, stream, self.names.take())?;
-                let reply = name_reply(alloc, &names.table, offset);
-                self.names = Some(names);
-                reply
+                let names = self.names.insert(names);
+                name_reply(alloc, &names.table, offset)
             }
             Query::Ranges { omap, start, end } => {
                 let table = table_of_stream(alloc, file, omap, self.omap.take())?;
-                let reply = ranges_reply(alloc, &table.table, start..end);
-                self.omap = Some(table);
-                reply
+                let table = self.omap.insert(table);
+                ranges_reply(alloc, &table.table, start..end)
             }
         }
     }
