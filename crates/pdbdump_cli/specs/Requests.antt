@@ -6,6 +6,7 @@ use Rattle.pdbdump_rows.specs.declared.form.Form.{Form}
 use Rattle.pdbdump_cli.specs.Identified.{IsIdDone}
 use Rattle.pdbdump_cli.specs.IdWords.{identify_view}
 use Rattle.pdbdump_cli.specs.LaidOut.{IsLayoutDone}
+use Rattle.pdbdump_cli.specs.LayoutWords.{layouts_view}
 use Rattle.pdbdump_cli.specs.Listed.{Does}
 use Rattle.pdbdump_cli.specs.Served.{IsEnded}
 use Rattle.pdbdump_cli.specs.Validated.{IsValidated}
@@ -29,4 +30,5 @@ IsDone form (requests.Identify asked) file out out' err err' status =
     IsIdDone form (identify_view asked) file out out' err err' status
 IsDone form (requests.Validate options path) file out out' err err' status =
     IsValidated options form path.now file out out' err err' status
-IsDone form (requests.Layout asked) file out out' err err' status = IsLayoutDone file out' err err' status
+IsDone form (requests.Layout asked) file out out' err err' status =
+    IsLayoutDone form (layouts_view asked) file out out' err err' status

@@ -1,8 +1,12 @@
 //! What `layout` does with a file.
 
-ghost use Rattle.pdbdump_cli.specs.LaidOut.{AreLaidOut};
+ghost use Rattle.pdb_base.specs.Answer.{Answers};
+ghost use Rattle.pdbdump_layouts.specs.Shown.{IsCallAnswered};
+ghost use Rattle.pdbdump_cli.specs.LaidOut.{AreLaidOut, type_bytes};
+ghost use Rattle.pdbdump_cli.specs.LayoutWords.{layouts_view};
 
 use crate::command::Layouts;
+use pdb_base::Stream;
 use pdb_container::{PDB, Result};
 use pdb_output::Output;
 use pdbdump_layouts::show_layouts;
@@ -12,6 +16,15 @@ use std::io::Write;
 
 /// The number of the stream of types.
 const TYPE_STREAM: u32 = 2;
+
+/// Returns the stream of types of a file.
+#[tactic(auto, using(crate::proofs::DoneLemmas::refused_or_lacking))]
+fn type_stream(alloc: Global, file: Vec<u8>) -> Result<Stream>
+    ensures { Answers (λ stream. stream) result (type_bytes file.items) }
+{
+    let file = PDB::open(alloc, file)?;
+    file.into_msf().into_stream(alloc, TYPE_STREAM, None)
+}
 
 /// Shows layouts of the classes of a file, and returns whether each name was found and no class has
 /// an error.
@@ -23,9 +36,11 @@ pub(crate) fn show_in<O: Write, E: Write>(
     out: &mut Output<O>,
     err: &mut Output<E>,
 ) -> Result<bool>
-    ensures { AreLaidOut file.items result err.old err.new }
+    ensures shown { AreLaidOut form (layouts_view asked.now) file.items out.old out.new err.old err.new result }
+    ensures answered { IsCallAnswered result err.old err.new }
 {
-    let file = PDB::open(alloc, file)?;
-    let stream = file.into_msf().into_stream(alloc, TYPE_STREAM, None)?;
-    show_layouts(alloc, stream, asked.names, &asked.options, form, out, err)
+    match type_stream(alloc, file) {
+        Ok(stream) => show_layouts(alloc, stream, asked.names, &asked.options, form, out, err),
+        Err(fault) => Err(fault),
+    }
 }

@@ -10,3 +10,13 @@ returns-in-List g c = rw c.in-List.is (record {
 
 pub returns-in-Identify : goal.returns-in-Identify
 returns-in-Identify g c = rw c.in-Identify.is c.serve_id.ensures
+
+pub returns-in-Layout : goal.returns-in-Layout
+returns-in-Layout g c = rw c.in-Layout.is (record {
+  written = c.show_in-shown.new.out;
+  told = c.show_in-shown.new.err;
+  answer = c.show_in-shown.result;
+  shown = c.show_in-shown.ensures.shown;
+  answered = c.show_in-shown.ensures.answered;
+  ends = c.end_as.ensures;
+})
