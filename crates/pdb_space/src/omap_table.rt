@@ -11,7 +11,7 @@ ghost use Rattle.pdb_space.specs.Ranges.{IsNotEmpty, end_to_end, parts, pointwis
 use crate::omap_record::OMAPRecord;
 use crate::omap_records::{OMAPRecords, RECORD_SIZE, target_at};
 use crate::range_iter::RangeIter;
-use crate::search::search;
+use crate::search::{Found, search, search_apart};
 use pdb_base::{Count, Error, Result, Stream};
 use std::marker::Model;
 use std::ops::Range;
@@ -143,7 +143,8 @@ impl OMAPTable {
         ensures few { length result ≤ length self.now }
         ensures not_empty { All IsNotEmpty result }
     {
-        let found = search(self.bytes(), range.start, &mut Count::new());
+        let mut found = Found::default();
+        search_apart(self.bytes(), range.start, &mut found);
         RangeIter::over_records(self.records_from(found.place.saturating_sub(1)), range)
     }
 }

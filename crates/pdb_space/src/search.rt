@@ -10,7 +10,7 @@ use crate::source::source_at;
 use pdb_base::Count;
 
 /// The result of a search.
-#[derive(Clone, Copy)]
+#[derive(Clone, Copy, Default)]
 pub(crate) struct Found {
     /// The index after the last record whose source is at or below the address.
     pub(crate) place: usize,
@@ -43,4 +43,14 @@ pub(crate) fn search(bytes: &[u8], address: u32, count: &mut Count) -> Found
     }
     let source = address - distance;
     Found { place, source }
+}
+
+/// Searches as `search` does, in a call of its own that writes both results. Within a function that
+/// uses the place alone, the compiler would drop the distance and branch at each comparison.
+#[inline(never)]
+pub(crate) fn search_apart(bytes: &[u8], address: u32, found: &mut Found)
+    ensures { IsFound (source_at (mappings_of bytes.now))
+        (length bytes.now / 8) address found.new.place found.new.source }
+{
+    *found = search(bytes, address, &mut Count::new());
 }

@@ -8,14 +8,12 @@ ghost use Rattle.pdbdump_cli.specs.LayoutWords.{layouts_view};
 use crate::command::Layouts;
 use pdb_base::Stream;
 use pdb_container::{PDB, Result};
+use pdb_file::TYPE_STREAM;
 use pdb_output::Output;
 use pdbdump_layouts::show_layouts;
 use pdbdump_rows::Form;
 use std::alloc::Global;
 use std::io::Write;
-
-/// The number of the stream of types.
-const TYPE_STREAM: u32 = 2;
 
 /// Returns the stream of types of a file.
 #[tactic(auto, using(crate::proofs::DoneLemmas::refused_or_lacking))]

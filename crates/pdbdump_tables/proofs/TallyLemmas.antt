@@ -3,12 +3,12 @@ use Rattle.std.proofs.Common.{◌≡◌, inl, inr, ℕ, zero, suc, ◌+◌, ◌-
 use Rattle.std.proofs.Common.{List, [], ◌∷◌, length, get_or, take, drop, Option, Some, None, Ok, Err, refl, sym, ap}
 use Rattle.std.proofs.Common.{subst, ◌∙◌, arith, drop-cons, zero-add}
 use Rattle.std.specs.Prelude.{slice_index_or, slice_set}
-use Rattle.std.specs.List.{sum_by}
+use Rattle.std.specs.List.{filter, sum_by}
 use Rattle.std.proofs.lemmas.Bool.{cases_Bool, cases_lt, eqb-true, eqb-false}
 use Rattle.std.proofs.lemmas.List.{get_or_past, get_or-set_same, get_or-set_other, length-drop}
 use Rattle.std.proofs.Math.ListN.{drop_of_length-le}
 use Rattle.std.proofs.lemmas.List.Filters.{length-filter_both, sum_by-filter_both}
-use Rattle.std.proofs.lemmas.List.Sums.{sum_by-cons, sum_by-take-drop}
+use Rattle.std.proofs.lemmas.List.Sums.{length-filter, sum_by-cons, sum_by-take-drop}
 use Rattle.std.proofs.lemmas.Option.{slice_get_past, slice_get-get_or, same_Some}
 use Rattle.pdb_base.specs.declared.error.Error.{Error}
 use Rattle.pdb_base.specs.Answer.{Answer}
@@ -25,7 +25,7 @@ use Rattle.pdb_tpi.proofs.WalkLemmas.{items_few, items_full, items_more, items_n
 use Rattle.pdbdump_tables.specs.Tally.{IsTally, noted_kind}
 use Rattle.pdbdump_tables.specs.declared.kinds.KindCount.{KindCount}
 use Rattle.pdbdump_tables.specs.declared.kinds.Tally.{Tally}
-use Rattle.pdbdump_tables.specs.Kinds.{continued_from, continued_of, counted_kind, goes_on, items_of_kind, walk_stop}
+use Rattle.pdbdump_tables.specs.Kinds.{continued_of, counted_kind, goes_on, items_of_kind, walk_stop}
 
 -- ---- how many items there can be
 
@@ -109,13 +109,19 @@ one_most : (is : Bool) → cond is 1 0 ≤ 1
 one_most true = omega arith
 one_most false = omega arith
 
--- no more lists go on than there are
-continued_few : (index : ℕ) (items : List (List ℕ)) → continued_from index items ≤ length items
-continued_few index [] = omega arith
-continued_few index (item ∷ items) =
-    let rest = continued_few (suc index) items in
-    let here : cond (goes_on index item) 1 0 ≤ 1 = one_most (goes_on index item) in
-    omega (arith, here, rest)
+counted : (test : List ℕ → Bool) (item : List ℕ) (items : List (List ℕ))
+    → length (filter test (item ∷ items)) ≡ once (test item) + length (filter test items)
+counted test item items = omega (
+  arith,
+  length-filter test (item ∷ items),
+  length-filter test items,
+  sum_by-cons (λ item. once (test item)) item items,
+)
+
+-- those of some items for which a test holds are no more than all
+few : (test : List ℕ → Bool) (items : List (List ℕ)) → length (filter test items) ≤ length items
+few test items = let both = length-filter_both test (λ item. not (test item)) (λ item. refl) items in
+    omega (arith, both)
 
 -- What items come to, by `amount`, is noted for each kind, without the items that are left.
 pub record IsNoted (amount : List (List ℕ) → ℕ) (all left : List (List ℕ)) (noted : List ℕ) : Type 0 where
@@ -137,7 +143,7 @@ pub record IsCounting (table : Table) (stand : WalkPosition) (counts sizes : Lis
     pub count_notes : IsNoted many (walk table) (left stand) counts
     pub size_notes : IsNoted sized (walk table) (left stand) sizes
     pub all : records + length (left stand) ≡ length (walk table)
-    pub lists : continued + continued_from stand.index (left stand) ≡ continued_of table
+    pub lists : continued + length (filter goes_on (left stand)) ≡ continued_of table
 
 noted_none : (amount : List (List ℕ) → ℕ) (all : List (List ℕ)) (noted : List ℕ) → length noted ≡ 0x10000
     → ((leaf : ℕ) → leaf < 0x10000 → slice_index_or noted leaf 0 ≡ 0) → IsNoted amount all all noted
@@ -163,12 +169,6 @@ counting_none table stand counts sizes first kinds zeros kinds' zeros' =
       lists = rw none (zero-add (continued_of table));
     })
 
-kind_few : (leaf : ℕ) (items : List (List ℕ)) → length (items_of_kind leaf items) ≤ length items
-kind_few leaf items =
-    let both = length-filter_both (λ item. kind_of item == leaf) (λ item. not (kind_of item == leaf))
-    (λ item. refl) items in
-    omega (arith, both)
-
 kind_sized : (leaf : ℕ) (items : List (List ℕ)) → sized (items_of_kind leaf items) ≤ sized items
 kind_sized leaf items =
     let both = sum_by-filter_both (λ item. kind_of item == leaf) (λ item. not (kind_of item == leaf))
@@ -181,9 +181,9 @@ pub room_more : (table : Table) (stand : WalkPosition) (counts sizes : List ℕ)
     → IsCounting table stand counts sizes records continued → slice_index_or counts leaf 0 + 1 < 2 ^ 64
 room_more table stand counts sizes records continued leaf within counting =
     let each = counting.count_notes.each leaf within in
-    let few = kind_few leaf (walk table) in
+    let some = few (λ item. kind_of item == leaf) (walk table) in
     let most = walk_few table in
-    omega (arith, each, few, most)
+    omega (arith, each, some, most)
 
 -- the bytes of one record more have room
 pub room_size : {X : Type 0} (seen : X → ℕ × List ℕ) (table : Table) (old : WalkPosition) (x : X) (new : WalkPosition)
@@ -215,8 +215,8 @@ pub room_continued : (table : Table) (stand : WalkPosition) (counts sizes : List
 room_continued table stand counts sizes records continued is_continued counting =
     let most = walk_few table in
     let one = one_most is_continued in
-    let few = continued_few table.header.minimum_index (walk table) in
-    omega (arith, counting.lists, most, few, one)
+    let some = few goes_on (walk table) in
+    omega (arith, counting.lists, most, some, one)
 
 pub room_records : (table : Table) (stand : WalkPosition) (counts sizes : List ℕ) (records continued : ℕ)
     → IsCounting table stand counts sizes records continued → records + 1 < 2 ^ 64
@@ -263,7 +263,7 @@ pub counting_more : {X : Type 0} (seen : X → ℕ × List ℕ) (table : Table) 
     → IsCounting table old counts sizes records continued → kind ≡ kind_of (seen x).1 → kind < 0x10000
     → counts' ≡ slice_set counts kind (slice_index_or counts kind 0 + 1) → length counts' ≡ 0x10000
     → sizes' ≡ slice_set sizes kind (slice_index_or sizes kind 0 + item_size (seen x).1) → length sizes' ≡ 0x10000
-    → is_continued ≡ goes_on (seen x).0 (seen x).1
+    → is_continued ≡ goes_on (seen x).1
     → IsCounting table new counts' sizes' (records + 1) (continued + cond is_continued 1 0)
 counting_more seen table old x new counts counts' sizes sizes' records continued kind is_continued step counting is
     within noted kinds noted' kinds' on =
@@ -284,14 +284,10 @@ counting_more seen table old x new counts counts' sizes sizes' records continued
           (subst (λ (items : List (List ℕ)). IsNoted sized (walk table) items sizes) first counting.size_notes);
       all = let one : length (left old) ≡ suc (length (left new)) = ap length first in omega (arith, one, counting.all);
       lists =
-          let named : old.index ≡ (seen x).0 = step_index seen old x new step in
-          let suc' : suc old.index ≡ new.index = omega (arith, next) in
-          let one : continued_from old.index (left old)
-          ≡ cond (goes_on (seen x).0 (seen x).1) 1 0 + continued_from new.index (left new) =
-          ap (continued_from old.index) first
-          ∙ ap (λ (i : ℕ). cond (goes_on i (seen x).1) 1 0 + continued_from (suc old.index) (left new)) named
-          ∙ ap (λ (i : ℕ). cond (goes_on (seen x).0 (seen x).1) 1 0 + continued_from i (left new)) suc' in
-          let more : once is_continued ≡ once (goes_on (seen x).0 (seen x).1) = ap once on in
+          let one : length (filter goes_on (left old)) ≡ once (goes_on (seen x).1) + length (filter goes_on (left new)) =
+          ap (λ (items : List (List ℕ)). length (filter goes_on items)) first
+          ∙ counted goes_on (seen x).1 (left new) in
+          let more : once is_continued ≡ once (goes_on (seen x).1) = ap once on in
           omega (arith, one, more, counting.lists);
     }
 
@@ -317,7 +313,8 @@ counted_all table stand counts sizes records continued counting past =
         noted_all sized (walk table) (left stand) sizes refl counting.size_notes none leaf within,
       ) refl,
       (let no : length (left stand) ≡ 0 = ap length none in omega (arith, counting.all, no)),
-      (let no : continued_from stand.index (left stand) ≡ 0 = ap (continued_from stand.index) none in
+      (let no : length (filter goes_on (left stand)) ≡ 0 =
+          ap (λ (items : List (List ℕ)). length (filter goes_on items)) none in
           omega (arith, counting.lists, no)),
     )
 

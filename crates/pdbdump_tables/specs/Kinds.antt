@@ -1,11 +1,13 @@
 -- What a summary shows of a table: how many records of each kind it has, and how many bytes these take.
 use Rattle.std.specs.Prelude.{ℕ, zero, suc, ◌+◌, ◌==◌, ◌&&◌, not, Bool, true, false, if◌then◌else◌, List, [], ◌∷◌, ◌++◌}
-use Rattle.std.specs.Prelude.{length, map, filter, codes, Option, None, Some, Ok, Err}
+use Rattle.std.specs.Prelude.{◌×◌, length, map, filter, drop, codes, Option, None, Some, Ok, Err}
 use Rattle.std.specs.List.{flat_map, range_with_len, sum_by}
 use Rattle.pdb_base.specs.Answer.{Answer, ◌>>=◌}
 use Rattle.pdb_base.specs.Refusal.{Refusal}
+use Rattle.pdb_base.specs.declared.index.TypeIndex.{TypeIndex}
 use Rattle.pdb_msf.specs.File.{stream_of}
 use Rattle.pdb_msf.specs.Header.{Head}
+use Rattle.pdb_records.specs.Fields.{list_continuation_at}
 use Rattle.pdb_values.specs.declared.constants.TheConstants.{LF_FIELDLIST}
 use Rattle.pdbdump_rows.specs.declared.form.Form.{Form}
 use Rattle.pdbdump_rows.specs.Lines.{row_text}
@@ -15,13 +17,11 @@ use Rattle.pdbdump_tables.specs.Refused.{refused_line}
 use Rattle.pdbdump_tables.specs.declared.kinds.KindCount.{KindCount}
 use Rattle.pdbdump_tables.specs.declared.parts.Part.TheVariants as parts
 use Rattle.pdb_tpi.specs.OpenTable.{item_size}
-use Rattle.pdb_tpi.specs.Record.{kind_of, type_of}
+use Rattle.pdb_tpi.specs.Record.{kind_of}
 use Rattle.pdb_tpi.specs.Steps.{walk, walk_rest}
 use Rattle.pdb_tpi.specs.Table.{Table, table_of}
 use Rattle.pdb_tpi.specs.Walk.{fault_of}
 use Rattle.pdb_tpi.specs.declared.header.Header.{Header}
-use Rattle.pdb_values.specs.TypeValue.{TypeValue}
-use Rattle.pdb_values.specs.TypeValue as values
 
 -- the items of a kind
 abbrev pub items_of_kind : ℕ → List (List ℕ) → List (List ℕ)
@@ -49,23 +49,18 @@ by_frequency (suc most) kinds = filter (λ kind. kind.count == suc most) kinds +
 unfoldable pub kinds_of : List (List ℕ) → List KindCount
 kinds_of items = by_frequency (length items) (occurring_kinds (counted_kind items) (range_with_len 0 0x10000))
 
--- whether a record holds a field list that another list continues
-abbrev pub is_continued : Answer TypeValue → Bool
-is_continued (Ok (values.field_list fields (Some list))) = true
-is_continued other = false
+-- whether a list of fields that is read for its continuation has one
+abbrev pub has_continuation : Answer (Option TypeIndex × List ℕ) → Bool
+has_continuation (Ok (Some list, rest)) = true
+has_continuation other = false
 
--- whether the record of an index is a field list that another list continues
-unfoldable pub goes_on : ℕ → List ℕ → Bool
-goes_on index item = (kind_of item == LF_FIELDLIST) && is_continued (type_of index item)
+-- whether an item is the record of a field list that another list continues
+unfoldable pub goes_on : List ℕ → Bool
+goes_on item = (kind_of item == LF_FIELDLIST) && has_continuation (list_continuation_at (drop 2 item))
 
--- how many of the items, the first of which has this index, are field lists that others continue
-abbrev pub continued_from : ℕ → List (List ℕ) → ℕ
-continued_from index [] = 0
-continued_from index (item ∷ items) = (if goes_on index item then 1 else 0) + continued_from (suc index) items
-
--- the same for all records of a table
+-- how many records of a table are field lists that others continue
 abbrev pub continued_of : Table → ℕ
-continued_of table = continued_from table.header.minimum_index (walk table)
+continued_of table = length (filter goes_on (walk table))
 
 -- The row of a table: the number of its stream, how many records it has, the indexes that its header
 -- counts, from the minimum to below the maximum, and how many field lists are continued by others.

@@ -5,12 +5,12 @@ ghost use Rattle.std.specs.Prelude.{if◌then◌else◌};
 ghost use Rattle.std.specs.List.{range_with_len};
 ghost use Rattle.pdbdump_tables.specs.Kinds.{goes_on, occurring_kinds, by_frequency};
 ghost use Rattle.pdbdump_tables.specs.Tally.{IsTally, IsWalked, noted_kind};
-ghost use Rattle.pdb_tpi.specs.Item.{item_bytes, index_of};
+ghost use Rattle.pdb_tpi.specs.Item.{item_bytes};
 ghost use Rattle.pdb_tpi.specs.Table.{IsTable};
 
-use pdb_base::{Error, FallibleIterator, TypeIndex};
+use pdb_base::{Error, FallibleIterator, ParseBuffer, TypeIndex};
+use pdb_records::skip_field_list;
 use pdb_tpi::{Header, Item, TypeInformation};
-use pdb_values::TypeData;
 use pdb_values::constants::LF_FIELDLIST;
 use std::alloc::{AllocError, Global};
 use std::cmp::Reverse;
@@ -20,6 +20,9 @@ const KINDS: usize = 0x10000;
 
 /// How many bytes the length before a record takes.
 const LENGTH_SIZE: u64 = 2;
+
+/// How many bytes the kind of a record takes.
+const LEAF_SIZE: usize = 2;
 
 /// A kind of records, how many there are, and how many bytes they take.
 #[derive(Clone, Copy)]
@@ -101,18 +104,19 @@ fn zeros(alloc: Global, count: usize) -> Result<Vec<u64>, AllocError>
     Ok(counts)
 }
 
-/// Returns whether a record is a list of fields that another list continues.
+/// Returns whether a record is a list of fields that another list continues. No field is kept.
 #[tactic(auto, unfolding(crate::specs::Kinds::goes_on))]
 fn goes_on(alloc: Global, item: &Item<'_, TypeIndex>) -> Result<bool, AllocError>
-    ensures { IfOk result (λ is. is ≡ goes_on (index_of item.now).0 (item_bytes item.now)) }
+    ensures { IfOk result (λ is. is ≡ goes_on (item_bytes item.now)) }
 {
     if item.raw_kind() != LF_FIELDLIST {
         return Ok(false);
     }
-    match item.parse(alloc) {
-        Ok(TypeData::FieldList(list)) => Ok(list.continuation.is_some()),
+    let mut fields = ParseBuffer::from(&item.as_bytes()[LEAF_SIZE..]);
+    match skip_field_list(alloc, &mut fields) {
+        Ok(next) => Ok(next.is_some()),
         Err(Error::OutOfMemory) => Err(AllocError),
-        _ => Ok(false),
+        Err(_) => Ok(false),
     }
 }
 

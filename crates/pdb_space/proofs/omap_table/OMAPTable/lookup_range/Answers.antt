@@ -7,11 +7,11 @@ use Rattle.pdb_space.proofs.omap_table.OMAPTable.lookup_range.Goals as goal
 pub returns : goal.returns
 returns c =
     let table = c.args.self.now in
-    let place = c.search-found.result.place in
-    let source = c.search-found.result.source in
+    let place = c.search_apart.new.found.place in
+    let source = c.search_apart.new.found.source in
     let rest = drop (place - 1) table in
     let found = found_in c.bytes.result.now table c.args.range.start place source c.bytes.ensures.records
-    c.search-found.ensures.found in
+    c.search_apart.ensures in
     rw (c.over_records.ensures, c.records_from.ensures, c.saturating_sub.ensures) (record {
       parts = found_parts table c.args.range place source found;
       laid = found_laid table c.args.range place source found;
