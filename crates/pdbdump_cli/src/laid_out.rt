@@ -12,6 +12,7 @@ use pdb_file::TYPE_STREAM;
 use pdb_output::Output;
 use pdbdump_layouts::show_layouts;
 use pdbdump_rows::Form;
+use pdbdump_tables::last_stream;
 use std::alloc::Global;
 use std::io::Write;
 
@@ -21,7 +22,7 @@ fn type_stream(alloc: Global, file: Vec<u8>) -> Result<Stream>
     ensures { Answers (λ stream. stream) result (type_bytes file.items) }
 {
     let file = PDB::open(alloc, file)?;
-    file.into_msf().into_stream(alloc, TYPE_STREAM, None)
+    last_stream(alloc, file, TYPE_STREAM)
 }
 
 /// Shows layouts of the classes of a file, and returns whether each name was found and no class has

@@ -10,8 +10,8 @@ use pdb_file::{ID_STREAM, TYPE_STREAM};
 use pdb_output::Output;
 use pdbdump_rows::Form;
 use pdbdump_tables::{
-    id_at, ids, list_frames, list_frames_in, list_map, list_names, list_omap, list_sections,
-    list_summary, type_at, types,
+    id_at, ids, last_stream, list_frames, list_frames_in, list_map, list_names, list_omap,
+    list_sections, list_summary, type_at, types,
 };
 use std::alloc::Global;
 use std::io::Write;
@@ -28,7 +28,7 @@ fn list_types<W: Write>(
     ensures { IsListedIn (AreTypes form index) file.source.items file.head number
         out.old out.new result }
 {
-    match file.into_msf().into_stream(alloc, number, None) {
+    match last_stream(alloc, file, number) {
         Ok(stream) => match index {
             Some(index) => type_at(alloc, stream, number, index, form, out),
             None => types(alloc, stream, number, form, out),
@@ -49,7 +49,7 @@ fn list_ids<W: Write>(
     ensures { IsListedIn (AreIds form index) file.source.items file.head number
         out.old out.new result }
 {
-    match file.into_msf().into_stream(alloc, number, None) {
+    match last_stream(alloc, file, number) {
         Ok(stream) => match index {
             Some(index) => id_at(alloc, stream, number, index, form, out),
             None => ids(alloc, stream, number, form, out),
@@ -69,7 +69,7 @@ fn list_opened<W: Write>(
     ensures { DoesIn form command.entry file.source.items file.head out.old out.new result }
 {
     match command {
-        Command::Summary => list_summary(alloc, &mut file, form, out),
+        Command::Summary => list_summary(alloc, file, form, out),
         Command::Types { stream, index } => {
             let number = stream.unwrap_or(TYPE_STREAM);
             list_types(alloc, file, number, index, form, out)

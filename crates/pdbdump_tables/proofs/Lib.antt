@@ -5,5 +5,6 @@ pub mod StreamLemmas
 pub mod KindLemmas
 pub mod LineLemmas
 pub mod TallyLemmas
+pub mod WalkedLemmas
 pub mod TableLemmas
 pub mod ListedLemmas

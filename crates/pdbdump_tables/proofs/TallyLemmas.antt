@@ -77,11 +77,6 @@ walk_sized table is = omega (
 unfoldable pub left : WalkPosition → List (List ℕ)
 left stand = drop (steps_taken stand) (walk stand.table)
 
--- the index that a step gives is the iterator's
-step_index : {X : Type 0} (seen : X → ℕ × List ℕ) (old : WalkPosition) (x : X) (new : WalkPosition)
-    → IsStep seen old (Ok (Some x)) new → old.index ≡ (seen x).0
-step_index seen old x new step = (step_some seen old x new step).index
-
 -- the item that a step gives is the first of those that are left
 pub left_first : {X : Type 0} (seen : X → ℕ × List ℕ) (old : WalkPosition) (x : X) (new : WalkPosition)
     → old.table.header.minimum_index ≤ old.index → IsStep seen old (Ok (Some x)) new → left old ≡ (seen x).1 ∷ left new
@@ -284,7 +279,8 @@ counting_more seen table old x new counts counts' sizes sizes' records continued
           (subst (λ (items : List (List ℕ)). IsNoted sized (walk table) items sizes) first counting.size_notes);
       all = let one : length (left old) ≡ suc (length (left new)) = ap length first in omega (arith, one, counting.all);
       lists =
-          let one : length (filter goes_on (left old)) ≡ once (goes_on (seen x).1) + length (filter goes_on (left new)) =
+          let one : length (filter goes_on (left old))
+          ≡ once (goes_on (seen x).1) + length (filter goes_on (left new)) =
           ap (λ (items : List (List ℕ)). length (filter goes_on items)) first
           ∙ counted goes_on (seen x).1 (left new) in
           let more : once is_continued ≡ once (goes_on (seen x).1) = ap once on in
@@ -347,5 +343,5 @@ counts_few table tally is leaf = elim (cases_lt leaf 0x10000) [
   | inl within ↦
       let same : slice_index_or tally.counts.items leaf 0 ≡ length (items_of_kind leaf (walk table)) =
       ap (λ (kind : KindCount). kind.count) (is.each leaf within) in
-      omega (arith, same, kind_few leaf (walk table))
+      omega (arith, same, few (λ item. kind_of item == leaf) (walk table))
 ]

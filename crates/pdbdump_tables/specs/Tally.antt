@@ -1,7 +1,10 @@
 -- What a walk over a table counts.
-use Rattle.std.specs.Prelude.{◌≡◌, ℕ, ◌<◌, List, length, slice_index_or}
+use Rattle.std.specs.Prelude.{◌≡◌, ◌⊎◌, ℕ, ◌<◌, List, length, slice_index_or, Result, Ok, Err}
 use Rattle.std.specs.Option.{option_map}
+use Rattle.pdb_base.specs.Answer.{Answer}
 use Rattle.pdb_base.specs.Refusal.{refusal_of}
+use Rattle.pdb_base.specs.declared.error.Error.{Error}
+use Rattle.pdb_base.specs.declared.error.Error.TheVariants.{OutOfMemory}
 use Rattle.pdbdump_tables.specs.Kinds.{continued_of, counted_kind, kinds_of, walk_stop}
 use Rattle.pdbdump_tables.specs.declared.kinds.KindCount.{KindCount}
 use Rattle.pdbdump_tables.specs.declared.kinds.Tally.{Tally}
@@ -32,3 +35,8 @@ pub record IsWalked (table : Table) (walked : Walked) : Type 0 where
   pub records : walked.records ≡ length (walk table)
   pub continued : walked.continued ≡ continued_of table
   pub fault : option_map refusal_of walked.fault ≡ walk_stop (walk_rest table)
+
+-- A walk says what the table says that is meant; or the table is refused, or memory ran out.
+abbrev pub SaysTable : Answer Table → Result Walked Error → Type 0
+SaysTable meant (Ok walked) = (table : Table) × (meant ≡ Ok table) × IsWalked table walked
+SaysTable meant (Err e) = (meant ≡ Err (refusal_of e)) ⊎ (e ≡ OutOfMemory)

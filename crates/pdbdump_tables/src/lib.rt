@@ -38,5 +38,6 @@ pub use map::list_map;
 pub use map_source::MapStreams;
 pub use omap_roles::list_omap;
 pub use parts::Part;
+pub use streams::last_stream;
 pub use summary::list_summary;
 pub use type_listing::{type_at, types};

@@ -54,6 +54,14 @@ pub fn stream(
     file.get(alloc, number, limit)
 }
 
+/// Reads the stream with this number as `BigMSF::into_stream` does, which consumes the file and
+/// moves the bytes together in its memory.
+pub fn last_stream(alloc: Global, file: PDB<Vec<u8>>, number: u32) -> Result<Stream>
+    ensures { Answers (λ stream. stream) result (stream_of file.source.items file.head number None) }
+{
+    file.into_msf().into_stream(alloc, number, None)
+}
+
 /// Returns how many pages hold `size` bytes, or no value if the size of a page is not known.
 #[tactic(auto, unfolding(pdb_msf::specs::Pages::pages))]
 fn pages_held<'t>(page_size: u32, size: u32) -> Value<'t>

@@ -19,7 +19,7 @@ ghost use Rattle.pdbdump_tables.specs.Listing.{IsListed};
 use crate::headers::headers_of;
 use crate::parts::{Part, write_refused};
 use crate::streams::{Known, write_streams};
-use crate::table_summary::write_table;
+use crate::table_summary::{walk_last_table, walk_table, write_table};
 use pdb_base::{Error, ParseBuffer, Result};
 use pdb_file::{DBIExtraStreams, ID_STREAM, PDB, PDBInformation, TYPE_STREAM};
 use pdb_msf::Layout;
@@ -183,35 +183,37 @@ fn write_streams_part<W: Write>(
     write_all_streams(alloc, file, unnamed, form, out)
 }
 
-/// Writes the tables of types and of ids.
-#[tactic(auto, unfolding(crate::specs::Summary::tables_part), using(pdb_output::proofs::lemmas::Written::writing))]
+/// Writes the tables of types and of ids. The walk over the types comes last, since it consumes the
+/// file, of which they are the most.
+#[tactic(auto, unfolding(crate::specs::Summary::tables_part, crate::specs::Kinds::table_part), using(pdb_output::proofs::lemmas::Written::writing))]
 fn write_tables<W: Write>(
     alloc: Global,
-    file: &mut PDB<Vec<u8>>,
+    mut file: PDB<Vec<u8>>,
     form: Form,
     out: &mut Output<W>,
 ) -> Result<()>
-    ensures { Writes (tables_part form file.old.source.items file.old.head)
-        out.old out.new result }
+    ensures { Writes (tables_part form file.source.items file.head) out.old out.new result }
 {
-    write_table(alloc, file, TYPE_STREAM, form, out)?;
-    write_table(alloc, file, ID_STREAM, form, out)
+    let ids = walk_table(alloc, &mut file, ID_STREAM);
+    let types = walk_last_table(alloc, file, TYPE_STREAM);
+    write_table(alloc, TYPE_STREAM, &types, form, out)?;
+    write_table(alloc, ID_STREAM, &ids, form, out)
 }
 
 /// Writes the parts of a file whose directory is read.
 #[tactic(auto, using(pdb_output::proofs::lemmas::Written::writing))]
 fn write_read_parts<W: Write>(
     alloc: Global,
-    file: &mut PDB<Vec<u8>>,
+    mut file: PDB<Vec<u8>>,
     layout: &Layout,
     form: Form,
     out: &mut Output<W>,
 ) -> Result<()>
-    ensures { Writes (streams_part form layout.now file.old.source.items file.old.head ++
-        tables_part form file.old.source.items file.old.head)
+    ensures { Writes (streams_part form layout.now file.source.items file.head ++
+        tables_part form file.source.items file.head)
         out.old out.new result }
 {
-    write_streams_part(alloc, file, layout, form, out)?;
+    write_streams_part(alloc, &mut file, layout, form, out)?;
     write_tables(alloc, file, form, out)
 }
 
@@ -219,12 +221,11 @@ fn write_read_parts<W: Write>(
 #[tactic(auto, unfolding(crate::specs::Summary::parts_lines), using(pdb_output::proofs::lemmas::Written::writing))]
 fn write_parts<W: Write>(
     alloc: Global,
-    file: &mut PDB<Vec<u8>>,
+    file: PDB<Vec<u8>>,
     form: Form,
     out: &mut Output<W>,
 ) -> Result<()>
-    ensures { Writes (parts_lines form file.old.source.items file.old.head)
-        out.old out.new result }
+    ensures { Writes (parts_lines form file.source.items file.head) out.old out.new result }
 {
     match counted_layout(alloc, file.msf().source()) {
         Ok(layout) => write_read_parts(alloc, file, &layout, form, out),
@@ -253,11 +254,11 @@ fn write_pages<W: Write>(alloc: Global, file: &[u8], form: Form, out: &mut Outpu
 #[tactic(auto, using(pdb_output::proofs::lemmas::Written::writing))]
 fn write_summary<W: Write>(
     alloc: Global,
-    file: &mut PDB<Vec<u8>>,
+    file: PDB<Vec<u8>>,
     form: Form,
     out: &mut Output<W>,
 ) -> Result<()>
-    ensures { Writes (pages_line form file.old.source.items ++ parts_lines form file.old.source.items file.old.head)
+    ensures { Writes (pages_line form file.source.items ++ parts_lines form file.source.items file.head)
         out.old out.new result }
 {
     write_pages(alloc, file.msf().source(), form, out)?;
@@ -272,12 +273,11 @@ fn write_summary<W: Write>(
 /// Fails with `IoError` if the writer fails, and with `OutOfMemory` if an allocation fails.
 pub fn list_summary<W: Write>(
     alloc: Global,
-    file: &mut PDB<Vec<u8>>,
+    file: PDB<Vec<u8>>,
     form: Form,
     out: &mut Output<W>,
 ) -> Result<()>
-    ensures { IsListed (summary_listing form file.old.source.items file.old.head)
-        out.old out.new result }
+    ensures { IsListed (summary_listing form file.source.items file.head) out.old out.new result }
 {
     write_summary(alloc, file, form, out)
 }

@@ -2,18 +2,19 @@
 
 ghost use Rattle.std.specs.Prelude.{◌≡◌, ◌++◌};
 ghost use Rattle.std.specs.Option.{option_map};
-ghost use Rattle.pdb_base.specs.Answer.{Answers};
+ghost use Rattle.pdb_base.specs.Answer.{Answer};
 ghost use Rattle.pdb_base.specs.Refusal.{refusal_of};
 ghost use Rattle.pdbdump_rows.specs.Line.{ShowsFields};
 ghost use Rattle.pdbdump_rows.specs.Lines.{row_text};
 ghost use Rattle.pdb_output.specs.Output.{Writes};
-ghost use Rattle.pdbdump_tables.specs.Kinds.{kind_lines, kind_shown, stop_line, table_found, table_lines, table_part};
-ghost use Rattle.pdbdump_tables.specs.Kinds.{table_shown};
+ghost use Rattle.pdbdump_tables.specs.Kinds.{kind_lines, kind_shown, stop_line, table_by, table_found, table_shown};
+ghost use Rattle.pdbdump_tables.specs.Tally.{SaysTable};
+ghost use Rattle.pdb_tpi.specs.Table.{Table, table_of};
 
 use crate::kinds::{KindCount, Walked, walk_over};
 use crate::parts::{Part, write_refused};
-use crate::streams::stream;
-use pdb_base::{Error, Result};
+use crate::streams::{last_stream, stream};
+use pdb_base::{Error, Result, Stream};
 use pdb_file::PDB;
 use pdb_output::Output;
 use pdb_tpi::TypeInformation;
@@ -143,48 +144,46 @@ fn write_walked<W: Write>(
     write_rest(alloc, number, walked, form, out)
 }
 
-/// Walks over a table, and writes what it holds.
-#[tactic(auto, unfolding(crate::specs::Kinds::table_lines), using(pdb_output::proofs::lemmas::Written::writing))]
-fn write_found<W: Write>(
-    alloc: Global,
-    number: u32,
-    table: &TypeInformation,
-    form: Form,
-    out: &mut Output<W>,
-) -> Result<()>
-    ensures { Writes (table_lines form number table.now) out.old out.new result }
+/// Walks over the table in a stream.
+fn walk_in(alloc: Global, stream: Stream) -> Result<Walked>
+    ensures { SaysTable (table_of stream) result }
 {
-    let walked = walk_over(alloc, table)?;
-    write_walked(alloc, number, &walked, form, out)
+    let table = TypeInformation::parse(stream)?;
+    Ok(walk_over(alloc, &table)?)
 }
 
-/// Reads the table in the stream with this number.
+/// Walks over the table in the stream with this number.
 #[tactic(auto, unfolding(crate::specs::Kinds::table_found))]
-fn table_found(alloc: Global, file: &mut PDB<Vec<u8>>, number: u32) -> Result<TypeInformation>
-    ensures table { Answers (λ table. table) result (table_found file.old.source.items file.old.head number) }
+pub fn walk_table(alloc: Global, file: &mut PDB<Vec<u8>>, number: u32) -> Result<Walked>
+    ensures says { SaysTable (table_found file.old.source.items file.old.head number) result }
     ensures bytes { file.new.source.items ≡ file.old.source.items }
     ensures head { file.new.head ≡ file.old.head }
 {
-    TypeInformation::parse(stream(alloc, file, number, None)?)
+    walk_in(alloc, stream(alloc, file, number, None)?)
 }
 
-/// Writes the table in the stream with this number, or its error.
-#[tactic(auto, unfolding(crate::specs::Kinds::table_part), using(pdb_output::proofs::lemmas::Written::writing))]
+/// Walks over the table in the stream with this number, and consumes the file.
+#[tactic(auto, unfolding(crate::specs::Kinds::table_found))]
+pub fn walk_last_table(alloc: Global, file: PDB<Vec<u8>>, number: u32) -> Result<Walked>
+    ensures { SaysTable (table_found file.source.items file.head number) result }
+{
+    walk_in(alloc, last_stream(alloc, file, number)?)
+}
+
+/// Writes what a walk said of the table in the stream with this number, or the table's error.
 pub fn write_table<W: Write>(
     alloc: Global,
-    file: &mut PDB<Vec<u8>>,
     number: u32,
+    walked: &Result<Walked>,
     form: Form,
     out: &mut Output<W>,
 ) -> Result<()>
-    ensures lines { Writes (table_part form number file.old.source.items file.old.head)
-        out.old out.new result }
-    ensures bytes { file.new.source.items ≡ file.old.source.items }
-    ensures head { file.new.head ≡ file.old.head }
+    ensures { (table : Answer Table) → SaysTable table walked.now →
+        Writes (table_by form number table) out.old out.new result }
 {
-    match table_found(alloc, file, number) {
-        Ok(table) => write_found(alloc, number, &table, form, out),
+    match walked {
+        Ok(walked) => write_walked(alloc, number, walked, form, out),
         Err(Error::OutOfMemory) => Err(Error::OutOfMemory),
-        Err(error) => write_refused(alloc, Part::Table(number), &error, form, out),
+        Err(error) => write_refused(alloc, Part::Table(number), error, form, out),
     }
 }
