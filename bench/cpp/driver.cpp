@@ -101,6 +101,18 @@ static void add_borders(std::deque<Row> &rows, File &file, const Numbers &indexe
              [&types, indexes](uint32_t turns) { return bench_find(types.data(), types.size(), indexes.data(), indexes.size(), turns); });
 }
 
+static Work build_and_find(const Bytes &types, Numbers indexes) {
+  return [&types, indexes](uint32_t turns) {
+    return bench_build_and_find(types.data(), types.size(), indexes.data(), indexes.size(), turns);
+  };
+}
+
+static Work queries(const Bytes &bytes, Numbers indexes) {
+  return [&bytes, indexes](uint32_t turns) {
+    return bench_queries(bytes.data(), bytes.size(), TYPES, indexes.data(), indexes.size(), turns);
+  };
+}
+
 static void add_file(std::deque<Row> &rows, File &file) {
   const Bytes &bytes = file.bytes, &types = file.types;
   const TypeTable &table = file.table;
@@ -117,16 +129,13 @@ static void add_file(std::deque<Row> &rows, File &file) {
   rows.push_back({"find", file.name, table.count,
                   [&types, indexes](uint32_t turns) { return bench_find(types.data(), types.size(), indexes.data(), indexes.size(), turns); },
                   repeated([finder, indexes] { return llvm_find(*finder, indexes); })});
-  Work build_and_find = [&types, indexes](uint32_t turns) {
-    return bench_build_and_find(types.data(), types.size(), indexes.data(), indexes.size(), turns);
-  };
-  rows.push_back({"build_and_find", file.name, table.count, build_and_find,
+  rows.push_back({"build_and_find", file.name, table.count, build_and_find(types, indexes),
                   repeated([&table, &file, indexes] { return llvm_build_and_find(table, file.offsets, indexes); })});
-  Work queries = [&bytes, indexes](uint32_t turns) {
-    return bench_queries(bytes.data(), bytes.size(), TYPES, indexes.data(), indexes.size(), turns);
-  };
-  rows.push_back({"queries", file.name, table.count, queries, repeated([&bytes, indexes] { return llvm_queries(bytes, indexes); })});
-  rows.push_back({"queries_beside_finds", file.name, table.count, queries, build_and_find});
+  rows.push_back({"queries", file.name, table.count, queries(bytes, indexes),
+                  repeated([&bytes, indexes] { return llvm_queries(bytes, indexes); })});
+  rows.push_back({"queries_beside_finds", file.name, table.count, queries(bytes, indexes), build_and_find(types, indexes)});
+  const Numbers few = file.indexes(ASKED / 10);
+  rows.push_back({"few_queries", file.name, table.count, queries(bytes, few), build_and_find(types, few)});
   add_borders(rows, file, indexes, finder);
 }
 

@@ -14,6 +14,7 @@ WORKS = {
     "build_and_find": ("build a finder, 100,000 finds, parse each", "types", "LLVM"),
     "queries": ("100,000 queries of types in one run", "types", "LLVM"),
     "queries_beside_finds": ("the same, beside our finder and parse", "types", "ours"),
+    "few_queries": ("10,000 queries, beside our finder and parse", "types", "ours"),
     "omap": ("100,000 OMAP look-ups", "records", "C"),
     "ranges": ("100,000 OMAP ranges of 256", "records", "C"),
     "frames": ("100,000 frames at an address", "frames", "C"),
