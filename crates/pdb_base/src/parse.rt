@@ -1,6 +1,6 @@
 //! Values that are read from the start of bytes.
 
-ghost use Rattle.std.specs.Prelude.{◌≡◌, ◌≤◌, ℕ, List, length, drop, IfOk};
+ghost use Rattle.std.specs.Prelude.{◌≤◌, ℕ, List, length, drop, IfOk};
 ghost use Rattle.std.specs.Int.{w8, w16, w32, w64};
 ghost use Rattle.pdb_base.specs.Answer.{Answer, Gives};
 ghost use Rattle.pdb_base.specs.Reading.{number_at, signed_at};

@@ -8,7 +8,7 @@ ghost use Rattle.pdb_base.specs.ErrorText.{hexadecimal_of_four};
 ghost use Rattle.pdb_cli.specs.Lines.{line, hex_line, hex_lines, record_line, name_text, name_lines, range_lines};
 ghost use Rattle.pdb_cli.specs.Lines.{reply_lines};
 
-use pdb_container::{Error, RawString, Reply, Result};
+use pdb_container::{RawString, Reply, Result};
 use std::alloc::Global;
 use std::fmt;
 use std::ops::Range;

@@ -1,6 +1,6 @@
 //! What the program does with its words and a file, apart from input and output.
 
-ghost use Rattle.std.specs.Prelude.{◌≡◌, ◌⊎◌, map, IfOk};
+ghost use Rattle.std.specs.Prelude.{◌⊎◌, map, IfOk};
 ghost use Rattle.pdb_base.specs.Memory.{FailsOnlyForMemory};
 ghost use Rattle.pdb_container.specs.Refusal.{refusal_of, out_of_memory};
 ghost use Rattle.pdb_container.specs.Reply.{IsReply, answer_of};

@@ -1,6 +1,6 @@
 //! The line of an error.
 
-ghost use Rattle.std.specs.Prelude.{◌≡◌, IfOk};
+ghost use Rattle.std.specs.Prelude.{IfOk};
 ghost use Rattle.pdb_base.specs.Memory.{FailsOnlyForMemory};
 ghost use Rattle.pdb_base.specs.Refusal.{refusal_of};
 ghost use Rattle.pdb_cli.specs.Printed.{IsTextOf, IsLineOf};

@@ -1,15 +1,15 @@
 -- The buckets of a string table.
-use Rattle.std.proofs.Common.{Bool, true, false, ◌∷◌, length, if◌then◌else◌, ◌≡◌, ℕ, ◌+◌, ◌*◌, ◌==◌, ◌&&◌, not, List}
-use Rattle.std.proofs.Common.{[], refl, sym, ap, ◌∙◌, Option, Ok}
+use Rattle.std.proofs.Common.{◌≡◌, ℕ, ◌+◌, ◌*◌, ◌==◌, ◌&&◌, not, List}
+use Rattle.std.proofs.Common.{[], refl, ◌∙◌, Option, Ok}
 use Rattle.std.specs.Bool.{then_some}
 use Rattle.std.specs.Option.{option_to_list}
 use Rattle.pdb_base.specs.Reading.{word_at}
 use Rattle.pdb_consistency.specs.Mismatch.{asked_of, with_further}
-use Rattle.pdb_consistency.specs.StringTable.{are_buckets_cut, names_mismatches_in, begins_name, bucket_byte}
+use Rattle.pdb_consistency.specs.StringTable.{begins_name, bucket_byte}
 use Rattle.pdb_consistency.specs.StringTable.{bucket_count, bucket_mismatch, buckets_byte}
 use Rattle.pdb_consistency.specs.StringTable.{buckets_mismatches, count_mismatch, in_names, names_in_buckets}
 use Rattle.pdb_consistency.specs.Words.{mismatches_at}
-use Rattle.pdb_consistency.specs.declared.inconsistency.Inconsistency.TheVariants.{BucketsCut, NameCount, NameOffset}
+use Rattle.pdb_consistency.specs.declared.inconsistency.Inconsistency.TheVariants.{NameCount, NameOffset}
 use Rattle.pdb_consistency.specs.declared.mismatch.Extent.{Extent}
 use Rattle.pdb_consistency.specs.declared.mismatch.Mismatch.{Mismatch}
 use Rattle.pdb_consistency.proofs.MismatchLemmas.{asked_in_two, told}

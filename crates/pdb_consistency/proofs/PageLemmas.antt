@@ -15,8 +15,8 @@ use Rattle.pdb_base.proofs.lemmas.Collected.{ok_is}
 use Rattle.pdb_msf.specs.Layout.{LayoutValue}
 use Rattle.pdb_consistency.specs.PageOwners.{layout_owners}
 use Rattle.pdb_consistency.specs.Pages.{at_page, has_owner, is_owned, is_reserved, shared_pages}
-use Rattle.pdb_consistency.specs.Pages.{active_map, layout_mismatches, free_page, free_pages, is_free, is_in_use}
-use Rattle.pdb_consistency.specs.declared.inconsistency.Inconsistency.TheVariants.{PageFree, PageShared}
+use Rattle.pdb_consistency.specs.Pages.{layout_mismatches, free_pages}
+use Rattle.pdb_consistency.specs.declared.inconsistency.Inconsistency.TheVariants.{PageShared}
 use Rattle.pdb_consistency.specs.declared.mismatch.Extent.{Extent}
 use Rattle.pdb_consistency.specs.declared.mismatch.Mismatch.{Mismatch}
 use Rattle.pdb_consistency.specs.declared.page_owners.PageOwner.{PageOwner}

@@ -1,8 +1,7 @@
 //! The sizes of the parts of stream 3.
 
 ghost use Rattle.std.specs.Prelude.{◌≡◌};
-ghost use Rattle.pdb_file.specs.DbiHeader.{dbi_header_of};
-ghost use Rattle.pdb_consistency.specs.DebugSizes.{debug_sizes_mismatch, parts_size, sized_mismatch};
+ghost use Rattle.pdb_consistency.specs.DebugSizes.{debug_sizes_mismatch, parts_size};
 
 use crate::inconsistency::Inconsistency;
 use crate::mismatch::Mismatch;

@@ -12,7 +12,7 @@ use crate::inconsistency::Inconsistency;
 use crate::mismatch::{Extent, Mismatch, add};
 use crate::words::word_at;
 use pdb_base::{ItemIndex, Result};
-use pdb_tpi::{Header, OpenTable, RecordPlace, Slice};
+use pdb_tpi::{Header, OpenTable, Slice};
 use std::alloc::Global;
 
 /// Returns where a part of the hash stream begins: at 0 if its offset is negative.

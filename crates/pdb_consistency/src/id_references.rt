@@ -4,7 +4,7 @@ ghost use Rattle.std.specs.Prelude.{◌≡◌, map, Some};
 ghost use Rattle.std.specs.Option.{option_map};
 ghost use Rattle.pdb_values.specs.IdValue.{id_value};
 ghost use Rattle.pdb_consistency.specs.References.{file_reference, first_from, id_reference_from, id_references};
-ghost use Rattle.pdb_consistency.specs.References.{one_of, type_references};
+ghost use Rattle.pdb_consistency.specs.References.{type_references};
 
 use crate::references::{first_argument_from, first_from};
 use pdb_base::IdIndex;
@@ -24,10 +24,7 @@ fn file_reference(file: UserDefinedTypeSourceFileRef) -> Option<u32>
 fn number_of(index: Option<IdIndex>) -> Option<u32>
     ensures { result ≡ option_map (λ id. id.0) index }
 {
-    match index {
-        Some(index) => Some(index.0),
-        None => None,
-    }
+    index.map(|index| index.0)
 }
 
 /// Returns the first of some ids that is not below `least`.

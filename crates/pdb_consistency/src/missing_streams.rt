@@ -1,8 +1,6 @@
 //! Streams that have a name or a role.
 
-ghost use Rattle.std.specs.Prelude.{◌≡◌, ◌++◌, map, Ok};
-ghost use Rattle.std.specs.List.{flat_map};
-ghost use Rattle.std.specs.Option.{option_to_list};
+ghost use Rattle.std.specs.Prelude.{◌≡◌, ◌++◌, Ok};
 ghost use Rattle.pdb_base.specs.Answer.{Answers};
 ghost use Rattle.pdb_msf.specs.Layout.{size_by};
 ghost use Rattle.pdb_consistency.specs.Mismatch.{asked_of, with_further};
@@ -36,15 +34,13 @@ fn is_missing(layout: &Layout, number: u32) -> bool
 fn index_mismatch(layout: &Layout, stream: u32, index: StreamIndex) -> Option<Mismatch>
     ensures { result ≡ index_mismatch layout.now stream index.0 }
 {
-    match index.msf_number() {
-        Some(number) => is_missing(layout, number).then_some(Mismatch {
-            stream: Some(stream),
-            index: None,
-            byte: None,
-            what: Inconsistency::StreamMissing(number),
-        }),
-        None => None,
-    }
+    let number = index.msf_number()?;
+    is_missing(layout, number).then_some(Mismatch {
+        stream: Some(stream),
+        index: None,
+        byte: None,
+        what: Inconsistency::StreamMissing(number),
+    })
 }
 
 /// Adds the mismatches of some indexes.

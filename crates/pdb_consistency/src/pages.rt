@@ -6,7 +6,7 @@ ghost use Rattle.std.specs.Int.{div_ceil};
 ghost use Rattle.pdb_base.specs.Answer.{Answers};
 ghost use Rattle.pdb_msf.specs.Layout.{layout_of};
 ghost use Rattle.pdb_consistency.specs.Mismatch.{asked_of, with_further};
-ghost use Rattle.pdb_consistency.specs.Pages.{at_page, free_byte, free_pages, has_bit, is_free, is_in_use, is_reserved};
+ghost use Rattle.pdb_consistency.specs.Pages.{at_page, free_byte, free_pages, is_free, is_in_use, is_reserved};
 ghost use Rattle.pdb_consistency.specs.Pages.{active_map, layout_mismatches, page_mismatches, shared_pages};
 
 use crate::inconsistency::Inconsistency;

@@ -35,10 +35,7 @@ pub fn is_not_read(kind: u16, error: &Error) -> bool
 fn not_below(index: Option<u32>) -> Option<Inconsistency>
     ensures { result ≡ option_map (λ index. ReferenceNotBelow index) index }
 {
-    match index {
-        Some(index) => Some(Inconsistency::ReferenceNotBelow(index)),
-        None => None,
-    }
+    index.map(Inconsistency::ReferenceNotBelow)
 }
 
 /// Returns what is inconsistent in the record of a type.

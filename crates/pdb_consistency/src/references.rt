@@ -12,10 +12,7 @@ use pdb_values::{FieldList, MethodListEntry, TypeData};
 fn number_of(index: Option<TypeIndex>) -> Option<u32>
     ensures { result ≡ index_number index }
 {
-    match index {
-        Some(index) => Some(index.0),
-        None => None,
-    }
+    index.map(|index| index.0)
 }
 
 /// Returns the first of these numbers, as far as they are given, that is not below `least`.

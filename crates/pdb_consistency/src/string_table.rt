@@ -4,9 +4,8 @@ ghost use Rattle.std.specs.Prelude.{◌≡◌, ◌≤◌, ◌<◌, ◌+◌, ◌*
 ghost use Rattle.std.specs.Bool.{then_some};
 ghost use Rattle.pdb_base.specs.Answer.{Answers};
 ghost use Rattle.pdb_consistency.specs.Mismatch.{asked_of, with_further};
-ghost use Rattle.pdb_consistency.specs.StringTable.{are_buckets_cut, begins_name, bucket_at, bucket_byte, bucket_count};
+ghost use Rattle.pdb_consistency.specs.StringTable.{are_buckets_cut, begins_name, bucket_byte};
 ghost use Rattle.pdb_consistency.specs.StringTable.{bucket_mismatch, buckets_byte, count_mismatch, in_names};
-ghost use Rattle.pdb_consistency.specs.StringTable.{name_count};
 ghost use Rattle.pdb_consistency.specs.StringTable.{buckets_mismatches, names_in_buckets, names_mismatches_in};
 ghost use Rattle.pdb_consistency.specs.declared.inconsistency.Inconsistency.TheVariants.{NameCount, NameOffset};
 ghost use Rattle.pdb_consistency.specs.Words.{mismatches_at};

@@ -1,6 +1,6 @@
 //! Two ways to read a stream: from a file that stays open, and from one that the read consumes.
 
-ghost use Rattle.std.specs.Prelude.{◌≡◌, ℕ, List, Option, Some, None, IsSome, IsTrue};
+ghost use Rattle.std.specs.Prelude.{ℕ, List, Option, Some, None, IsSome};
 ghost use Rattle.pdb_base.specs.Answer.{Answer, AnswersUnless};
 ghost use Rattle.pdb_msf.specs.{File.stream_of, Source.HasFailed};
 ghost use Rattle.pdb_container.specs.ReadStreams.{StaysOpen, WasSound, stays_open, stream_once};

@@ -1,9 +1,9 @@
 -- What a finder knows that is shown a walk.
 use Rattle.std.proofs.Common.{◌≡◌, inl, inr, ℕ, ◌+◌, ◌-◌, ◌/◌, ◌≤◌, ◌<◌, List, length, refl, sym, ap, subst, ◌∙◌, arith}
-use Rattle.std.proofs.Common.{Option, Ok, Some}
+use Rattle.std.proofs.Common.{Ok, Some}
 use Rattle.std.proofs.lemmas.Bool.{cases_lt}
 use Rattle.std.proofs.lemmas.Bool.Decides.{nat_tests}
-use Rattle.pdb_container.specs.Finder.{FinderState, first_of_block, find_of, known_when_new, known_after}
+use Rattle.pdb_container.specs.Finder.{FinderState, first_of_block, known_when_new, known_after}
 use Rattle.pdb_container.specs.Steps.{WalkPosition, IsStep, nth_item, steps_taken, walk}
 use Rattle.pdb_container.specs.ItemTable.{Table}
 use Rattle.pdb_tpi.proofs.FinderLemmas.{find_known}

@@ -1,6 +1,6 @@
 //! The roles of streams, which the debug header of stream 3 lists.
 
-ghost use Rattle.std.specs.Prelude.{◌≡◌, ◌+◌, ◌^◌, ◌<◌, sum};
+ghost use Rattle.std.specs.Prelude.{◌≡◌, ◌+◌, ◌<◌, sum};
 ghost use Rattle.pdb_base.specs.Answer.{Gives};
 ghost use Rattle.pdb_file.specs.DebugHeader.{debug_header_of, extra_streams, extra_streams_of, stream_listed_at};
 ghost use Rattle.pdb_file.specs.DebugHeader.{roles_in, sizes_before};

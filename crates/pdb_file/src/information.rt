@@ -1,6 +1,4 @@
 //! The header of stream 1, which identifies a program database.
-
-ghost use Rattle.std.specs.Prelude.{◌≡◌};
 ghost use Rattle.pdb_base.specs.Answer.{Gives};
 ghost use Rattle.pdb_file.specs.Information.{information_of};
 

@@ -1,6 +1,4 @@
 //! The headers of all sections of an image.
-
-ghost use Rattle.std.specs.Prelude.{◌≡◌, ◌↔◌};
 ghost use Rattle.pdb_base.specs.Answer.{Answers};
 ghost use Rattle.pdb_file.specs.SectionHeaders.{section_headers_of};
 

@@ -1,6 +1,6 @@
 //! The names that stream 1 gives to streams.
 
-ghost use Rattle.std.specs.Prelude.{◌≡◌, ◌+◌, ◌*◌, ◌/◌, ◌<◌, ◌≤◌, length, map, IsOk, IfErr, Ok};
+ghost use Rattle.std.specs.Prelude.{◌≡◌, ◌+◌, ◌*◌, ◌/◌, ◌<◌, length, map, IsOk, Ok};
 ghost use Rattle.pdb_base.specs.Answer.{Answers, Gives};
 ghost use Rattle.pdb_base.specs.Memory.{LacksOnlyIf};
 ghost use Rattle.pdb_base.specs.Place.{left};

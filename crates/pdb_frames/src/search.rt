@@ -4,7 +4,7 @@ ghost use Rattle.std.specs.Prelude.{◌≡◌, ◌<◌, ◌≤◌, ◌/◌, leng
 ghost use Rattle.std.specs.List.Sorted.{IsStrictlyIncreasing};
 ghost use Rattle.pdb_base.specs.Halving.{IsFound};
 ghost use Rattle.pdb_base.specs.Records.{values_of_size};
-ghost use Rattle.pdb_frames.specs.Span.{Span, begins, from_address, start_at, IsEnd};
+ghost use Rattle.pdb_frames.specs.Span.{begins, from_address, start_at, IsEnd};
 
 use crate::frame_record::{FrameRecord, from_place, record_at};
 

@@ -2,7 +2,7 @@
 use Rattle.std.proofs.Common.{◌≡◌, List, map, ap, sym, ◌∙◌, Some}
 use Rattle.pdb_values.specs.declared.field_list.FieldList.{FieldList, fold_out-FieldList}
 use Rattle.pdb_values.specs.TypeView.{type_value, field_list_value, view_step, list_step}
-use Rattle.pdb_values.specs.declared.type_data.TypeData.{TypeData, fold-roll-TypeData}
+use Rattle.pdb_values.specs.declared.type_data.TypeData.{fold-roll-TypeData}
 use Rattle.pdb_values.specs.declared.type_data.TypeData.TheVariants.{rolls-FieldList}
 use Rattle.pdb_values.specs.{declared.type_data.TypeData.TheOpen.TypeData-F, TypeValue.TypeValue}
 use Rattle.pdb_values.specs.declared.type_data.TypeData.TheVariants as variants

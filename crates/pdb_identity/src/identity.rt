@@ -87,10 +87,7 @@ impl Identity {
     pub fn machine(&self) -> Option<u16>
         ensures { result ≡ machine_of self.now }
     {
-        match self.debug_header {
-            Some(header) => Some(header.machine_type),
-            None => None,
-        }
+        self.debug_header.map(|header| header.machine_type)
     }
 
     /// Returns the name that Breakpad has for the machine: `x86`, `x86_64`, `arm64`, `arm`, or
@@ -109,10 +106,7 @@ impl Identity {
     pub fn is_stripped(&self) -> Option<bool>
         ensures { result ≡ stripped_of self.now }
     {
-        match self.debug_header {
-            Some(header) => Some(stripped_in(header)),
-            None => None,
-        }
+        self.debug_header.map(stripped_in)
     }
 
     /// Returns the key under which a symbol store keeps the file: the 32 digits of the GUID and the

@@ -1,6 +1,6 @@
 //! Files in the multi-stream format (MSF), the container of a program database.
 
-ghost use Rattle.std.specs.Prelude.{◌≡◌, ◌+◌, ◌^◌, ◌<◌, ◌≤◌, false, IsTrue, IsOk, IfOk, MatchResult};
+ghost use Rattle.std.specs.Prelude.{◌≡◌, ◌+◌, ◌^◌, ◌<◌, false, IsTrue, IsOk, IfOk, MatchResult};
 ghost use Rattle.pdb_base.specs.Answer.{Answers, AnswersUnless, RefusesUnless};
 ghost use Rattle.pdb_msf.specs.Source.{HasFailed, IsKept, KeepsKind};
 ghost use Rattle.pdb_msf.specs.Header.{geometry_of, head_of, opening, file_head};

@@ -1,13 +1,13 @@
 //! The positions of pages in a file.
 
-ghost use Rattle.std.specs.Prelude.{◌≡◌, ◌==◌, ◌+◌, ◌^◌, ◌<◌, ◌≤◌, ◌∷◌, ◌++◌, [], false, true, length, take, IsOk};
+ghost use Rattle.std.specs.Prelude.{◌≡◌, ◌==◌, ◌+◌, ◌^◌, ◌<◌, ◌≤◌, ◌∷◌, ◌++◌, [], false, true, length, take};
 ghost use Rattle.std.specs.Prelude.{OnOk, OnErr};
 ghost use Rattle.pdb_base.specs.Memory.{FailsOnlyForMemory};
 ghost use Rattle.pdb_msf.specs.Source.{positions};
 ghost use Rattle.pdb_msf.specs.PageList.{first_bytes_of, page_positions, page_slice, with_slice};
 
 use crate::source::SourceSlice;
-use pdb_base::{Error, Result};
+use pdb_base::Result;
 use std::alloc::Global;
 use std::marker::Model;
 

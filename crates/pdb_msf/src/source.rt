@@ -1,6 +1,6 @@
 //! Where the bytes of a file come from.
 
-ghost use Rattle.std.specs.Prelude.{◌≡◌, ◌++◌, ℕ, List, length, map, true, IsTrue, IfOk, IfErr, IsErrAnd, None};
+ghost use Rattle.std.specs.Prelude.{◌≡◌, ◌++◌, ℕ, List, length, map, IsTrue, IfOk, IfErr, IsErrAnd, None};
 ghost use Rattle.std.specs.Prelude.{slice_index};
 ghost use Rattle.std.specs.IoError.{error_kind};
 ghost use Rattle.pdb_msf.specs.Source.{State, IsKept, IsLastFault, in_memory, HasFailed, ShowsBytes, bytes_at};

@@ -1,7 +1,7 @@
 //! What the definitions that contracts cite say in other words. The functions do nothing: each
 //! contract is a law.
 
-ghost use Rattle.std.specs.Prelude.{ℕ, List, ◌≡◌, length};
+ghost use Rattle.std.specs.Prelude.{ℕ, List, length};
 ghost use Rattle.pdb_base.specs.Refusal.{Refusal, out_of_memory};
 ghost use Rattle.pdb_base.specs.Spelling.{Begins};
 ghost use Rattle.pdb_records.specs.Agreement.{Agrees, NoTwoValues};

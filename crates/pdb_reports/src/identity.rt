@@ -118,10 +118,7 @@ fn read_identity(alloc: Global, file: &[u8]) -> Result<Identity>
 pub fn identity_in(alloc: Global, file: &[u8]) -> Result<FileIdentity>
     ensures { Answers (λ identity. identity) result (identity_said file.now) }
 {
-    match read_identity(alloc, file) {
-        Ok(identity) => Ok(FileIdentity::of(&identity)),
-        Err(error) => Err(error),
-    }
+    Ok(FileIdentity::of(&read_identity(alloc, file)?))
 }
 
 /// Writes a value that was read, or returns the fault of the error.

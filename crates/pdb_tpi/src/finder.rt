@@ -5,7 +5,7 @@ ghost use Rattle.std.specs.Prelude.{vec_capacity, IsOk, IfOk, Ok};
 ghost use Rattle.pdb_base.specs.Answer.{Answers, Gives};
 ghost use Rattle.pdb_base.specs.Count.{calls_of, after_calls};
 ghost use Rattle.pdb_tpi.specs.Item.{item_bytes, index_of};
-ghost use Rattle.pdb_tpi.specs.Steps.{WalkPosition, nth_item};
+ghost use Rattle.pdb_tpi.specs.Steps.{nth_item};
 ghost use Rattle.pdb_tpi.specs.Table.{count_in_header};
 ghost use Rattle.pdb_tpi.specs.Place.{ArePlaces, IsPlace};
 ghost use Rattle.pdb_tpi.specs.Finder.{FinderState, first_of_block, known_when_new, known_after, known_of};

@@ -1,6 +1,6 @@
 //! The header of a table of items.
 
-ghost use Rattle.std.specs.Prelude.{◌<◌, ◌^◌, length, IfOk};
+ghost use Rattle.std.specs.Prelude.{◌<◌, ◌^◌, IfOk};
 ghost use Rattle.pdb_base.specs.Answer.{Gives};
 ghost use Rattle.pdb_base.specs.Place.{left};
 ghost use Rattle.pdb_tpi.specs.Header.{slice_of, header_fields, check_header, header_of};

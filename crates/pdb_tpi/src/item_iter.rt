@@ -1,6 +1,6 @@
 //! An iterator over the items of a table.
 
-ghost use Rattle.std.specs.Prelude.{◌≡◌, ◌+◌, ◌≤◌, ℕ, length, nat_lt, ⊤, if◌then◌else◌, IfOk, OnOk, OnErr};
+ghost use Rattle.std.specs.Prelude.{◌≡◌, ◌+◌, ◌≤◌, length, nat_lt, ⊤, if◌then◌else◌, IfOk, OnOk, OnErr};
 ghost use Rattle.pdb_base.specs.Answer.{Gives};
 ghost use Rattle.pdb_base.specs.Count.{calls_of, one_more, after_calls};
 ghost use Rattle.pdb_tpi.specs.Item.{item_bytes, index_of};

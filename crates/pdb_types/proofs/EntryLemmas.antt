@@ -25,7 +25,7 @@ use Rattle.pdb_tpi.specs.Finder.{item_of}
 use Rattle.pdb_tpi.specs.Record.{type_of}
 use Rattle.pdb_tpi.specs.Steps.{WalkPosition, IsStep, room, body, steps_taken, walk, walk_rest, nth_item}
 use Rattle.pdb_tpi.specs.Table.{Table}
-use Rattle.pdb_tpi.specs.Walk.{items, behind, fault_of}
+use Rattle.pdb_tpi.specs.Walk.{items, fault_of}
 use Rattle.pdb_tpi.proofs.StepLemmas.{nth_ok, step_some, step_none, step_err}
 use Rattle.pdb_types.specs.declared.entry.Entry.{Entry}
 use Rattle.pdb_types.specs.Declaration.{Declared, TypeName, source_name, decorated_name, bears, declaration_of}

@@ -1,10 +1,10 @@
 -- The fields of a class, one after another.
 use Rattle.std.proofs.Common.{◌≡◌, ◌⊎◌, inl, inr, ℕ, suc, ◌+◌, ◌<◌, List, [], ◌∷◌, ◌++◌, length, get_or, drop, map}
-use Rattle.std.proofs.Common.{refl, sym, ap, subst, ◌∙◌, Bool, Option, Some, None, Ok, Err, append_assoc, add-one}
+use Rattle.std.proofs.Common.{refl, sym, ap, ◌∙◌, Option, Some, None, Ok, Err, append_assoc, add-one}
 use Rattle.std.specs.Option.{option_to_list}
-use Rattle.std.specs.List.{cons_option, list_any}
+use Rattle.std.specs.List.{cons_option}
 use Rattle.std.proofs.Math.Seq.{drop-cons}
-use Rattle.std.proofs.lemmas.List.{append-nil, map-append}
+use Rattle.std.proofs.lemmas.List.{append-nil}
 use Rattle.pdb_base.proofs.lemmas.Collected.{bind_ok, ok, ok_is}
 use Rattle.pdb_base.specs.Answer.{Answer, ◌>>=◌}
 use Rattle.pdb_base.specs.Refusal.{Refusal, refusal_of}
@@ -14,16 +14,8 @@ use Rattle.pdb_tpi.specs.Table.{Table}
 use Rattle.pdb_values.specs.declared.type_data.TypeData.{TypeData}
 use Rattle.pdb_values.specs.TypeValue.{TypeValue}
 use Rattle.pdb_values.specs.TypeView.{type_value}
-use Rattle.pdb_types.specs.declared.layout.LayoutField.{LayoutField}
-use Rattle.pdb_types.specs.declared.extent.Extent.{Extent}
-use Rattle.pdb_types.specs.declared.field_place.FieldPlace.{FieldPlace}
-use Rattle.pdb_types.specs.declared.gap.Gap.{Gap}
-use Rattle.pdb_types.specs.declared.span.Span.{Span}
-use Rattle.pdb_types.specs.Extent.{extent_at}
-use Rattle.pdb_types.specs.FieldPlace.{PlaceValue, place_of_field, place_value}
-use Rattle.pdb_types.specs.Gap.{AreGapRows}
-use Rattle.pdb_types.specs.Layout.{FieldValue, field_from, field_of, field_span, field_value, field_values_in}
-use Rattle.pdb_types.specs.Layout.{is_virtual_field, with_field}
+use Rattle.pdb_types.specs.Layout.{FieldValue, field_of, field_values_in}
+use Rattle.pdb_types.specs.Layout.{with_field}
 
 -- fields behind others
 abbrev pub behind : List FieldValue → Answer (List FieldValue) → Answer (List FieldValue)

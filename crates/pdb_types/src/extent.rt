@@ -4,8 +4,6 @@ ghost use Rattle.std.specs.Prelude.{◌≡◌};
 ghost use Rattle.pdb_base.specs.Answer.{Answers};
 ghost use Rattle.pdb_values.specs.TypeView.{type_value};
 ghost use Rattle.pdb_types.specs.Extent.{bits_of, extent_at, extent_of_size, field_bits};
-ghost use Rattle.std.specs.Option.{option_map};
-ghost use Rattle.pdb_values.specs.TypeValue.{TypeValue};
 
 use crate::definitions::Definitions;
 use crate::span::Span;

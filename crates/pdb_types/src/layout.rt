@@ -5,7 +5,6 @@ ghost use Rattle.std.specs.List.{list_any};
 ghost use Rattle.std.specs.Option.{option_map};
 ghost use Rattle.pdb_base.specs.Answer.{Answers};
 ghost use Rattle.pdb_values.specs.TypeView.{type_value};
-ghost use Rattle.pdb_types.specs.Extent.{bits_of};
 ghost use Rattle.pdb_types.specs.Layout.{HasGaps, body_layout, body_of, field_of, field_span, field_value};
 ghost use Rattle.pdb_types.specs.Layout.{field_values_in};
 ghost use Rattle.pdb_types.specs.Layout.{is_virtual_field, layout_of_type, layout_value, list_there, records_of};

@@ -65,10 +65,8 @@ impl StreamPages {
             return None;
         }
         let page_size = self.page_size as u64;
-        match self.numbers.get((byte / page_size) as usize) {
-            Some(page) => Some(*page as u64 * page_size + byte % page_size),
-            None => None,
-        }
+        let page = self.numbers.get((byte / page_size) as usize)?;
+        Some(*page as u64 * page_size + byte % page_size)
     }
 }
 

@@ -10,7 +10,7 @@ ghost use Rattle.pdb_validation.specs.Places.{stream_pages};
 ghost use Rattle.pdb_validation.specs.Relations.{buckets_of, buckets_relation, container_relations, hashes_by};
 ghost use Rattle.pdb_validation.specs.Relations.{id_relations, mismatch_fault, name_relations};
 ghost use Rattle.pdb_validation.specs.Relations.{named_streams, names_relation, role_relations, roles_in_stream};
-ghost use Rattle.pdb_validation.specs.Relations.{roles_relation, sections_by, sections_in, sections_relation};
+ghost use Rattle.pdb_validation.specs.Relations.{roles_relation, sections_in, sections_relation};
 ghost use Rattle.pdb_validation.specs.Relations.{sizes_relation, type_relations, types_end};
 ghost use Rattle.pdb_validation.specs.Relations.{related_faults, with_relations};
 

@@ -1,6 +1,6 @@
 //! How large the directory and the streams of a file are.
 
-ghost use Rattle.std.specs.Prelude.{◌≡◌, ◌≤◌, length, ◌*◌, ◌^◌, ◌<◌};
+ghost use Rattle.std.specs.Prelude.{◌≡◌, ◌≤◌, length};
 ghost use Rattle.pdb_msf.specs.Layout.{size_by};
 ghost use Rattle.pdb_validation.specs.Sizes.{directory_size, layout_sizes, size_or_none, streams_nameable};
 ghost use Rattle.pdb_validation.specs.Sizes.{streams_size};

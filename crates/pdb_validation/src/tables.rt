@@ -57,10 +57,7 @@ fn check_value(types: &OpenTable<TypeIndex>, index: TypeIndex, value: &TypeData<
 fn without_value(read: Result<TypeData<'_>>) -> Result<()>
     ensures { (error : Error) → read.entry ≡ Err error → result ≡ Err error }
 {
-    match read {
-        Ok(_) => Ok(()),
-        Err(error) => Err(error),
-    }
+    read.map(|_| ())
 }
 
 /// Reads the record of a type, and checks its continuation.

@@ -2,7 +2,6 @@
 
 ghost use Rattle.std.specs.Prelude.{◌≡◌, ◌<◌};
 ghost use Rattle.pdb_base.specs.Answer.{Gives};
-ghost use Rattle.pdb_base.specs.Bits.{bits};
 ghost use Rattle.pdb_values.specs.Primitive.{primitive_kinds, indirections, beside_number, first_record};
 ghost use Rattle.pdb_values.specs.TypeView.{type_value, primitive_of};
 

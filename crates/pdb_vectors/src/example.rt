@@ -4,7 +4,7 @@ ghost use Rattle.std.specs.Prelude.{◌≡◌, ◌+◌, ◌≤◌, [], ◌++◌,
 ghost use Rattle.pdb_base.specs.Memory.{FailsOnlyForMemory};
 ghost use Rattle.pdb_vectors.specs.Example.{directory, header, location, page, s1_bytes, s1_of};
 
-use pdb_base::{Error, Result};
+use pdb_base::Result;
 use std::alloc::Global;
 
 /// The size of a page of S1 in bytes.

@@ -4,7 +4,7 @@ ghost use Rattle.std.specs.Prelude.{◌≡◌, IfOk};
 ghost use Rattle.pdb_base.specs.Memory.{FailsOnlyForMemory};
 ghost use Rattle.pdb_vectors.specs.Tables.{table_bytes};
 
-use pdb_base::{Error, Result};
+use pdb_base::Result;
 use std::alloc::Global;
 
 /// The size of the header of a table in bytes.

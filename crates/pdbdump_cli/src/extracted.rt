@@ -1,6 +1,4 @@
 //! What `extract` writes of a file.
-
-ghost use Rattle.std.specs.Prelude.{◌≡◌};
 ghost use Rattle.pdb_msf.specs.File.{ReadsFile};
 ghost use Rattle.pdbdump_tables.specs.Listing.{IsListed};
 ghost use Rattle.pdbdump_cli.specs.Extracted.{extraction_in, number_meant};
@@ -38,8 +36,6 @@ pub(crate) fn extract_opened<W: Write>(
     ensures { IsListed (extraction_in file.old.source.items file.old.head (extract_view asked.now))
         out.old out.new result }
 {
-    match number_meant(alloc, file, asked.stream) {
-        Ok(number) => extract(alloc, file, number, asked.skip, asked.limit, out),
-        Err(fault) => Err(fault),
-    }
+    let number = number_meant(alloc, file, asked.stream)?;
+    extract(alloc, file, number, asked.skip, asked.limit, out)
 }

@@ -88,10 +88,8 @@ fn identify<W: Write>(
 ) -> Result<bool, Error>
     ensures { IsIdentified form (identify_view asked.now) file.items out.old out.new result }
 {
-    match identity_in(alloc, file) {
-        Ok(identity) => write_found(alloc, asked, &identity, form, out),
-        Err(fault) => Err(fault),
-    }
+    let identity = identity_in(alloc, file)?;
+    write_found(alloc, asked, &identity, form, out)
 }
 
 /// Ends the program after a file was identified.

@@ -38,8 +38,6 @@ pub(crate) fn show_in<O: Write, E: Write>(
     ensures shown { AreLaidOut form (layouts_view asked.now) file.items out.old out.new err.old err.new result }
     ensures answered { IsCallAnswered result err.old err.new }
 {
-    match type_stream(alloc, file) {
-        Ok(stream) => show_layouts(alloc, stream, asked.names, &asked.options, form, out, err),
-        Err(fault) => Err(fault),
-    }
+    let stream = type_stream(alloc, file)?;
+    show_layouts(alloc, stream, asked.names, &asked.options, form, out, err)
 }

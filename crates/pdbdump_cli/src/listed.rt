@@ -1,6 +1,6 @@
 //! What a command writes of a file.
 
-ghost use Rattle.std.specs.Prelude.{◌≡◌, unwrap_or};
+ghost use Rattle.std.specs.Prelude.{unwrap_or};
 ghost use Rattle.pdbdump_cli.specs.Listed.{AreIds, AreTypes, Does, DoesIn, IsListedIn};
 
 use crate::command::Command;
@@ -28,12 +28,10 @@ fn list_types<W: Write>(
     ensures { IsListedIn (AreTypes form index) file.source.items file.head number
         out.old out.new result }
 {
-    match last_stream(alloc, file, number) {
-        Ok(stream) => match index {
-            Some(index) => type_at(alloc, stream, number, index, form, out),
-            None => types(alloc, stream, number, form, out),
-        },
-        Err(fault) => Err(fault),
+    let stream = last_stream(alloc, file, number)?;
+    match index {
+        Some(index) => type_at(alloc, stream, number, index, form, out),
+        None => types(alloc, stream, number, form, out),
     }
 }
 
@@ -49,12 +47,10 @@ fn list_ids<W: Write>(
     ensures { IsListedIn (AreIds form index) file.source.items file.head number
         out.old out.new result }
 {
-    match last_stream(alloc, file, number) {
-        Ok(stream) => match index {
-            Some(index) => id_at(alloc, stream, number, index, form, out),
-            None => ids(alloc, stream, number, form, out),
-        },
-        Err(fault) => Err(fault),
+    let stream = last_stream(alloc, file, number)?;
+    match index {
+        Some(index) => id_at(alloc, stream, number, index, form, out),
+        None => ids(alloc, stream, number, form, out),
     }
 }
 
@@ -103,8 +99,5 @@ pub fn list<W: Write>(
 ) -> Result<()>
     ensures { Does form command.entry file.items out.old out.new result }
 {
-    match PDB::open(alloc, file) {
-        Ok(file) => list_opened(alloc, file, command, form, out),
-        Err(fault) => Err(fault),
-    }
+    list_opened(alloc, PDB::open(alloc, file)?, command, form, out)
 }

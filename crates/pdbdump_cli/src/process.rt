@@ -12,7 +12,6 @@ use pdb_cli::{Errors, tell, texts_of, words_of};
 use pdb_container::{Error, Result};
 use pdb_output::Output;
 use pdbdump_rows::Form;
-use std::alloc::Global;
 use std::io::{BufWriter, ErrorKind, Read, Write};
 use std::rt::{Env, Files};
 use std::{env, fs, io};

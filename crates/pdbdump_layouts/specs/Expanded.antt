@@ -4,7 +4,6 @@ use Rattle.std.specs.Prelude.{List, [], ◌∷◌, ◌++◌, length, Option, Som
 use Rattle.std.specs.List.{All, filter_map}
 use Rattle.pdb_tpi.specs.Table.{Table}
 use Rattle.pdb_types.specs.declared.layout.Layout.{Layout}
-use Rattle.pdb_types.specs.declared.layout.LayoutField.{LayoutField}
 use Rattle.pdb_types.specs.FieldPlace.{FieldRole, base, field_role, member}
 use Rattle.pdb_types.specs.Layout.{HasGaps, layout_value}
 use Rattle.pdbdump_layouts.specs.Classes.{class_layout}

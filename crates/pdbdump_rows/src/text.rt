@@ -1,6 +1,6 @@
 //! Text as it is written.
 
-ghost use Rattle.std.specs.Prelude.{◌≡◌, ◌<◌, ◌↔◌, ◌++◌, IsTrue, OnOk};
+ghost use Rattle.std.specs.Prelude.{◌≡◌, ◌<◌, ◌++◌, OnOk};
 ghost use Rattle.std.specs.List.{list_all};
 ghost use Rattle.pdbdump_rows.specs.Text.{escape, is_escaped, is_plain, short_escape, in_quotes, shown_char};
 ghost use Rattle.pdbdump_rows.specs.Text.{shown_text};

@@ -36,7 +36,7 @@ pub record IsWalked (table : Table) (walked : Walked) : Type 0 where
   pub continued : walked.continued ≡ continued_of table
   pub fault : option_map refusal_of walked.fault ≡ walk_stop (walk_rest table)
 
--- A walk says what the table says that is meant; or the table is refused, or memory ran out.
+-- The result of a walk over a table: what is true of the table; or the error of the table, or `OutOfMemory`.
 abbrev pub SaysTable : Answer Table → Result Walked Error → Type 0
 SaysTable meant (Ok walked) = (table : Table) × (meant ≡ Ok table) × IsWalked table walked
 SaysTable meant (Err e) = (meant ≡ Err (refusal_of e)) ⊎ (e ≡ OutOfMemory)

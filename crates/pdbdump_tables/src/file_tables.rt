@@ -1,7 +1,5 @@
 //! Lists of the tables of a file. A stream that isn't given is found by its role or its name. For a
 //! role that has no stream, nothing is listed.
-
-ghost use Rattle.std.specs.Prelude.{◌≡◌};
 ghost use Rattle.pdb_msf.specs.File.{ReadsFile};
 ghost use Rattle.pdbdump_tables.specs.Files.{file_frames, file_names, file_sections, frames_in, names_in};
 ghost use Rattle.pdbdump_tables.specs.Listing.{IsListed};

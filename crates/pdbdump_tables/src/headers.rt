@@ -1,7 +1,6 @@
 //! The headers that name streams of symbols and of hashes.
 
 ghost use Rattle.std.specs.Prelude.{◌≡◌, IfOk};
-ghost use Rattle.pdb_msf.specs.File.{stream_of};
 ghost use Rattle.pdbdump_tables.specs.Headers.{debug_header_found, headers_found, table_header_found, table_header_in};
 
 use crate::streams::stream;

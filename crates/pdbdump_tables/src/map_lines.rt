@@ -8,7 +8,7 @@ ghost use Rattle.pdbdump_rows.specs.Line.{ShowsFields};
 ghost use Rattle.pdb_output.specs.Output.{Writes};
 
 use crate::conversions::{OfInternal, OfLoaded};
-use pdb_base::{Error, Result};
+use pdb_base::Result;
 use pdb_output::Output;
 use pdb_space::{PdbInternalRva, PdbInternalSectionOffset, Rva, SectionOffset};
 use pdbdump_rows::{
@@ -36,20 +36,14 @@ fn show_address(
 fn section_of(place: Option<SectionOffset>) -> Option<u32>
     ensures { result ≡ option_map (λ place. place.section) place }
 {
-    match place {
-        Some(place) => Some(place.section as u32),
-        None => None,
-    }
+    place.map(|place| place.section as u32)
 }
 
 /// Returns the offset of a place in its section.
 fn offset_of(place: Option<SectionOffset>) -> Option<u32>
     ensures { result ≡ option_map (λ place. place.offset) place }
 {
-    match place {
-        Some(place) => Some(place.offset),
-        None => None,
-    }
+    place.map(|place| place.offset)
 }
 
 /// Adds the fields of a place in a section that is made of an address.
@@ -73,20 +67,14 @@ fn show_place(
 fn number_of(address: Option<PdbInternalRva>) -> Option<u32>
     ensures { result ≡ address }
 {
-    match address {
-        Some(address) => Some(address.0),
-        None => None,
-    }
+    address.map(|address| address.0)
 }
 
 /// Returns the number of an address of the image as it is loaded, if there is an address.
 fn loaded_number_of(address: Option<Rva>) -> Option<u32>
     ensures { result ≡ address }
 {
-    match address {
-        Some(address) => Some(address.0),
-        None => None,
-    }
+    address.map(|address| address.0)
 }
 
 /// Returns a place in a section of the original image as a `SectionOffset` with the same numbers.

@@ -12,7 +12,7 @@ ghost use Rattle.pdbdump_rows.specs.Lines.{row_text};
 ghost use Rattle.pdbdump_rows.specs.TypeRows.{listed_method_fields};
 ghost use Rattle.pdb_values.specs.TypeView.{type_value};
 
-use pdb_base::{Error, Result, TypeIndex};
+use pdb_base::{Result, TypeIndex};
 use pdb_tpi::OpenTable;
 use pdb_values::{MethodListEntry, TypeData};
 use pdbdump_rows::{Form, Line, append_line, show_entry, show_listed_method};

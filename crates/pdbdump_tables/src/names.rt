@@ -5,7 +5,7 @@ ghost use Rattle.pdbdump_rows.specs.Line.{ShowsFields};
 ghost use Rattle.pdbdump_tables.specs.Listing.{IsListed, whole};
 ghost use Rattle.pdbdump_tables.specs.Tables.{all_names, offset_name_lines, name_shown, next_place};
 
-use pdb_base::{Error, RawString, Result};
+use pdb_base::{RawString, Result};
 use pdb_output::Output;
 use pdb_space::{StringRef, StringTable};
 use pdbdump_rows::{Form, Line, LineResult, Value, write_line};

@@ -6,7 +6,7 @@ ghost use Rattle.pdb_output.specs.Output.{Writes};
 ghost use Rattle.pdbdump_tables.specs.Listing.{IsListed};
 ghost use Rattle.pdbdump_tables.specs.Tables.{omap_all, omap_lines, omap_listing, order_shown, omap_rises};
 
-use pdb_base::{Error, Result, Stream};
+use pdb_base::{Result, Stream};
 use pdb_output::Output;
 use pdb_space::OMAPTable;
 use pdbdump_rows::{Form, Line, Value, show_omap, write_line};

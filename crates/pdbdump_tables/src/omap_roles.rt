@@ -8,7 +8,7 @@ ghost use Rattle.pdbdump_tables.specs.Files.{both_omaps, file_omap, numbered_oma
 ghost use Rattle.pdbdump_tables.specs.Listing.{IsListed};
 
 use crate::omap::write_omap;
-use pdb_base::{Error, Result};
+use pdb_base::Result;
 use pdb_file::{DBIExtraStreams, PDB};
 use pdb_msf::Msf;
 use pdb_output::Output;

@@ -1,6 +1,4 @@
 //! The streams to list, by their numbers or by their roles.
-
-ghost use Rattle.std.specs.Prelude.{◌≡◌};
 ghost use Rattle.pdb_msf.specs.File.{ReadsFile};
 ghost use Rattle.pdbdump_tables.specs.Files.{section_number};
 

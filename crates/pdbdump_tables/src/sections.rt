@@ -1,6 +1,4 @@
 //! The headers of sections.
-
-ghost use Rattle.std.specs.Prelude.{◌≡◌};
 ghost use Rattle.pdbdump_tables.specs.Listing.{IsListed};
 ghost use Rattle.pdbdump_tables.specs.Tables.{sections_listing};
 

@@ -1,11 +1,10 @@
 //! The streams of a file, one line for each.
 
-ghost use Rattle.std.specs.Prelude.{◌≡◌, map};
+ghost use Rattle.std.specs.Prelude.{◌≡◌};
 ghost use Rattle.std.specs.Option.{option_map};
 ghost use Rattle.pdb_base.specs.Answer.{Answers};
 ghost use Rattle.pdb_msf.specs.Directory.{stream_count_in};
 ghost use Rattle.pdb_msf.specs.File.{stream_of};
-ghost use Rattle.pdb_file.specs.StreamNames.{named_view};
 ghost use Rattle.pdbdump_rows.specs.Line.{ShowsFields};
 ghost use Rattle.pdbdump_rows.specs.Row.{value_shown};
 ghost use Rattle.pdb_output.specs.Output.{Writes};
@@ -54,8 +53,11 @@ pub fn stream(
     file.get(alloc, number, limit)
 }
 
-/// Reads the stream with this number as `BigMSF::into_stream` does, which consumes the file and
-/// moves the bytes together in its memory.
+/// Reads the stream with this number as `BigMSF::into_stream` does: it consumes the file, in whose
+/// memory the stream's bytes are moved together if the numbers of its pages increase.
+///
+/// # Errors
+/// Fails as `Msf::get` does.
 pub fn last_stream(alloc: Global, file: PDB<Vec<u8>>, number: u32) -> Result<Stream>
     ensures { Answers (λ stream. stream) result (stream_of file.source.items file.head number None) }
 {

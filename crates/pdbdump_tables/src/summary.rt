@@ -183,8 +183,8 @@ fn write_streams_part<W: Write>(
     write_all_streams(alloc, file, unnamed, form, out)
 }
 
-/// Writes the tables of types and of ids. The walk over the types comes last, since it consumes the
-/// file, of which they are the most.
+/// Writes the tables of types and of ids. The walk over the types is the last, since it consumes the
+/// file: in most files, they are the largest stream.
 #[tactic(auto, unfolding(crate::specs::Summary::tables_part, crate::specs::Kinds::table_part), using(pdb_output::proofs::lemmas::Written::writing))]
 fn write_tables<W: Write>(
     alloc: Global,

@@ -145,6 +145,9 @@ fn write_walked<W: Write>(
 }
 
 /// Walks over the table in a stream.
+///
+/// # Errors
+/// Fails as `TypeInformation::parse` does, and with `OutOfMemory` if an allocation fails.
 fn walk_in(alloc: Global, stream: Stream) -> Result<Walked>
     ensures { SaysTable (table_of stream) result }
 {
@@ -153,6 +156,10 @@ fn walk_in(alloc: Global, stream: Stream) -> Result<Walked>
 }
 
 /// Walks over the table in the stream with this number.
+///
+/// # Errors
+/// Fails as `Msf::get` does for the stream, and then as `TypeInformation::parse` does for its bytes;
+/// with `OutOfMemory` if an allocation fails.
 #[tactic(auto, unfolding(crate::specs::Kinds::table_found))]
 pub fn walk_table(alloc: Global, file: &mut PDB<Vec<u8>>, number: u32) -> Result<Walked>
     ensures says { SaysTable (table_found file.old.source.items file.old.head number) result }
@@ -162,7 +169,10 @@ pub fn walk_table(alloc: Global, file: &mut PDB<Vec<u8>>, number: u32) -> Result
     walk_in(alloc, stream(alloc, file, number, None)?)
 }
 
-/// Walks over the table in the stream with this number, and consumes the file.
+/// Walks over the table in the stream with this number as `walk_table` does, and consumes the file.
+///
+/// # Errors
+/// Fails as `walk_table` does.
 #[tactic(auto, unfolding(crate::specs::Kinds::table_found))]
 pub fn walk_last_table(alloc: Global, file: PDB<Vec<u8>>, number: u32) -> Result<Walked>
     ensures { SaysTable (table_found file.source.items file.head number) result }
@@ -170,7 +180,12 @@ pub fn walk_last_table(alloc: Global, file: PDB<Vec<u8>>, number: u32) -> Result
     walk_in(alloc, last_stream(alloc, file, number)?)
 }
 
-/// Writes what a walk said of the table in the stream with this number, or the table's error.
+/// Writes the result of a walk over the table in the stream with this number: its lines, or its
+/// error.
+///
+/// # Errors
+/// Fails with `IoError` if the writer fails, and with `OutOfMemory` if the walk did or if an
+/// allocation fails.
 pub fn write_table<W: Write>(
     alloc: Global,
     number: u32,

@@ -1,10 +1,10 @@
 -- Replies of sources that fail more or less often, and the reply of a run with one query.
-use Rattle.std.proofs.Common.{◌≡◌, ℕ, true, List, [], ◌∷◌, ◌++◌, Ok, Err, refl, ap, inl, inr}
+use Rattle.std.proofs.Common.{◌≡◌, ℕ, true, List, [], ◌∷◌, ◌++◌, Ok, Err, refl, inl, inr}
 use Rattle.std.specs.Prelude.{IsTrue}
 use Rattle.std.specs.Global.{Vec}
 use Rattle.pdb_base.specs.Answer.{Answer}
 use Rattle.pdb_base.specs.declared.error.Error.{Error}
-use Rattle.pdb_msf.specs.Header.{Head, file_head}
+use Rattle.pdb_msf.specs.Header.{Head}
 use Rattle.pdb_container.specs.declared.query.Query.{Query}
 use Rattle.pdb_container.specs.declared.query.Reply.{Reply}
 use Rattle.pdb_container.specs.declared.query.Reply.TheVariants as replies

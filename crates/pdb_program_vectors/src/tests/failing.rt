@@ -3,7 +3,6 @@
 use super::uses::file::build_file;
 use pdb_base::Result;
 use pdb_output::Output;
-use pdb_vectors::s1_with;
 use pdbdump_cli::{
     Command, Request, extract_of, identify_of, layouts_of, serve, serve_questions, validate_of,
 };

@@ -10,7 +10,6 @@ use pdb_space::{
 use pdb_values::{ClassKind, ClassType, TypeData, leaf_name};
 use pdbdump_rows::{Form, Line, append_line, show_frame, show_omap, show_section, show_type};
 use std::alloc::Global;
-use std::test::Fail;
 
 /// A section in both forms.
 const SECTION: &str =

@@ -3,7 +3,7 @@
 use super::read::{ends_soon, is_parsed, is_read, is_same, is_value_copied, types_of, types_with};
 use pdb_base::{Error, ParseBuffer, RawString, TypeIndex, Variant};
 use pdb_flags::FieldAttributes;
-use pdb_records::{parse_type_data, skip_arguments, skip_field_list};
+use pdb_records::{skip_arguments, skip_field_list};
 use pdb_values::{
     ArgumentList, ArrayType, BaseClassType, ClassKind, EnumerateType, FieldList, MemberType,
     MethodList, MethodListEntry, NestedType, TypeData, VirtualFunctionTablePointerType,

@@ -1,7 +1,7 @@
 //! What `Default` and `==` of each type say that no law of addresses and records tells. The
 //! functions do nothing: each contract is a law.
 
-ghost use Rattle.std.specs.Prelude.{◌≡◌, replicate};
+ghost use Rattle.std.specs.Prelude.{replicate};
 ghost use Rattle.pdb_base.specs.Derived.{DefaultsTo, TellsApart};
 
 use crate::address::Rva;

@@ -1,4 +1,4 @@
-use Rattle.std.proofs.Common.{◌≡◌, ◌-◌, true, false, sym, ◌∙◌, arith}
+use Rattle.std.proofs.Common.{◌≡◌, true, false, sym, ◌∙◌, arith}
 use Rattle.pdb_base.specs.Records.{values_of_size}
 use Rattle.pdb_frames.proofs.SearchLemmas.{found_in, found_none, found_there}
 use Rattle.pdb_frames.proofs.search.starting_at.Goals as goal

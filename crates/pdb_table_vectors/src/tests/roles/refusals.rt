@@ -5,7 +5,7 @@
 use super::super::files::watched::{Watched, is_gone};
 use super::super::is_error;
 use super::files::{NONE, Roles, bytes_of};
-use pdb_base::{Error, Result as Answer};
+use pdb_base::Error;
 use pdb_file::PDB;
 use pdb_msf::Source;
 use std::alloc::Global;
