@@ -57,7 +57,8 @@ fn check_value(types: &OpenTable<TypeIndex>, index: TypeIndex, value: &TypeData<
 fn without_value(read: Result<TypeData<'_>>) -> Result<()>
     ensures { (error : Error) → read.entry ≡ Err error → result ≡ Err error }
 {
-    read.map(|_| ())
+    read?;
+    Ok(())
 }
 
 /// Reads the record of a type, and checks its continuation.
