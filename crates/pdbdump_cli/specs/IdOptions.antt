@@ -1,6 +1,6 @@
 -- The options of `id`: `--format FORMAT`, `--name NAME` and `--expect ID`.
-use Rattle.std.specs.Prelude.{ℕ, if◌then◌else◌, List, codes, Option, Some, None}
-use Rattle.std.specs.Option.{option_map}
+use Rattle.std.specs.Prelude.{ℕ, ◌&&◌, if◌then◌else◌, List, codes, Option, Some, None}
+use Rattle.std.specs.Option.{is_none, option_map}
 use Rattle.pdb_cli.specs.Words.{same}
 use Rattle.pdbdump_tables.specs.declared.identity.KeyStyle.{KeyStyle}
 use Rattle.pdbdump_tables.specs.declared.identity.KeyStyle.TheVariants as styles

@@ -1,8 +1,8 @@
 -- The words that `layout` takes: `[--style STYLE] [--sort ORDER] [--expand N] [--holes] [--all] FILE NAME..`.
-use Rattle.std.specs.Prelude.{ℕ, false, if◌then◌else◌, List, [], ◌∷◌, map, codes, Option, Some, None}
+use Rattle.std.specs.Prelude.{ℕ, true, false, ◌&&◌, not, if◌then◌else◌, List, [], ◌∷◌, map, codes, Option, Some, None}
 use Rattle.std.specs.Prelude.{option_and_then, unwrap_or}
 use Rattle.std.specs.List.{list_any}
-use Rattle.std.specs.Option.{option_map}
+use Rattle.std.specs.Option.{is_none, option_map}
 use Rattle.std.specs.Borrow.{Bor}
 use Rattle.pdb_cli.specs.Words.{number_of, same}
 use Rattle.pdbdump_layouts.specs.declared.options.Options.{Options}

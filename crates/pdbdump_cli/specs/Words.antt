@@ -1,8 +1,8 @@
 -- The words that the program takes: `COMMAND [OPTION].. FILE [OPERAND]`, or `FILE` alone.
-use Rattle.std.specs.Prelude.{ℕ, Bool, false, nat_eq, not, filter, if◌then◌else◌, List, [], ◌∷◌, codes, Option}
+use Rattle.std.specs.Prelude.{ℕ, Bool, false, ◌&&◌, nat_eq, not, filter, if◌then◌else◌, List, [], ◌∷◌, codes, Option}
 use Rattle.std.specs.Prelude.{Some, None, option_and_then, unwrap_or, Result, Ok, Err}
 use Rattle.std.specs.List.{starts_with}
-use Rattle.std.specs.Option.{option_map, option_map_or}
+use Rattle.std.specs.Option.{is_none, option_map, option_map_or}
 use Rattle.pdb_cli.specs.Words.{number_of, same}
 use Rattle.pdbdump_tables.specs.declared.map_source.MapStreams.{MapStreams}
 use Rattle.pdbdump_cli.specs.IdOptions.{IdGiven, id_view, no_options, with_id_option}

@@ -88,8 +88,10 @@ fn identify<W: Write>(
 ) -> Result<bool, Error>
     ensures { IsIdentified form (identify_view asked.now) file.items out.old out.new result }
 {
-    let identity = identity_in(alloc, file)?;
-    write_found(alloc, asked, &identity, form, out)
+    match identity_in(alloc, file) {
+        Ok(identity) => write_found(alloc, asked, &identity, form, out),
+        Err(fault) => Err(fault),
+    }
 }
 
 /// Ends the program after a file was identified.
