@@ -294,6 +294,9 @@ pub fn translate(
     ensures { Translates map.now form (record { section = section; offset = offset }) translation.old
         (record { fault = result; value = translation.new }) }
 {
-    let translated = forms_of(map, form, section, offset).map(|forms| Translation::of(&forms));
+    let translated = match forms_of(map, form, section, offset) {
+        Some(forms) => Some(Translation::of(&forms)),
+        None => None,
+    };
     tell_found(translated, Fault::status(NONE), translation)
 }

@@ -52,7 +52,10 @@ pub fn definitions_named(alloc: Global, kept: &OpenDefinitions, name: &[u8]) -> 
 fn number_of(index: Option<TypeIndex>) -> Option<u32>
     ensures { result ≡ option_map (λ index. index.0) index }
 {
-    index.map(|index| index.0)
+    match index {
+        Some(index) => Some(index.0),
+        None => None,
+    }
 }
 
 /// Returns the index of the definition of a type, if it has one.

@@ -118,7 +118,10 @@ fn read_identity(alloc: Global, file: &[u8]) -> Result<Identity>
 pub fn identity_in(alloc: Global, file: &[u8]) -> Result<FileIdentity>
     ensures { Answers (λ identity. identity) result (identity_said file.now) }
 {
-    Ok(FileIdentity::of(&read_identity(alloc, file)?))
+    match read_identity(alloc, file) {
+        Ok(identity) => Ok(FileIdentity::of(&identity)),
+        Err(error) => Err(error),
+    }
 }
 
 /// Writes a value that was read, or returns the fault of the error.
