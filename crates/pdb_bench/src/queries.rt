@@ -31,8 +31,8 @@ fn ask(alloc: Global, file: &[u8], queries: &[Query], mut sum: u64) -> u64 {
     let Ok(replies) = run(alloc, file, queries) else {
         return sum;
     };
-    for reply in &replies {
-        sum = sum.wrapping_add(size_of(reply));
+    for reply in replies {
+        sum = sum.wrapping_add(size_of(&reply));
     }
     sum
 }

@@ -15,7 +15,7 @@ use std::alloc::Global;
 const NO_STREAM: u32 = 0xffff;
 
 /// A page, and what it holds bytes of.
-#[derive(Clone, Copy, Debug, PartialEq, Eq)]
+#[derive(Clone, Copy)]
 pub(crate) struct PageOwner {
     /// The number of the stream, or None for the directory and for what locates it.
     pub(crate) stream: Option<u32>,

@@ -6,7 +6,7 @@ use crate::parse::id_plain::PlainIdLeaf;
 use pdb_values::constants::{LF_BUILDINFO, LF_SUBSTR_LIST};
 
 /// The kind of a record in the table of ids.
-#[derive(Clone, Copy, Debug, PartialEq, Eq)]
+#[derive(Clone, Copy)]
 pub enum IdLeaf {
     /// A record without a list.
     Plain(PlainIdLeaf),

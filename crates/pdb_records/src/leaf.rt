@@ -6,7 +6,7 @@ use crate::parse::plain::PlainLeaf;
 use pdb_values::constants::{LF_ARGLIST, LF_ARRAY, LF_ARRAY_ST, LF_METHODLIST, LF_STRIDED_ARRAY};
 
 /// The kind of a type record.
-#[derive(Clone, Copy, Debug, PartialEq, Eq)]
+#[derive(Clone, Copy)]
 pub enum Leaf {
     /// A record without a list.
     Plain(PlainLeaf),

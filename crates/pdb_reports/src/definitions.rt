@@ -52,10 +52,7 @@ pub fn definitions_named(alloc: Global, kept: &OpenDefinitions, name: &[u8]) -> 
 fn number_of(index: Option<TypeIndex>) -> Option<u32>
     ensures { result ≡ option_map (λ index. index.0) index }
 {
-    match index {
-        Some(index) => Some(index.0),
-        None => None,
-    }
+    index.map(|index| index.0)
 }
 
 /// Returns the index of the definition of a type, if it has one.

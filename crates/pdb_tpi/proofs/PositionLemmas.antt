@@ -1,16 +1,14 @@
 -- Where the items of a walk begin.
 use Rattle.std.proofs.Common.{◌≡◌, ℕ, zero, suc, ◌+◌, ◌-◌, ◌≤◌, ◌<◌, List, [], ◌∷◌, length, take, drop, get_or, refl}
-use Rattle.std.proofs.Common.{sym, ap, subst, ◌∙◌, arith, Ok, Err, Option, Some, None, inl, inr, true, false, leb, ltb}
+use Rattle.std.proofs.Common.{sym, ap, subst, ◌∙◌, arith, Ok, Err, Option, Some, None, inl, inr, false, leb, ltb}
 use Rattle.std.specs.List.{slice_get, sum_by}
-use Rattle.std.proofs.lemmas.Bool.{cases_lt, le-ltb, lt-ltb}
 use Rattle.std.proofs.lemmas.Bool.Decides.{nat_tests}
 use Rattle.std.proofs.lemmas.List.{drop-drop, length-drop}
 use Rattle.std.proofs.lemmas.List.Sums.{sum_by-cons, sum_by_more, sum_by-take-drop}
 use Rattle.std.proofs.lemmas.Option.{slice_get_cases}
-use Rattle.std.specs.Option.{option_map, option_map_or}
+use Rattle.std.specs.Option.{option_map}
 use Rattle.pdb_base.specs.Answer.{Answer, ◌>>=◌}
-use Rattle.pdb_base.specs.Refusal.{type_not_found}
-use Rattle.pdb_base.proofs.lemmas.Collected.{ok, ok_is, ok_is_no_err, bind_ok}
+use Rattle.pdb_base.proofs.lemmas.Collected.{ok, ok_is, ok_is_no_err}
 use Rattle.pdb_tpi.specs.declared.open_table.RecordPlace.{RecordPlace}
 use Rattle.pdb_tpi.specs.Table.{Table}
 use Rattle.pdb_tpi.specs.Walk.{first_item, behind, items, rest, fault_of}
@@ -158,50 +156,6 @@ record_found table i place end item found is below e behind there =
     let n : i - table.header.minimum_index ≡ place = omega arith in
     let at = record_placed table place _ end item behind refl e in
     rw (least, most, n, e) (ap (λ (p : RecordPlace). ok (Some p)) (sym at.place ∙ sym there))
-
--- an item has room for its kind
-least_of : (table : Table) (n : ℕ) (item : List ℕ) → nth_item table n ≡ Ok item → 2 ≤ length item
-unfolding walk
-least_of table n item e =
-    (front_item _ item (item_begins (room table) n (body table) item (nth_ok table n item e))).kind
-
--- the item of an index that is not below the minimum is in the walk
-item_in_walk : (table : Table) (i : ℕ) (item : List ℕ) → table.header.minimum_index ≤ i → item_of table i ≡ Ok item
-    → nth_item table (i - table.header.minimum_index) ≡ Ok item
-unfolding item_of
-item_in_walk table i item least e =
-    let first : ltb i table.header.minimum_index ≡ false = le-ltb i table.header.minimum_index least in
-    elim (cases_lt i table.header.maximum_index) [
-      | inl below ↦
-          let last : leb table.header.maximum_index i ≡ false = grind (arith, nat_tests) in rw (first, last) at e
-      | inr past ↦
-          let last : leb table.header.maximum_index i ≡ true = grind (arith, nat_tests) in
-          absurd (ok_is_no_err item (type_not_found i) (sym (rw (first, last) at e)))
-    ]
-
-primitive : (table : Table) (i : ℕ) → i < table.header.minimum_index → item_of table i ≡ Ok (0xff ∷ 0xff ∷ [])
-unfolding item_of
-primitive table i below = rw (lt-ltb i table.header.minimum_index below) refl
-
--- What the place of an index says of its item: the item's bytes are there, and a primitive type's are ff ff.
-pub item_located : (table : Table) (i : ℕ) (place : Option RecordPlace) → place_of_record table i ≡ Ok place
-    → let bytes = option_map_or (record_bytes table) place (0xff ∷ 0xff ∷ []) in (item_of table i ≡ Ok bytes)
-    × (2 ≤ length bytes)
-item_located table i place e = elim (cases_lt i table.header.minimum_index) [
-  | inl below ↦
-      let first : ltb i table.header.minimum_index ≡ true = lt-ltb i table.header.minimum_index below in
-      let none : None ≡ place = ok_is {A = Option RecordPlace} None place (rw first at e) in
-      rw (← none) (primitive table i below, omega arith)
-  | inr least ↦
-      let first : ltb i table.header.minimum_index ≡ false = le-ltb i table.header.minimum_index least in
-      let found = bind_ok (item_of table i)
-      (λ item. ok (Some (record_place table (i - table.header.minimum_index) item))) place (rw first at e) in
-      let some : Some (record_place table (i - table.header.minimum_index) found.0) ≡ place =
-      ok_is (Some (record_place table (i - table.header.minimum_index) found.0)) place found.2 in
-      let item = item_in_walk table i found.0 least found.1 in
-      rw (← some, record_stands table (i - table.header.minimum_index) found.0 item)
-      (found.1, least_of table (i - table.header.minimum_index) found.0 item)
-]
 
 -- the places of the records that steps return
 abbrev told : WalkPosition → Answer (Option (ℕ × List ℕ) × WalkPosition) → Answer (Option RecordPlace × WalkPosition)

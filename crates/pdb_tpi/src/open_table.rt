@@ -178,19 +178,32 @@ impl<I: ItemIndex> OpenTable<I> {
     }
 
     /// Returns the item of an index, wherever in the table it is. The bytes of a primitive type are
-    /// ff ff.
+    /// ff ff. It is inlined, so that no result with room for an error is copied.
     ///
     /// # Errors
     /// Fails as `find` does.
+    #[inline(always)]
+    #[tactic(auto, unfolding(crate::specs::Finder::item_of))]
     pub fn item(&self, index: I) -> Result<Item<'_, I>>
         ensures item { Gives item_bytes result (item_of self.now.table (I.number index)) }
         ensures index { IfOk result (λ item. index_of item ≡ index) }
     {
-        let bytes = match self.find(index)? {
-            Some(place) => self.bytes_at(place),
-            None => PRIMITIVE,
-        };
-        Ok(Item { index, bytes })
+        let header = self.items.header();
+        let number: u32 = index.into();
+        if number < header.minimum_index {
+            return Ok(Item {
+                index,
+                bytes: PRIMITIVE,
+            });
+        }
+        if number >= header.maximum_index {
+            return Err(Error::TypeNotFound(number));
+        }
+        let place = number - header.minimum_index;
+        let (item, _) = self
+            .items
+            .item_at(&self.positions, place, &mut Count::new())?;
+        Ok(item)
     }
 
     /// Returns the place of the next record of the walk in the stream of the table, or None behind

@@ -12,7 +12,7 @@ use pdb_flags::TypeProperties;
 use pdb_values::TypeData;
 
 /// The properties and the names of a class, a union or an enumeration.
-#[derive(Debug, Drop)]
+#[derive(Drop)]
 pub(crate) struct Declaration<'t> {
     properties: TypeProperties,
     pub(crate) name: RawString<'t>,

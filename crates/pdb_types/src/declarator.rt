@@ -5,7 +5,7 @@ use crate::qualifiers::Qualifiers;
 use std::alloc::Global;
 
 /// A part of a declaration: a name with what is around it, such as `*names[4]`.
-#[derive(Debug, Drop)]
+#[derive(Drop)]
 pub(crate) struct Declarator {
     text: Vec<u8>,
     /// Whether it begins with the sign of a pointer, so that brackets behind it would bind tighter.

@@ -18,7 +18,7 @@ use pdb_values::TypeData;
 use std::alloc::{AllocError, Global};
 
 /// What a walk along a table finds.
-#[derive(Debug, Drop)]
+#[derive(Drop)]
 pub(crate) struct DefinitionWalk {
     /// An entry for each name of a definition, in the order of the types.
     pub(crate) entries: Vec<Entry>,

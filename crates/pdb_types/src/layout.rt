@@ -76,7 +76,7 @@ pub struct Layout<'t> {
 }
 
 /// What a class or a union says of its layout.
-#[derive(Clone, Copy, Debug)]
+#[derive(Clone, Copy)]
 pub(crate) struct ClassBody {
     /// How many bytes an object takes.
     size: u64,

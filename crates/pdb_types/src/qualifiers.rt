@@ -4,7 +4,7 @@ use pdb_flags::PointerAttributes;
 use pdb_values::ModifierType;
 
 /// Whether a type is `const` and `volatile`.
-#[derive(Clone, Copy, Debug)]
+#[derive(Clone, Copy)]
 pub(crate) struct Qualifiers {
     is_const: bool,
     is_volatile: bool,

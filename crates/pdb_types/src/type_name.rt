@@ -4,7 +4,7 @@ ghost use Rattle.std.specs.Prelude.{◌≡◌};
 ghost use Rattle.pdb_types.specs.Declaration.{type_name_bytes, type_name};
 
 /// A name of a class, a union or an enumeration.
-#[derive(Clone, Copy, Debug)]
+#[derive(Clone, Copy)]
 pub(crate) enum TypeName<'n> {
     /// The name that the source gives it.
     Source(&'n [u8]),

@@ -20,7 +20,7 @@ use pdb_values::{
 };
 
 /// The kind of an id record without a list.
-#[derive(Clone, Copy, Debug, PartialEq, Eq)]
+#[derive(Clone, Copy)]
 pub enum PlainIdLeaf {
     /// A function.
     Function,

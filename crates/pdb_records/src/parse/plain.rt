@@ -30,7 +30,7 @@ use pdb_values::constants::{
 use pdb_values::{ClassKind, TypeData};
 
 /// The kind of a record without a list.
-#[derive(Clone, Copy, Debug, PartialEq, Eq)]
+#[derive(Clone, Copy)]
 pub enum PlainLeaf {
     /// A class, a struct or an interface.
     Class(ClassKind),
