@@ -1,25 +1,30 @@
-//! Links the static library of `dist/`, or the one in the folder that `PDB_CONTAINER_LIB_DIR` names.
+//! Links the static library of the target: that in `dist/` of the package or of the repository around it, or the one in
+//! the folder that `PDB_CONTAINER_LIB_DIR` names.
 
 use std::env;
 use std::path::PathBuf;
 
 fn main() {
     println!("cargo::rerun-if-env-changed=PDB_CONTAINER_LIB_DIR");
-    let target = (env::var("CARGO_CFG_TARGET_OS"), env::var("CARGO_CFG_TARGET_ARCH"));
-    let is_known = target == (Ok("linux".into()), Ok("x86_64".into()));
-    let chosen = env::var_os("PDB_CONTAINER_LIB_DIR").map(PathBuf::from);
-    let here = PathBuf::from(env::var_os("CARGO_MANIFEST_DIR").unwrap_or_default());
-    let folder = chosen.unwrap_or_else(|| here.join("../dist/x86_64-linux/lib"));
-    let library = folder.join("libpdb_container.a");
-    println!("cargo::rerun-if-changed={}", library.display());
-    if !is_known {
-        println!("cargo::error=pdb-container has a library for Linux on x86-64 alone");
-    } else if !library.is_file() {
-        println!(
-            "cargo::error={} is missing: `git checkout dist` brings it back, or PDB_CONTAINER_LIB_DIR names its folder",
-            library.display()
-        );
+    // Pages are written without linking anything.
+    if env::var_os("DOCS_RS").is_some() {
+        return;
     }
-    println!("cargo::rustc-link-search=native={}", folder.display());
-    println!("cargo::rustc-link-lib=static=pdb_container");
+    let word = |name: &str| env::var(name).unwrap_or_default();
+    let [machine, system, kind] = ["ARCH", "OS", "ENV"].map(|part| word(&format!("CARGO_CFG_TARGET_{part}")));
+    let here = PathBuf::from(word("CARGO_MANIFEST_DIR"));
+    // What is built is for glibc and for MinGW.
+    let dist = format!("{machine}-{system}{}", if kind == "gnu" { "" } else { "-other" });
+    let built = || ["dist", "../dist"].map(|folder| here.join(folder).join(&dist).join("lib")).to_vec();
+    let folders = env::var_os("PDB_CONTAINER_LIB_DIR").map_or_else(built, |chosen| vec![chosen.into()]);
+    match folders.iter().find(|folder| folder.join("libpdb_container.a").is_file()) {
+        Some(folder) => {
+            println!("cargo::rerun-if-changed={}", folder.display());
+            println!("cargo::rustc-link-search=native={}", folder.display());
+            println!("cargo::rustc-link-lib=static=pdb_container");
+        }
+        None => println!(
+            "cargo::error=libpdb_container.a is missing for {machine}-{system}-{kind}: PDB_CONTAINER_LIB_DIR may name the folder that has it"
+        ),
+    }
 }

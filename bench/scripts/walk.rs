@@ -16,7 +16,7 @@ fn by_iterator(types: &Types) -> (u64, u64) {
         count += 1;
         if let Ok(ty) = ty {
             sum = sum
-                .wrapping_add(ty.row.0.number)
+                .wrapping_add(ty.row.number().unwrap_or_default())
                 .wrapping_add(ty.index.into())
                 .wrapping_add(ty.record.len() as u64);
         }
@@ -33,15 +33,7 @@ fn by_calls(table: &mut sys::Handle) -> (u64, u64) {
     unsafe { sys::pdb_types_rewind(table, &mut fault) };
     loop {
         // SAFETY: the same.
-        let status = unsafe {
-            sys::pdb_types_read(
-                table,
-                batch.as_mut_ptr(),
-                batch.len(),
-                &mut filled,
-                &mut fault,
-            )
-        };
+        let status = unsafe { sys::pdb_types_read(table, batch.as_mut_ptr(), batch.len(), &mut filled, &mut fault) };
         for it in &batch[..filled] {
             count += 1;
             if it.fault.status == sys::PDB_OK {
@@ -63,27 +55,15 @@ fn median(mut of: Vec<f64>) -> f64 {
 }
 
 fn main() -> Result<(), Box<dyn Error>> {
-    let path = std::env::args_os()
-        .nth(1)
-        .ok_or("usage: walk FILE [TURNS]")?;
+    let path = std::env::args_os().nth(1).ok_or("usage: walk FILE [TURNS]")?;
     let turns: usize = std::env::args().nth(2).map_or(Ok(15), |it| it.parse())?;
     let bytes = std::fs::read(path)?;
     let pdb = Pdb::parse(&bytes)?;
     let types = pdb.types()?;
     let stream = pdb.stream(2)?;
-    let mut table = sys::Handle {
-        held: std::ptr::null_mut(),
-        kind: 0,
-    };
+    let mut table = sys::Handle { held: std::ptr::null_mut(), kind: 0 };
     // SAFETY: the handle is all zero, and the stream is as long as it says.
-    unsafe {
-        sys::pdb_types_open(
-            stream.as_ptr(),
-            stream.len(),
-            &mut table,
-            &mut sys::Fault::default(),
-        )
-    };
+    unsafe { sys::pdb_types_open(stream.as_ptr(), stream.len(), &mut table, &mut sys::Fault::default()) };
     let (mut ours, mut theirs, mut ratios) = (Vec::new(), Vec::new(), Vec::new());
     for _ in 0..turns {
         let start = Instant::now();

@@ -14,31 +14,16 @@ fn main() -> Result<(), Box<dyn Error>> {
     let bytes = std::fs::read(path)?;
     let types = Pdb::parse(&bytes)?.types()?;
     // Records of a kind that is not read are passed over.
-    let mut classes: Vec<_> = types
-        .iter()
-        .flatten()
-        .filter(|it| it.shape() == Shape::Class && it.is_definition())
-        .collect();
+    let mut classes: Vec<_> =
+        types.iter().flatten().filter(|it| it.shape() == Shape::Class && it.is_definition()).collect();
     classes.sort_by_key(|it| Reverse(it.row.number()));
     for class in classes.iter().take(MOST) {
-        println!(
-            "{} {}",
-            class.row.number().unwrap_or_default(),
-            class.name()?.unwrap_or_default()
-        );
+        println!("{} {}", class.row.number().unwrap_or_default(), class.name()?.unwrap_or_default());
         let Some(list) = class.row.list_index() else {
             continue;
         };
-        for field in types
-            .fields(list)?
-            .iter()
-            .filter(|it| it.shape() == Shape::Member)
-        {
-            println!(
-                "  +{} {}",
-                field.row.number().unwrap_or_default(),
-                field.name.unwrap_or_default()
-            );
+        for field in types.fields(list)?.iter().filter(|it| it.shape() == Shape::Member) {
+            println!("  +{} {}", field.row.number().unwrap_or_default(), field.name.unwrap_or_default());
         }
     }
     Ok(())

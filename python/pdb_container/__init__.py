@@ -15,14 +15,18 @@ from ._file import AddressMap, Frame, Frames, Information, Names, Omap, Pdb, Rol
 from ._identity import Identity, format_of
 from ._layouts import Definitions, Layout, LayoutRow
 from ._library import LibraryError, PdbError
-from ._sys import Feature, Format, IdShape, Inconsistency, KeyForm, LayoutKind, Part, Shape, Status
+from ._sys import (
+    ClassKind, Feature, FieldAttribute, Format, FrameKind, FunctionAttribute, IdentityFlag, IdShape, Inconsistency, KeyForm,
+    LayoutKind, ModifierBit, Part, PointerAttribute, Property, Shape, Status,
+)  # fmt: skip
 from ._tables import Field, Id, Ids, Row, Type, Types
 from ._validation import Finding, validate
 
 __version__ = "0.1.0"
 __all__ = [
-    "AddressMap", "Definitions", "Feature", "Field", "Finding", "Format", "Frame", "Frames", "Id", "IdShape", "Identity", "Ids",
-    "Inconsistency", "Information", "KeyForm", "Layout", "LayoutKind", "LayoutRow", "LibraryError", "Names", "Omap", "Part", "Pdb",
-    "PdbError", "Roles", "Row", "Section", "Shape", "Status", "Stream", "Streams", "Translation", "Type", "Types", "format_of", "open",
-    "validate",
+    "AddressMap", "ClassKind", "Definitions", "Feature", "Field", "FieldAttribute", "Finding", "Format", "Frame",
+    "FrameKind", "Frames", "FunctionAttribute", "Id", "IdShape", "Identity", "IdentityFlag", "Ids", "Inconsistency",
+    "Information", "KeyForm", "Layout", "LayoutKind", "LayoutRow", "LibraryError", "ModifierBit", "Names", "Omap",
+    "Part", "Pdb", "PdbError", "PointerAttribute", "Property", "Roles", "Row", "Section", "Shape", "Status",
+    "Stream", "Streams", "Translation", "Type", "Types", "format_of", "open", "validate",
 ]  # fmt: skip

@@ -9,7 +9,7 @@ from collections import Counter
 from . import LibraryError, Pdb, PdbError, open
 
 
-def print_summary(pdb: Pdb):
+def print_summary(pdb: Pdb) -> None:
     about = pdb.information
     print(f"guid {about.guid}, age {about.age}, pages of {pdb.page_size} bytes")
     for stream in pdb.streams:
@@ -20,9 +20,10 @@ def print_summary(pdb: Pdb):
     print(f"{len(pdb.ids)} ids")
 
 
-def print_type(pdb: Pdb, name: str):
+def print_type(pdb: Pdb, name: str) -> None:
     found = pdb.types[name]
-    print(f"{found.index:#x} {found.shape.name.lower()} {name}" + ("" if found.number is None else f", {found.number} bytes"))
+    shape = "" if found.shape is None else found.shape.name.lower()
+    print(f"{found.index:#x} {shape} {name}" + ("" if found.number is None else f", {found.number} bytes"))
     for field in found.fields:
         number = "" if field.value is None else f" {field.value}"
         print(f"  {field.shape.name.lower()} {field.name or '-'}{number}")

@@ -2,21 +2,23 @@
 
 import builtins
 import mmap
+import operator
 import os
 import uuid
-from collections.abc import Sequence
-from ctypes import byref, c_size_t, c_uint8, c_uint32, string_at
-from dataclasses import dataclass
+from ctypes import c_uint8, c_uint32
+from dataclasses import dataclass, fields
 from functools import cached_property
-from typing import Dict, Iterator, List, Optional, Tuple, Union
+from typing import Any, Dict, Iterator, List, Optional, Sequence, Tuple, Union, overload
 
 from . import _sys
 from ._identity import Identity, identity_of
-from ._library import Lent, Opened, PdbError, items, library, named_items, value
-from ._sys import AddressForm, Fault, Status
+from ._library import Buffer, Lent, Opened, PdbError, items, library, named_items, unsigned, value, written
+from ._sys import AddressForm, Status
 from ._tables import IDS, TYPES, Ids, Types
 
 NO_STREAM = 0xFFFF
+
+Room = Any  # the array of ctypes in which a stream is
 
 
 @dataclass(frozen=True)
@@ -84,7 +86,7 @@ class Frame:
 class Names:
     """A string table: the name at an offset, or each offset and name, in their order."""
 
-    def __init__(self, stream: memoryview, room):
+    def __init__(self, stream: memoryview, room: Room):
         self._stream, self._kept = stream, room
         self._table = Opened(library().pdb_names_open, room, len(stream))
 
@@ -94,7 +96,7 @@ class Names:
 
     def _bytes(self, offset: int) -> memoryview:
         try:
-            place = value(_sys.Name, library().pdb_names_place, self._table.handle, offset)
+            place = written(_sys.Name, library().pdb_names_place, self._table.handle, unsigned(offset))
         except PdbError as error:
             if error.status == Status.UNEXPECTED_EOF:
                 raise KeyError(offset) from None
@@ -115,19 +117,22 @@ class Names:
 class _Ranges:
     """What moves the addresses of a range."""
 
-    def _ranges(self, call, handle, addresses: range) -> List[range]:
-        return [range(it.start, it.end) for it in items(_sys.Span, call, handle, addresses.start, addresses.stop)]
+    def _ranges(self, call: Any, handle: Any, addresses: range) -> List[range]:
+        if addresses.step != 1:
+            raise ValueError("the addresses of a range follow one another")
+        start, end = unsigned(addresses.start), unsigned(addresses.stop)
+        return [range(it.start, it.end) for it in items(_sys.Span, call, handle, start, end)]
 
 
 class Omap(_Ranges):
     """A table of moved addresses."""
 
-    def __init__(self, stream: memoryview, room, number: Optional[int] = None):
+    def __init__(self, stream: memoryview, room: Room, number: Optional[int] = None):
         self._table = Opened(library().pdb_omap_open, room, len(stream), stream=number)
 
     def lookup(self, address: int) -> Optional[int]:
         """The address to which the table moves an address, or None if it moves it nowhere."""
-        target = value(c_uint32, library().pdb_omap_lookup, self._table.handle, address)
+        target = value(c_uint32, library().pdb_omap_lookup, self._table.handle, unsigned(address))
         return None if target is None else target.value
 
     @property
@@ -138,7 +143,7 @@ class Omap(_Ranges):
     @property
     def is_sorted(self) -> bool:
         """Whether no record has a source below that of the record before it."""
-        return bool(value(c_uint32, library().pdb_omap_is_sorted, self._table.handle).value)
+        return bool(written(c_uint32, library().pdb_omap_is_sorted, self._table.handle).value)
 
     def ranges(self, addresses: range) -> List[range]:
         """The ranges to which the table moves the addresses of a range: one for each record that moves some."""
@@ -169,7 +174,8 @@ class AddressMap(_Ranges):
         self._map = Opened(library().pdb_bytes_addresses, lent.at, lent.length)
 
     def _translate(self, form: AddressForm, section: int, offset: int) -> Translation:
-        it = value(_sys.Translation, library().pdb_translate, self._map.handle, form, section, offset)
+        numbers = unsigned(section, 16), unsigned(offset)
+        it = written(_sys.Translation, library().pdb_translate, self._map.handle, form, *numbers)
         return Translation(
             it.rva if it.has_rva else None,
             (it.place.section, it.place.offset) if it.has_place else None,
@@ -210,7 +216,7 @@ class Frames:
 
     def at(self, address: int) -> Optional[Frame]:
         """The first frame from an address of the original image on: the one at the address, or else the first above."""
-        it = value(_sys.Frame, library().pdb_frames_at, self._table.handle, address)
+        it = value(_sys.Frame, library().pdb_frames_at, self._table.handle, unsigned(address))
         return None if it is None else _frame(it)
 
     def __iter__(self) -> Iterator[Frame]:
@@ -219,10 +225,21 @@ class Frames:
 
 
 def _frame(it: _sys.Frame) -> Frame:
-    sizes = it.code_start, it.code_size, it.locals_size, it.params_size, it.prolog_size, it.saved_regs_size
-    flags = map(bool, (it.has_structured_eh, it.has_cpp_eh, it.is_function_start, it.uses_base_pointer))
-    most = it.max_stack_size if it.has_max_stack_size else None
-    return Frame(it.kind, *sizes, most, *flags, it.program if it.has_program else None)
+    return Frame(
+        kind=it.kind,
+        code_start=it.code_start,
+        code_size=it.code_size,
+        locals_size=it.locals_size,
+        params_size=it.params_size,
+        prolog_size=it.prolog_size,
+        saved_regs_size=it.saved_regs_size,
+        max_stack_size=it.max_stack_size if it.has_max_stack_size else None,
+        has_structured_eh=bool(it.has_structured_eh),
+        has_cpp_eh=bool(it.has_cpp_eh),
+        is_function_start=bool(it.is_function_start),
+        uses_base_pointer=bool(it.uses_base_pointer),
+        program=it.program if it.has_program else None,
+    )
 
 
 class Stream:
@@ -247,25 +264,36 @@ class Stream:
     def role(self) -> Optional[str]:
         """The name of its role in `Roles`."""
         roles = self._pdb.roles
-        return next((role for role in roles.__dataclass_fields__ if getattr(roles, role) == self.number), None)
+        return next((it.name for it in fields(roles) if getattr(roles, it.name) == self.number), None)
 
 
-class Streams(Sequence):
+class Streams(Sequence[Stream]):
     """The streams of a file, by their numbers."""
 
-    def __init__(self, pdb: "Pdb"):
-        self._pdb = pdb
-        self._count = value(c_uint32, library().pdb_file_stream_count, pdb._file.handle).value
+    def __init__(self, pdb: "Pdb", count: int):
+        self._pdb, self._count = pdb, count
 
     def __len__(self) -> int:
         return self._count
 
-    def __getitem__(self, number: int) -> Stream:
+    @overload
+    def __getitem__(self, number: int) -> Stream: ...
+
+    @overload
+    def __getitem__(self, number: slice) -> List[Stream]: ...
+
+    def __getitem__(self, number: Union[int, slice]) -> Union[Stream, List[Stream]]:
+        """The stream of a number, or those of a slice. A number below 0 counts from the last one."""
+        if isinstance(number, slice):
+            return [self[at] for at in range(*number.indices(self._count))]
+        number = operator.index(number)
+        if number < 0:
+            number += self._count
         if not 0 <= number < self._count:
-            raise IndexError(number)
-        self._pdb._bytes()
+            raise IndexError("the file has no stream of this number")
+        self._pdb._open()
         try:
-            size = value(c_uint32, library().pdb_file_stream_size, self._pdb._file.handle, number).value
+            size: Optional[int] = written(c_uint32, library().pdb_file_stream_size, self._pdb._file.handle, number).value
         except PdbError as error:
             if error.status != Status.STREAM_NOT_FOUND:
                 raise
@@ -276,47 +304,59 @@ class Streams(Sequence):
 class Pdb:
     """A program database over the bytes of any object that has a buffer, which are not copied."""
 
-    def __init__(self, data):
-        self._data = data
-        self._lent = Lent(data)
+    def __init__(self, data: Buffer):
+        self._mapping: Optional[mmap.mmap] = None
+        self._lent: Optional[Lent] = Lent(data)
         try:
             self._file = Opened(library().pdb_bytes_open, self._lent.at, self._lent.length)
         except BaseException:
             self._lent.release()
             raise
-        self.page_size: int = value(c_uint32, library().pdb_file_page_size, self._file.handle).value
-        self.streams = Streams(self)
+        self.page_size: int = written(c_uint32, library().pdb_file_page_size, self._file.handle).value
+        self._stream_count: int = written(c_uint32, library().pdb_file_stream_count, self._file.handle).value
+
+    @property
+    def streams(self) -> "Streams":
+        """The streams, by their numbers."""
+        return Streams(self, self._stream_count)
 
     def __enter__(self) -> "Pdb":
         return self
 
-    def __exit__(self, *_):
+    def __exit__(self, *_: object) -> None:
         self.close()
 
-    def close(self):
-        """Gives the bytes back. Tables that were opened before stay as they are."""
-        if self._lent is not None:
-            self._file.close()
-            self._lent.release()
-            self._lent = None
-            if isinstance(self._data, mmap.mmap):
-                self._data.close()
-            self._data = None
+    def close(self) -> None:
+        """Gives the bytes back to whom they belong, and forgets the tables. A table that the caller still has stays as it
+        is. Closing again does nothing."""
+        if self._lent is None:
+            return
+        self._file.close()
+        self._lent.release()
+        self._lent = None
+        for name in _KEPT & self.__dict__.keys():
+            del self.__dict__[name]
+        if self._mapping is not None:
+            self._mapping.close()
 
-    def _bytes(self) -> Tuple[int, int]:
+    def _open(self) -> Lent:
         if self._lent is None:
             raise ValueError("the program database is closed")
-        return self._lent.at, self._lent.length
+        return self._lent
 
-    def _read(self, number: int, limit: Optional[int] = None):
-        most = 2**64 - 1 if limit is None else limit
-        words = self._file.handle, *self._bytes(), number, most
+    def _bytes(self) -> Tuple[int, int]:
+        lent = self._open()
+        return lent.at, lent.length
+
+    def _read(self, number: int, limit: Optional[int] = None) -> Room:
+        most = 2**64 - 1 if limit is None else unsigned(limit, 64)
+        words = self._file.handle, *self._bytes(), unsigned(number), most
         return items(c_uint8, library().pdb_bytes_stream, *words, stream=number)
 
-    def _in_role(self, role: str):
+    def _in_role(self, role: str) -> Tuple[Optional[int], Room, memoryview]:
         number = getattr(self.roles, role)
         room = None if number is None else self._read(number)
-        return number, room, None if room is None else _view(room)
+        return number, room, _view(room) if room is not None else memoryview(b"")
 
     def stream(self, number: int, limit: Optional[int] = None) -> memoryview:
         """The bytes of a stream, at most `limit` of them."""
@@ -326,13 +366,14 @@ class Pdb:
         """The bytes of the first stream with this name, such as `/names`."""
         return _view(self._named(name))
 
-    def _named(self, name: Union[str, bytes]):
+    def _named(self, name: Union[str, bytes]) -> Room:
         word = name.encode() if isinstance(name, str) else bytes(name)
         return items(c_uint8, library().pdb_bytes_named_stream, *self._bytes(), word, len(word))
 
     @cached_property
     def information(self) -> Information:
-        it = value(_sys.Information, library().pdb_bytes_information, *self._bytes())
+        """The numbers in stream 1, which identify the file."""
+        it = written(_sys.Information, library().pdb_bytes_information, *self._bytes())
         return Information(it.version, it.signature, it.age, uuid.UUID(bytes_le=bytes(it.guid)))
 
     @cached_property
@@ -343,7 +384,8 @@ class Pdb:
     @cached_property
     def named_streams(self) -> Dict[str, Optional[int]]:
         """The number of the first stream of each name, None if the file gives none, in the file's order."""
-        rows, count, names = named_items(_sys.NamedStream, library().pdb_bytes_stream_names, *self._bytes())
+        found = named_items(_sys.NamedStream, library().pdb_bytes_stream_names, *self._bytes())
+        rows, count, names = found or ([], 0, bytearray())
         streams: Dict[str, Optional[int]] = {}
         at = 0
         for row in rows[:count]:
@@ -354,17 +396,20 @@ class Pdb:
 
     @cached_property
     def roles(self) -> Roles:
-        it = value(_sys.Roles, library().pdb_bytes_roles, *self._bytes())
-        numbers = (getattr(it, name) for name, _ in it._fields_)
-        return Roles(*(None if number == NO_STREAM else number for number in numbers))
+        """The numbers of the streams in eleven roles."""
+        it = written(_sys.Roles, library().pdb_bytes_roles, *self._bytes())
+        numbers = {field.name: getattr(it, field.name) for field in fields(Roles)}
+        return Roles(**{name: None if number == NO_STREAM else number for name, number in numbers.items()})
 
     @cached_property
     def types(self) -> Types:
+        """The table of types, which is stream 2."""
         room = self._read(TYPES)
         return Types(_view(room), room)
 
     @cached_property
     def ids(self) -> Ids:
+        """The table of ids, which is stream 4."""
         room = self._read(IDS)
         return Ids(_view(room), room)
 
@@ -390,8 +435,8 @@ class Pdb:
             return []
         found = items(_sys.Section, library().pdb_sections, room, len(stream), stream=number)
         names = [bytes(it.name).split(b"\0")[0].decode(errors="replace") for it in found]
-        rest = [name for name, _ in _sys.Section._fields_[1:]]
-        return [Section(name, *(getattr(it, word) for word in rest)) for name, it in zip(names, found)]
+        words = [field.name for field in fields(Section)][1:]
+        return [Section(name, *(getattr(it, word) for word in words)) for name, it in zip(names, found)]
 
     @property
     def omap_to_src(self) -> Optional[Omap]:
@@ -407,28 +452,35 @@ class Pdb:
 
     @cached_property
     def address_map(self) -> AddressMap:
-        self._bytes()
-        return AddressMap(self._lent)
+        """The sections, and the OMAP tables of a tool that rearranged the image."""
+        return AddressMap(self._open())
 
     @cached_property
     def frames(self) -> Frames:
-        self._bytes()
-        return Frames(self._lent)
+        """The frame table."""
+        return Frames(self._open())
 
 
-def _view(room) -> memoryview:
+# What a file keeps once it was asked for.
+_KEPT = {name for name, it in vars(Pdb).items() if isinstance(it, cached_property)}
+
+
+def _view(room: Room) -> memoryview:
     return memoryview(room).cast("B").toreadonly()
 
 
-def open(path: Union[str, bytes, os.PathLike]) -> Pdb:
+def open(path: "Union[str, bytes, os.PathLike[str], os.PathLike[bytes]]") -> Pdb:
     """Opens a file, which is mapped and not read. It must not be shortened before it is closed."""
     with builtins.open(path, "rb") as file:
         # Only what has a size can be mapped: no empty file, and no pipe.
         size = os.fstat(file.fileno()).st_size
         data = mmap.mmap(file.fileno(), 0, access=mmap.ACCESS_READ) if size else file.read()
+    mapping = data if isinstance(data, mmap.mmap) else None
     try:
-        return Pdb(data)
+        pdb = Pdb(data)
     except BaseException:
-        if isinstance(data, mmap.mmap):
-            data.close()
+        if mapping is not None:
+            mapping.close()
         raise
+    pdb._mapping = mapping
+    return pdb

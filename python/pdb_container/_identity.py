@@ -6,7 +6,7 @@ from dataclasses import dataclass
 from typing import FrozenSet, Optional
 
 from . import _sys
-from ._library import Lent, items, library, value
+from ._library import Buffer, Lent, items, library, written
 from ._sys import Feature, Format, KeyForm
 
 
@@ -36,13 +36,13 @@ class Identity:
 
 def identity_of(*place: int) -> Identity:
     """What identifies the file at an address, of a length."""
-    it = value(_sys.Identity, library().pdb_identity_of, *place)
+    it = written(_sys.Identity, library().pdb_identity_of, *place)
     debug = (it.debug_age, it.machine, it.flags) if it.has_debug_header else (None, None, None)
     features = frozenset(feature for feature in Feature if it.features & feature) if it.has_features else None
     return Identity(it.version, it.signature, it.information_age, uuid.UUID(bytes_le=bytes(it.guid)), features, *debug)
 
 
-def format_of(data) -> Format:
+def format_of(data: Buffer) -> Format:
     """What a file is that begins with these bytes. The first 42 bytes decide."""
     lent = Lent(data)
     try:

@@ -5,11 +5,11 @@ from dataclasses import dataclass
 from typing import List, Optional
 
 from . import _sys
-from ._library import Opened, items, library, named_items, value
+from ._library import Opened, items, library, named_items, unsigned, value
 from ._sys import Extent, LayoutKind
 
 
-@dataclass(frozen=True, slots=True)
+@dataclass(frozen=True)
 class LayoutRow:
     """A field of a class, or bits that no field takes. What doesn't apply is None."""
 
@@ -25,7 +25,7 @@ class LayoutRow:
     is_direct: Optional[bool]  # whether the class itself names that class
 
 
-@dataclass(frozen=True, slots=True)
+@dataclass(frozen=True)
 class Layout:
     """The layout of a class: the index of its definition, its size in bytes, and its rows. The fields come first, in the
     order of their records, and then the bits that no field takes."""
@@ -67,23 +67,23 @@ class Definitions:
     def definition_of(self, index: int) -> Optional[int]:
         """The index of the definition of a type, which is its own index if it is a definition. None if the table doesn't
         define it, and for any other type."""
-        found = value(c_uint32, library().pdb_definition_of, self._open.handle, index, stream=self.number)
+        found = value(c_uint32, library().pdb_definition_of, self._open.handle, unsigned(index), stream=self.number)
         return None if found is None else found.value
 
     def size_of(self, index: int) -> Optional[int]:
         """The size of a type in bytes. None if nothing says it, as of void, of a function or of a list."""
-        found = value(c_uint64, library().pdb_type_size, self._open.handle, index, stream=self.number)
+        found = value(c_uint64, library().pdb_type_size, self._open.handle, unsigned(index), stream=self.number)
         return None if found is None else found.value
 
     def text_of(self, index: int, name: str = "") -> str:
         """The declaration of a name that has a type, in C++, or the text of the type alone if the name is empty."""
         word = name.encode()
-        text = items(c_uint8, library().pdb_type_text, self._open.handle, index, word, len(word), stream=self.number)
+        text = items(c_uint8, library().pdb_type_text, self._open.handle, unsigned(index), word, len(word), stream=self.number)
         return bytes(text).decode(errors="replace")
 
     def layout_of(self, index: int) -> Optional[Layout]:
         """The layout of a class or a union. None if the type has no definition, or that is an enumeration."""
-        found = named_items(_sys.LayoutRow, library().pdb_layout, self._open.handle, index, stream=self.number)
+        found = named_items(_sys.LayoutRow, library().pdb_layout, self._open.handle, unsigned(index), stream=self.number)
         if found is None:
             return None
         room, count, names = found
@@ -91,4 +91,4 @@ class Definitions:
         for row in room[:count]:
             rows.append(_row(row, names[at : at + row.name_length].decode(errors="replace")))
             at += row.name_length
-        return Layout(self.definition_of(index), self.size_of(index), rows)
+        return Layout(self.definition_of(index) or index, self.size_of(index) or 0, rows)

@@ -1,21 +1,46 @@
 """Finds the shared library, and calls it."""
 
 import ctypes
+import operator
 import os
+import sys
+import sysconfig
 from ctypes import byref, c_size_t, c_ssize_t, c_uint8, c_void_p, pythonapi
 from pathlib import Path
-from typing import Optional
+from typing import Any, Optional, SupportsIndex, Tuple, Type, TypeVar
 
 from . import _sys
-from ._sys import Fault, Handle, Status
+from ._sys import VERSION, Fault, Handle, Status
 
-NAME = "libpdb_container.so.0"
-# The version of the calls; each name of the library has it.
-VERSION = "PDB_CONTAINER_0.1"
+NAME = "pdb_container.dll" if sys.platform == "win32" else "libpdb_container.so.0"
+# Where dist has the library of each platform.
+BUILT = {
+    "linux-x86_64": "x86_64-linux/lib/libpdb_container.so.0",
+    "linux-aarch64": "aarch64-linux/lib/libpdb_container.so.0",
+    "win-amd64": "x86_64-windows/bin/pdb_container.dll",
+}
+
+
+T = TypeVar("T", bound="ctypes._CData")
+# Any object that has a buffer, such as bytes or a mapped file.
+Buffer = Any
 
 
 class LibraryError(ImportError):
-    """The shared library is missing, or is of another version."""
+    """The shared library is missing or of another version, or the interpreter has no lock."""
+
+
+def unsigned(number: SupportsIndex, bits: int = 32) -> int:
+    """A whole number that an unsigned number of so many bits can hold. Any other is an OverflowError, since the library
+    would get its low bits alone."""
+    whole = operator.index(number)
+    if not 0 <= whole < 1 << bits:
+        raise OverflowError(f"{whole} is not from 0 to {(1 << bits) - 1:#x}")
+    return whole
+
+
+def _restored(fault: bytes, stream: Optional[int], offset: Optional[int]) -> "PdbError":
+    return PdbError(Fault.from_buffer_copy(fault), stream, offset)
 
 
 class PdbError(ValueError):
@@ -26,6 +51,7 @@ class PdbError(ValueError):
     """
 
     def __init__(self, fault: Fault, stream: Optional[int] = None, offset: Optional[int] = None):
+        self._fault = bytes(fault)
         self.status = Status(fault.status)
         self.first: int = fault.first
         self.second: int = fault.second
@@ -45,39 +71,33 @@ class PdbError(ValueError):
         where = f"stream {self.stream}" if self.offset is None else f"stream {self.stream} byte {self.offset:#x}"
         return f"{text} [{where}]"
 
+    def __reduce__(self) -> Tuple[Any, ...]:
+        return _restored, (self._fault, self.stream, self.offset)
 
-def _places():
-    """Where the library may be: the one that is chosen, or those beside the package, and then the system's."""
+
+def _place() -> str:
+    """Where the library may be: the one that is chosen, or that beside the package, or that of dist, or the system's."""
     chosen = os.environ.get("PDB_CONTAINER")
     if chosen:
-        return [chosen]
-    here = Path(__file__).resolve().parent
-    beside = [here / NAME, here.parent.parent / "dist" / "x86_64-linux" / "lib" / NAME]
-    return [*(str(path) for path in beside if path.exists()), NAME]
-
-
-def _has_version(loaded: ctypes.PyDLL) -> bool:
-    if not all(hasattr(loaded, name) for name in _sys.FUNCTIONS):
-        return False
-    for name in (None, "libdl.so.2"):
-        try:
-            find = ctypes.CDLL(name).dlvsym
-        except (OSError, AttributeError):
-            continue
-        find.restype, find.argtypes = c_void_p, [c_void_p, ctypes.c_char_p, ctypes.c_char_p]
-        return bool(find(loaded._handle, b"pdb_close", VERSION.encode()))
-    return True
+        return chosen
+    here, built = Path(__file__).resolve().parent, BUILT.get(sysconfig.get_platform(), NAME)
+    beside = [here / NAME, here.parent / "dist" / built, here.parent.parent / "dist" / built]
+    return next((str(path) for path in beside if path.is_file()), NAME)
 
 
 def _load() -> ctypes.PyDLL:
-    path = _places()[0]
+    if not getattr(sys, "_is_gil_enabled", lambda: True)():
+        raise LibraryError("this interpreter runs without its lock, on which the calls of the library rest")
+    path = _place()
     try:
         # Its calls keep the interpreter's lock, so no two run at once.
         loaded = ctypes.PyDLL(path)
     except OSError as error:
         raise LibraryError(f"the shared library can't be loaded, which PDB_CONTAINER may name: {error}") from None
-    if not _has_version(loaded):
-        raise LibraryError(f"{path} is no {NAME} with the calls of {VERSION}")
+    version: int = loaded.pdb_version() if hasattr(loaded, "pdb_version") else 0
+    # The last two digits are of versions with the same calls.
+    if version // 100 != VERSION // 100 or not all(hasattr(loaded, name) for name in _sys.FUNCTIONS):
+        raise LibraryError(f"{path} is not {NAME} of version {VERSION // 10_000}.{VERSION // 100 % 100}")
     for name, (result, parameters) in _sys.FUNCTIONS.items():
         function = getattr(loaded, name)
         function.restype, function.argtypes = result, parameters
@@ -98,34 +118,44 @@ def library() -> ctypes.PyDLL:
 class Opened:
     """What the library keeps open. The interpreter's lock gives it to one call at a time, of any thread."""
 
-    def __init__(self, call, *words, stream: Optional[int] = None):
+    def __init__(self, call: Any, *words: Any, stream: Optional[int] = None):
         self._handle, fault = Handle(), Fault()
         self.stream = stream
         if call(*words, byref(self._handle), byref(fault)) != Status.OK:
             raise PdbError(fault, stream)
 
     @property
-    def handle(self):
+    def handle(self) -> Any:
+        """What a call takes."""
         return byref(self._handle)
 
-    def close(self):
+    def close(self) -> None:
+        """Frees what it holds. Closing again does nothing."""
         library().pdb_close(byref(self._handle))
 
     __del__ = close
 
 
-def value(kind, call, *words, stream: Optional[int] = None, offset: Optional[int] = None):
+def value(kind: Type[T], call: Any, *words: Any, stream: Optional[int] = None, offset: Optional[int] = None) -> Optional[T]:
     """What a call writes, or None where there is no answer."""
-    written, fault = kind(), Fault()
-    status = call(*words, byref(written), byref(fault))
+    answer, fault = kind(), Fault()
+    status = call(*words, byref(answer), byref(fault))
     if status == Status.OK:
-        return written
+        return answer
     if status in (Status.NONE, Status.UNMAPPED):
         return None
     raise PdbError(fault, stream, offset)
 
 
-def items(kind, call, *words, stream: Optional[int] = None, offset: Optional[int] = None):
+def written(kind: Type[T], call: Any, *words: Any, stream: Optional[int] = None, offset: Optional[int] = None) -> T:
+    """What a call writes that has an answer for each question."""
+    found = value(kind, call, *words, stream=stream, offset=offset)
+    if found is None:
+        raise LookupError("the library has no answer")
+    return found
+
+
+def items(kind: Type[T], call: Any, *words: Any, stream: Optional[int] = None, offset: Optional[int] = None) -> Any:
     """What a call copies into an array, or None where there is no answer. It says first how much that is."""
     count, fault, room = c_size_t(), Fault(), (kind * 1)()
     status = call(*words, room, 0, byref(count), byref(fault))
@@ -139,19 +169,16 @@ def items(kind, call, *words, stream: Optional[int] = None, offset: Optional[int
     raise PdbError(fault, stream, offset)
 
 
-def named_items(kind, call, *words, stream: Optional[int] = None):
+def named_items(kind: Type[T], call: Any, *words: Any, stream: Optional[int] = None) -> Optional[Tuple[Any, int, bytearray]]:
     """The same of a call that also copies the names of the items, one after another: the items, their number, and the
-    names."""
-    count, size, fault = c_size_t(), c_size_t(), Fault()
-    room, names = (kind * 1)(), bytearray(1)
-    lengths = 0, 0
-    while True:
-        into = (c_uint8 * len(names)).from_buffer(names)
-        status = call(*words, room, lengths[0], byref(count), into, lengths[1], byref(size), byref(fault))
-        if status != Status.TOO_SMALL:
-            break
+    names. Most answers fit at once."""
+    count, size, fault = c_size_t(16), c_size_t(512), Fault()
+    status: int = Status.TOO_SMALL
+    while status == Status.TOO_SMALL:
         lengths = count.value, size.value
         room, names = (kind * max(lengths[0], 1))(), bytearray(max(lengths[1], 1))
+        into = (c_uint8 * len(names)).from_buffer(names)
+        status = call(*words, room, lengths[0], byref(count), into, lengths[1], byref(size), byref(fault))
     if status == Status.OK:
         return room, count.value, names
     if status in (Status.NONE, Status.UNMAPPED):
@@ -184,12 +211,13 @@ _release_buffer.argtypes, _release_buffer.restype = [c_void_p], None
 class Lent:
     """The bytes of any object that has a buffer, which are not copied: their address and their length."""
 
-    def __init__(self, data):
+    def __init__(self, data: Buffer):
         self._buffer = _Buffer()
         _get_buffer(data, byref(self._buffer), 0)
         self.at, self.length = self._buffer.at or ctypes.addressof(self._buffer), self._buffer.length
 
-    def release(self):
+    def release(self) -> None:
+        """Gives the bytes back to whom they belong."""
         if self._buffer.owner:
             _release_buffer(byref(self._buffer))
 

@@ -1,10 +1,15 @@
 """What include/pdb_container.h declares. tools/bindings writes this file."""
 
 from ctypes import Structure, c_size_t, c_uint8, c_uint16, c_uint32, c_uint64, c_void_p
-from enum import IntEnum
+from enum import IntEnum, IntFlag
+
+# The version of the header, as pdb_version gives that of the library.
+VERSION = 100
 
 
 class Status(IntEnum):
+    """How a call ended."""
+
     OK = 0
     UNRECOGNIZED_FILE_FORMAT = 1
     PAGE_REFERENCE_OUT_OF_RANGE = 2
@@ -44,13 +49,18 @@ class Status(IntEnum):
     UNMAPPED = 107
 
 
-class IdentityFlag(IntEnum):
+class IdentityFlag(IntFlag):
+    """What the debug information says of the file."""
+
     LINKED_INCREMENTALLY = 1
     PRIVATE_SYMBOLS_STRIPPED = 2
     TYPES_MAY_CONFLICT = 4
 
 
-class Feature(IntEnum):
+class Feature(IntFlag):
+    """The features that the file tells of itself, in the numbers after the stream names in stream
+    1. What follows the number of VC110 is not read."""
+
     VC110 = 1
     VC140 = 2
     NO_TYPE_MERGE = 4
@@ -58,12 +68,16 @@ class Feature(IntEnum):
 
 
 class KeyForm(IntEnum):
+    """The forms of a key."""
+
     UPPER = 0
     LOWER = 1
     GUID = 2
 
 
 class Format(IntEnum):
+    """The formats that are told apart by the first bytes of a file."""
+
     UNKNOWN = 0
     MSF_7 = 1
     MSF_2 = 2
@@ -73,6 +87,8 @@ class Format(IntEnum):
 
 
 class Part(IntEnum):
+    """The parts of a file."""
+
     HEADER = 0
     DIRECTORY = 1
     SIZES = 2
@@ -91,6 +107,9 @@ class Part(IntEnum):
 
 
 class Inconsistency(IntEnum):
+    """What can be inconsistent in a file whose parts can be read. The brackets say what `number`
+    is."""
+
     NO_INCONSISTENCY = 0
     DIRECTORY_TOO_LARGE = 1
     STREAMS_TOO_LARGE = 2
@@ -112,12 +131,17 @@ class Inconsistency(IntEnum):
 
 
 class StreamNumber(IntEnum):
+    """Streams whose numbers are fixed, and the number that stands for none."""
+
     TYPES_STREAM = 2
     IDS_STREAM = 4
     NO_STREAM = 0xffff
 
 
 class AddressForm(IntEnum):
+    """The forms of an address or a place. An RVA is an address in the image as it is loaded, and an
+    internal RVA is one in the original image, to which the parts of a program database refer."""
+
     RVA = 0
     SECTION_OFFSET = 1
     INTERNAL_RVA = 2
@@ -125,6 +149,8 @@ class AddressForm(IntEnum):
 
 
 class FrameKind(IntEnum):
+    """The kinds of frames, by the numbers of StackFrameTypeEnum."""
+
     FPO = 0
     TRAP = 1
     TSS = 2
@@ -134,6 +160,8 @@ class FrameKind(IntEnum):
 
 
 class Shape(IntEnum):
+    """The shapes of types."""
+
     PRIMITIVE = 0
     CLASS = 1
     MEMBER = 2
@@ -160,6 +188,8 @@ class Shape(IntEnum):
 
 
 class IdShape(IntEnum):
+    """The shapes of ids."""
+
     FUNCTION = 0
     MEMBER_FUNCTION = 1
     BUILD_INFO = 2
@@ -168,7 +198,10 @@ class IdShape(IntEnum):
     TYPE_SOURCE = 5
 
 
-class Has(IntEnum):
+class Has(IntFlag):
+    """The bits of `has`, which say which numbers a record has. The other numbers are 0. The second
+    half names those that only some records of a shape have."""
+
     KIND = 1
     ATTRIBUTES = 2
     PROPERTIES = 4
@@ -195,12 +228,17 @@ class Has(IntEnum):
 
 
 class ClassKind(IntEnum):
+    """The kinds of classes."""
+
     CLASS = 0
     STRUCTURE = 1
     INTERFACE = 2
 
 
-class Property(IntEnum):
+class Property(IntFlag):
+    """The bits of the properties of a class, a union or an enumeration, as cvinfo.h has
+    CV_prop_t."""
+
     PACKED = 0x1
     CONSTRUCTORS = 0x2
     OVERLOADED_OPERATORS = 0x4
@@ -217,7 +255,9 @@ class Property(IntEnum):
     MOCOM_MASK = 0xc000
 
 
-class FieldAttribute(IntEnum):
+class FieldAttribute(IntFlag):
+    """The bits of the attributes of a field, as CV_fldattr_t."""
+
     ACCESS_MASK = 0x3
     PRIVATE = 1
     PROTECTED = 2
@@ -236,14 +276,19 @@ class FieldAttribute(IntEnum):
     SEALED = 0x200
 
 
-class FunctionAttribute(IntEnum):
+class FunctionAttribute(IntFlag):
+    """The bits of the attributes of a function: a number of CV_call_e, and those of
+    CV_funcattr_t."""
+
     CALLING_CONVENTION_MASK = 0xff
     CXX_RETURN_UDT = 0x100
     CONSTRUCTOR = 0x200
     CONSTRUCTOR_WITH_VIRTUAL_BASES = 0x400
 
 
-class PointerAttribute(IntEnum):
+class PointerAttribute(IntFlag):
+    """The bits of the attributes of a pointer, as lfPointerAttr."""
+
     KIND_MASK = 0x1f
     KIND_NEAR_32 = 0xa
     KIND_FAR_32 = 0xb
@@ -263,13 +308,17 @@ class PointerAttribute(IntEnum):
     MOCOM = 0x80000
 
 
-class ModifierBit(IntEnum):
+class ModifierBit(IntFlag):
+    """The bits of a type with modifiers."""
+
     CONST = 1
     VOLATILE = 2
     UNALIGNED = 4
 
 
 class LayoutKind(IntEnum):
+    """What a row of a layout is."""
+
     BASE = 0
     VIRTUAL_BASE_POINTER = 1
     VIRTUAL_FUNCTION_POINTER = 2
@@ -280,6 +329,8 @@ class LayoutKind(IntEnum):
 
 
 class Extent(IntEnum):
+    """How far a row of a layout goes."""
+
     BYTES = 0
     BITS = 1
     UNKNOWN = 2

@@ -4,7 +4,7 @@ from dataclasses import dataclass
 from typing import List, Optional
 
 from . import _sys
-from ._library import Lent, PdbError, items, library
+from ._library import Buffer, Lent, PdbError, items, library
 from ._sys import Inconsistency, Part
 
 
@@ -46,7 +46,7 @@ def _finding(it: _sys.Finding) -> Finding:
     )
 
 
-def validate(data, every: bool = False) -> List[Finding]:
+def validate(data: Buffer, every: bool = False) -> List[Finding]:
     """What is wrong in the bytes of a file: the first error of each part, or its first warning if it has no error; with
     `every`, everything. The file is whole exactly if all of it are warnings."""
     lent = Lent(data)

@@ -21,8 +21,8 @@ from pdb_container import (
 )  # fmt: skip
 from pdb_container.__main__ import main
 
-SAMPLE = pathlib.Path(__file__).resolve().parents[2] / "examples" / "sample.pdb"
-PACKAGE = SAMPLE.parents[1] / "python"
+from . import PACKAGE, SAMPLE
+
 
 
 def read_types(pdb):

@@ -1,7 +1,7 @@
 use std::ops::Range;
 
 use crate::error::Result;
-use crate::handle::{Handle, items, value};
+use crate::handle::{Shared, items, value};
 use crate::names::Name;
 use crate::sys;
 
@@ -40,38 +40,39 @@ fn ranges(call: impl FnMut(*mut sys::Span, usize, *mut usize, *mut sys::Fault) -
 
 /// A table of moved addresses.
 #[derive(Debug)]
-pub struct Omap(Handle);
+pub struct Omap(Shared);
 
 impl Omap {
     /// Reads the OMAP table in a stream.
     pub fn parse(stream: &[u8]) -> Result<Omap> {
-        Handle::open(|omap, fault| unsafe { sys::pdb_omap_open(stream.as_ptr(), stream.len(), omap, fault) }).map(Omap)
+        Shared::open(|omap, fault| unsafe { sys::pdb_omap_open(stream.as_ptr(), stream.len(), omap, fault) }).map(Omap)
     }
 
     /// The address to which the table moves an address, or None if it moves it nowhere.
     pub fn lookup(&self, address: u32) -> Result<Option<u32>> {
-        value(|target, fault| unsafe { sys::pdb_omap_lookup(self.0.get(), address, target, fault) })
+        value(|target, fault| unsafe { sys::pdb_omap_lookup(self.0.lock().get(), address, target, fault) })
     }
 
     /// The records of the table, in their order: the first address that each moves, and where it moves that one, 0 if
     /// nowhere.
     pub fn records(&self) -> Result<Vec<(u32, u32)>> {
         let found = items(|room: *mut sys::OmapRecord, size, count, fault| unsafe {
-            sys::pdb_omap_records(self.0.get(), room, size, count, fault)
+            sys::pdb_omap_records(self.0.lock().get(), room, size, count, fault)
         })?;
         Ok(found.unwrap_or_default().iter().map(|it| (it.source, it.target)).collect())
     }
 
     /// Whether no record has a source below that of the record before it.
     pub fn is_sorted(&self) -> Result<bool> {
-        let found = value(|is_sorted, fault| unsafe { sys::pdb_omap_is_sorted(self.0.get(), is_sorted, fault) })?;
+        let found =
+            value(|is_sorted, fault| unsafe { sys::pdb_omap_is_sorted(self.0.lock().get(), is_sorted, fault) })?;
         Ok(found == Some(1))
     }
 
     /// The ranges to which the table moves the addresses of a range: one for each record that moves some of them.
     pub fn ranges(&self, range: Range<u32>) -> Result<Vec<Range<u32>>> {
         ranges(|room, size, count, fault| unsafe {
-            sys::pdb_omap_ranges(self.0.get(), range.start, range.end, room, size, count, fault)
+            sys::pdb_omap_ranges(self.0.lock().get(), range.start, range.end, room, size, count, fault)
         })
     }
 }
@@ -81,7 +82,7 @@ impl Omap {
 /// An RVA is an address in the image as it is loaded, and an internal RVA is one in the original image, which the
 /// parts of a program database refer to.
 #[derive(Debug)]
-pub struct AddressMap(Handle);
+pub struct AddressMap(Shared);
 
 /// A place in a section: the section, counted from 1, and an offset.
 pub type Place = (u16, u32);
@@ -114,7 +115,7 @@ pub enum Address {
 
 impl AddressMap {
     pub(crate) fn open(file: &[u8]) -> Result<AddressMap> {
-        Handle::open(|map, fault| unsafe { sys::pdb_bytes_addresses(file.as_ptr(), file.len(), map, fault) })
+        Shared::open(|map, fault| unsafe { sys::pdb_bytes_addresses(file.as_ptr(), file.len(), map, fault) })
             .map(AddressMap)
     }
 
@@ -127,7 +128,7 @@ impl AddressMap {
             Address::InternalPlace(place) => (sys::PDB_INTERNAL_SECTION_OFFSET, place),
         };
         let call = |to: *mut sys::Translation, fault| unsafe {
-            sys::pdb_translate(self.0.get(), form, section, offset, to, fault)
+            sys::pdb_translate(self.0.lock().get(), form, section, offset, to, fault)
         };
         let to = value(call)?.unwrap_or_default();
         let place = |it: sys::Place| (it.section as u16, it.offset);
@@ -142,14 +143,14 @@ impl AddressMap {
     /// Where the addresses of a range of the original image lie in the image as it is loaded.
     pub fn rva_ranges(&self, range: Range<u32>) -> Result<Vec<Range<u32>>> {
         ranges(|room, size, count, fault| unsafe {
-            sys::pdb_rva_ranges(self.0.get(), range.start, range.end, room, size, count, fault)
+            sys::pdb_rva_ranges(self.0.lock().get(), range.start, range.end, room, size, count, fault)
         })
     }
 
     /// Where the addresses of a range of the image as it is loaded lie in the original image.
     pub fn internal_rva_ranges(&self, range: Range<u32>) -> Result<Vec<Range<u32>>> {
         ranges(|room, size, count, fault| unsafe {
-            sys::pdb_internal_rva_ranges(self.0.get(), range.start, range.end, room, size, count, fault)
+            sys::pdb_internal_rva_ranges(self.0.lock().get(), range.start, range.end, room, size, count, fault)
         })
     }
 }

@@ -2,16 +2,67 @@ use std::fmt;
 
 use crate::sys;
 
-/// The result of a call that reads a file.
-pub type Result<T> = std::result::Result<T, Error>;
+/// The result of a call that reads a file. With a second parameter it is the standard library's, so that a glob import
+/// of this crate hides nothing.
+pub type Result<T, E = Error> = std::result::Result<T, E>;
+
+/// Why a file, or a part of it, can't be read, and where that is.
+#[derive(Debug, Clone, Copy, PartialEq, Eq)]
+#[non_exhaustive]
+pub struct Error {
+    /// Which error it is.
+    pub kind: ErrorKind,
+    /// The number of the stream that has it, where that is known.
+    pub stream: Option<u32>,
+    /// The place in that stream of the record that has it, where that is known.
+    pub offset: Option<u32>,
+}
+
+impl Error {
+    pub(crate) fn of(fault: &sys::Fault) -> Error {
+        ErrorKind::of(fault).into()
+    }
+
+    /// The same error in a stream, and at an offset, unless it says already where it is.
+    pub(crate) fn at(self, stream: Option<u32>, offset: Option<u32>) -> Error {
+        match self.stream {
+            Some(_) => self,
+            None => Error { stream, offset: stream.and(offset), ..self },
+        }
+    }
+}
+
+impl From<ErrorKind> for Error {
+    fn from(kind: ErrorKind) -> Error {
+        Error { kind, stream: None, offset: None }
+    }
+}
+
+impl fmt::Display for Error {
+    fn fmt(&self, f: &mut fmt::Formatter<'_>) -> fmt::Result {
+        self.kind.fmt(f)?;
+        match (self.stream, self.offset) {
+            (Some(stream), Some(offset)) => write!(f, " [stream {stream} byte {offset:#x}]"),
+            (Some(stream), None) => write!(f, " [stream {stream}]"),
+            (None, _) => Ok(()),
+        }
+    }
+}
+
+impl std::error::Error for Error {}
 
 macro_rules! errors {
     ($( $(#[$about:meta])* $number:ident $name:ident $({ $($(#[$of:meta])* $field:ident: $place:ident),* })? )*) => {
-        /// Why a file, or a part of it, can't be read.
+        /// The errors of a file, and those of the library.
         #[derive(Debug, Clone, Copy, PartialEq, Eq)]
         #[non_exhaustive]
-        pub enum Error {
+        pub enum ErrorKind {
             $( $(#[$about])* $name $({ $($(#[$of])* $field: u32),* })?, )*
+            /// The library that is linked is of another version than this crate.
+            LibraryVersion {
+                /// Its version, as `PDB_VERSION` of the header.
+                version: u32,
+            },
             /// Any other status of the library.
             Other {
                 /// The status, one of `enum pdb_status` of the header.
@@ -23,11 +74,11 @@ macro_rules! errors {
             },
         }
 
-        impl Error {
-            pub(crate) fn of(fault: &sys::Fault) -> Error {
+        impl ErrorKind {
+            fn of(fault: &sys::Fault) -> ErrorKind {
                 match fault.status {
-                    $( sys::$number => Error::$name $({ $($field: fault.$place),* })?, )*
-                    status => Error::Other { status, first: fault.first, second: fault.second },
+                    $( sys::$number => ErrorKind::$name $({ $($field: fault.$place),* })?, )*
+                    status => ErrorKind::Other { status, first: fault.first, second: fault.second },
                 }
             }
 
@@ -35,12 +86,13 @@ macro_rules! errors {
             #[allow(clippy::needless_update)]
             fn fault(self) -> sys::Fault {
                 match self {
-                    $( Error::$name $({ $($field),* })? => sys::Fault {
+                    $( ErrorKind::$name $({ $($field),* })? => sys::Fault {
                         status: sys::$number,
                         $( $($place: $field,)* )?
                         ..sys::Fault::default()
                     }, )*
-                    Error::Other { status, first, second } => sys::Fault { status, first, second },
+                    ErrorKind::LibraryVersion { .. } => sys::Fault::default(),
+                    ErrorKind::Other { status, first, second } => sys::Fault { status, first, second },
                 }
             }
         }
@@ -121,7 +173,7 @@ errors! {
     PDB_TOO_LONG StreamTooLong
 }
 
-impl fmt::Display for Error {
+impl fmt::Display for ErrorKind {
     fn fmt(&self, f: &mut fmt::Formatter<'_>) -> fmt::Result {
         let about = self.fault();
         let (mut room, mut length, mut fault) = ([0; 256], 0, sys::Fault::default());
@@ -129,12 +181,13 @@ impl fmt::Display for Error {
         let status = unsafe { sys::pdb_error_text(&about, room.as_mut_ptr(), room.len(), &mut length, &mut fault) };
         match (status, self) {
             (sys::PDB_OK, _) => f.write_str(&String::from_utf8_lossy(&room[..length])),
-            (_, Error::Io { .. }) => f.write_str("IO error while reading PDB"),
-            (_, Error::OutOfMemory) => f.write_str("OutOfMemory"),
-            (_, Error::StreamTooLong) => f.write_str("a stream has 4,294,967,295 bytes or more"),
+            (_, ErrorKind::Io { .. }) => f.write_str("IO error while reading PDB"),
+            (_, ErrorKind::OutOfMemory) => f.write_str("OutOfMemory"),
+            (_, ErrorKind::LibraryVersion { version }) => {
+                write!(f, "the library is of version {}.{}", version / 10_000, version / 100 % 100)
+            }
+            (_, ErrorKind::StreamTooLong) => f.write_str("a stream has 4,294,967,295 bytes or more"),
             _ => write!(f, "status {} of the library", about.status),
         }
     }
 }
-
-impl std::error::Error for Error {}

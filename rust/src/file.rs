@@ -1,7 +1,7 @@
 use std::fmt;
 
 use crate::addresses::{AddressMap, Omap, Section, sections};
-use crate::error::{Error, Result};
+use crate::error::{ErrorKind, Result};
 use crate::frames::Frames;
 use crate::handle::{Handle, items, named_items, value};
 use crate::identity::Identity;
@@ -15,12 +15,19 @@ const IDS: u32 = 4;
 const NO_STREAM: u32 = 0xffff;
 
 /// A program database over bytes that it borrows: its header and its directory are kept.
-#[derive(Debug)]
 pub struct Pdb<'f> {
     bytes: &'f [u8],
     file: Handle,
     page_size: u32,
     stream_count: u32,
+}
+
+impl fmt::Debug for Pdb<'_> {
+    fn fmt(&self, f: &mut fmt::Formatter<'_>) -> fmt::Result {
+        let (bytes, page_size, streams) = (self.bytes.len(), self.page_size, self.stream_count);
+        let mut shown = f.debug_struct("Pdb");
+        shown.field("bytes", &bytes).field("page_size", &page_size).field("streams", &streams).finish_non_exhaustive()
+    }
 }
 
 impl<'f> Pdb<'f> {
@@ -57,7 +64,7 @@ impl<'f> Pdb<'f> {
     /// The size of a stream in bytes, as the directory gives it.
     pub fn stream_size(&self, number: u32) -> Result<u32> {
         let size = value(|size, fault| unsafe { sys::pdb_file_stream_size(self.file.get(), number, size, fault) })?;
-        size.ok_or(Error::StreamNotFound { number })
+        Ok(size.ok_or(ErrorKind::StreamNotFound { number })?)
     }
 
     /// The bytes of a stream.
@@ -70,8 +77,8 @@ impl<'f> Pdb<'f> {
         let (at, length) = (self.bytes.as_ptr(), self.bytes.len());
         let bytes = items(|room, size, count, fault| unsafe {
             sys::pdb_bytes_stream(self.file.get(), at, length, number, limit, room, size, count, fault)
-        })?;
-        Ok(bytes.unwrap_or_default())
+        });
+        Ok(bytes.map_err(|error| error.at(Some(number), None))?.unwrap_or_default())
     }
 
     /// The numbers that identify the file.
@@ -141,12 +148,18 @@ impl<'f> Pdb<'f> {
 
     /// The table of types.
     pub fn types(&self) -> Result<Types> {
-        Types::open(self.stream(TYPES)?)
+        Types::numbered(self.stream(TYPES)?, Some(TYPES))
     }
 
     /// The table of ids.
     pub fn ids(&self) -> Result<Ids> {
-        Ids::open(self.stream(IDS)?)
+        Ids::numbered(self.stream(IDS)?, Some(IDS))
+    }
+
+    /// The places of the items in the table of types, or in that of ids.
+    pub(crate) fn items(&self, is_of_ids: bool) -> Result<Ids> {
+        let number = if is_of_ids { IDS } else { TYPES };
+        Ids::numbered(self.stream(number)?, Some(number))
     }
 
     /// The string table, which is the stream `/names`.
@@ -176,7 +189,7 @@ impl<'f> Pdb<'f> {
 
     fn in_role<T: Default>(&self, number: Option<u16>, read: impl FnOnce(&[u8]) -> Result<T>) -> Result<T> {
         match number {
-            Some(number) => read(&self.stream(number.into())?),
+            Some(number) => read(&self.stream(number.into())?).map_err(|error| error.at(Some(number.into()), None)),
             None => Ok(T::default()),
         }
     }

@@ -1,5 +1,5 @@
 use crate::error::Result;
-use crate::handle::{Handle, items, value};
+use crate::handle::{Shared, items, value};
 use crate::sys;
 
 /// What a stack walker needs to know about the frame of a piece of code.
@@ -7,26 +7,27 @@ pub type Frame = sys::Frame;
 
 /// The frame table of a file, of both formats.
 #[derive(Debug)]
-pub struct Frames(Handle);
+pub struct Frames(Shared);
 
 impl Frames {
     pub(crate) fn open(file: &[u8]) -> Result<Frames> {
         // SAFETY: the slice is as long as it says, and the handle is all zero.
-        Handle::open(|frames, fault| unsafe { sys::pdb_bytes_frames(file.as_ptr(), file.len(), frames, fault) })
+        Shared::open(|frames, fault| unsafe { sys::pdb_bytes_frames(file.as_ptr(), file.len(), frames, fault) })
             .map(Frames)
     }
 
     /// The first frame from an address of the original image on: the one at the address, or else the first above it.
     pub fn at(&self, address: u32) -> Result<Option<Frame>> {
-        // SAFETY: the handle is open, and no other call has it.
-        value(|frame, fault| unsafe { sys::pdb_frames_at(self.0.get(), address, frame, fault) })
+        // SAFETY: the handle is open, and the lock gives it to one call at a time.
+        value(|frame, fault| unsafe { sys::pdb_frames_at(self.0.lock().get(), address, frame, fault) })
     }
 
     /// All frames, ordered by their starts.
     pub fn list(&self) -> Result<Vec<Frame>> {
-        // SAFETY: the handle is open, and no other call has it.
-        let found =
-            items(|room, size, count, fault| unsafe { sys::pdb_frames_list(self.0.get(), room, size, count, fault) })?;
+        // SAFETY: the handle is open, and the lock gives it to one call at a time.
+        let found = items(|room, size, count, fault| unsafe {
+            sys::pdb_frames_list(self.0.lock().get(), room, size, count, fault)
+        })?;
         Ok(found.unwrap_or_default())
     }
 }

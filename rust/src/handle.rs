@@ -1,6 +1,7 @@
 use std::cell::UnsafeCell;
+use std::sync::{Mutex, MutexGuard, PoisonError};
 
-use crate::error::{Error, Result};
+use crate::error::{Error, ErrorKind, Result};
 use crate::sys;
 
 /// What the library keeps open, which is closed once, when this is dropped.
@@ -15,6 +16,7 @@ unsafe impl Send for Handle {}
 impl Handle {
     /// Opens a handle by a call.
     pub fn open(call: impl FnOnce(*mut sys::Handle, *mut sys::Fault) -> u32) -> Result<Handle> {
+        check_version()?;
         let handle = Handle(UnsafeCell::new(sys::Handle { held: std::ptr::null_mut(), kind: 0 }));
         let mut fault = sys::Fault::default();
         match call(handle.get(), &mut fault) {
@@ -33,6 +35,29 @@ impl Drop for Handle {
         // SAFETY: the handle is all zero, or the library opened it; this value alone has it.
         unsafe { sys::pdb_close(self.get()) }
     }
+}
+
+/// A handle that threads share: one call at a time has it.
+#[derive(Debug)]
+pub(crate) struct Shared(Mutex<Handle>);
+
+impl Shared {
+    /// Opens a handle by a call.
+    pub fn open(call: impl FnOnce(*mut sys::Handle, *mut sys::Fault) -> u32) -> Result<Shared> {
+        Handle::open(call).map(|handle| Shared(Mutex::new(handle)))
+    }
+
+    /// The handle, for one call. A call of the library doesn't panic, so a handle is always as a call left it.
+    pub fn lock(&self) -> MutexGuard<'_, Handle> {
+        self.0.lock().unwrap_or_else(PoisonError::into_inner)
+    }
+}
+
+/// Whether the library has the calls of this crate: the last two digits are of versions with the same calls.
+pub(crate) fn check_version() -> Result<()> {
+    // SAFETY: the call takes nothing.
+    let version = unsafe { sys::pdb_version() };
+    if version / 100 == sys::PDB_VERSION / 100 { Ok(()) } else { Err(ErrorKind::LibraryVersion { version }.into()) }
 }
 
 /// What a call writes: a value that it fills in, or None where there is no answer.
@@ -59,7 +84,7 @@ pub(crate) fn items<T: Clone + Default>(
             }
             sys::PDB_NONE => return Ok(None),
             sys::PDB_TOO_SMALL => {
-                room.try_reserve_exact(count).map_err(|_| Error::OutOfMemory)?;
+                room.try_reserve_exact(count).map_err(|_| ErrorKind::OutOfMemory)?;
                 room.resize(count, T::default());
             }
             _ => return Err(Error::of(&fault)),
@@ -82,8 +107,8 @@ pub(crate) fn named_items<T: Clone + Default>(
             }
             sys::PDB_NONE => return Ok(None),
             sys::PDB_TOO_SMALL => {
-                room.try_reserve_exact(count).map_err(|_| Error::OutOfMemory)?;
-                names.try_reserve_exact(size).map_err(|_| Error::OutOfMemory)?;
+                room.try_reserve_exact(count).map_err(|_| ErrorKind::OutOfMemory)?;
+                names.try_reserve_exact(size).map_err(|_| ErrorKind::OutOfMemory)?;
                 room.resize(count, T::default());
                 names.resize(size, 0);
             }

@@ -21,8 +21,9 @@
 //! The calls of the library are proved: for any bytes they end, read within the bytes, and give the answer that a
 //! written grammar of the format gives, or its first error. This crate calls them, and is not proved.
 //!
-//! Values that keep something open in the library may move to another thread, but are not `Sync`: threads that read one
-//! file at once each open it for themselves, over the same bytes.
+//! Values that keep something open in the library may move to another thread. [`Names`], [`Omap`], [`AddressMap`] and
+//! [`Frames`] are `Sync` too, and their calls wait for one another. The others are not: threads that read one table at
+//! once each open it for themselves, over the same bytes.
 #![warn(missing_docs)]
 
 mod addresses;
@@ -34,6 +35,7 @@ mod identity;
 mod ids;
 mod layouts;
 mod names;
+pub mod pdb;
 mod row;
 #[rustfmt::skip]
 pub mod sys;
@@ -41,13 +43,13 @@ mod types;
 mod validation;
 
 pub use addresses::{Address, AddressMap, Omap, Place, Section, Translation};
-pub use error::{Error, Result};
+pub use error::{Error, ErrorKind, Result};
 pub use file::{Guid, Information, NamedStream, Pdb, Roles};
 pub use frames::{Frame, Frames};
 pub use identity::{DebugIdentity, Features, Format, Identity, KeyForm};
 pub use ids::{Id, IdIter, Ids};
 pub use layouts::{Definitions, Extent, Layout, LayoutKind, LayoutRow};
-pub use names::{Name, Names};
+pub use names::{Name, NameIter, Names};
 pub use row::{IdShape, Row, Shape};
-pub use types::{Field, Fields, Type, TypeIter, Types};
+pub use types::{Field, FieldIter, Fields, Type, TypeIter, Types};
 pub use validation::{Finding, Inconsistency, Part, Problem, validate, validate_all};

@@ -1,8 +1,8 @@
 use std::borrow::Cow;
 use std::fmt;
 
-use crate::error::{Error, Result};
-use crate::handle::{Handle, value};
+use crate::error::{ErrorKind, Result};
+use crate::handle::{Shared, value};
 use crate::sys;
 
 /// A name, borrowed from the stream that has it. It is most often UTF-8, which nothing ensures, and is printed with
@@ -50,46 +50,75 @@ impl PartialEq<&str> for Name<'_> {
     }
 }
 
+impl PartialEq<[u8]> for Name<'_> {
+    fn eq(&self, other: &[u8]) -> bool {
+        self.0 == other
+    }
+}
+
+impl AsRef<[u8]> for Name<'_> {
+    fn as_ref(&self) -> &[u8] {
+        self.0
+    }
+}
+
 /// A string table, and the stream that has it.
-#[derive(Debug)]
 pub struct Names {
     stream: Vec<u8>,
-    table: Handle,
+    table: Shared,
 }
+
+impl fmt::Debug for Names {
+    fn fmt(&self, f: &mut fmt::Formatter<'_>) -> fmt::Result {
+        f.debug_struct("Names").field("bytes", &self.stream.len()).finish_non_exhaustive()
+    }
+}
+
+/// The offset of each name of a string table, and the name, in their order.
+#[derive(Debug, Clone)]
+pub struct NameIter<'n> {
+    names: &'n Names,
+    next: Option<u32>,
+}
+
+impl<'n> Iterator for NameIter<'n> {
+    type Item = Result<(u32, Name<'n>)>;
+
+    fn next(&mut self) -> Option<Self::Item> {
+        let offset = self.next.take()?;
+        match self.names.get(offset) {
+            Ok(name) => {
+                // Right after the NUL.
+                self.next = u32::try_from(name.0.len()).ok().and_then(|it| offset.checked_add(it)?.checked_add(1));
+                Some(Ok((offset, name)))
+            }
+            Err(error) if error.kind == ErrorKind::UnexpectedEof => None,
+            Err(error) => Some(Err(error)),
+        }
+    }
+}
+
+impl std::iter::FusedIterator for NameIter<'_> {}
 
 impl Names {
     /// Reads the string table in a stream.
     pub fn parse(stream: Vec<u8>) -> Result<Names> {
         // SAFETY: the slice is as long as it says, and the handle is all zero; so in all of this file.
         let open = |names, fault: *mut _| unsafe { sys::pdb_names_open(stream.as_ptr(), stream.len(), names, fault) };
-        let table = Handle::open(open)?;
+        let table = Shared::open(open)?;
         Ok(Names { stream, table })
     }
 
     /// The name at an offset of the table.
     pub fn get(&self, offset: u32) -> Result<Name<'_>> {
-        let place = value(|place, fault| unsafe { sys::pdb_names_place(self.table.get(), offset, place, fault) })?;
-        let place: sys::Name = place.ok_or(Error::UnexpectedEof)?;
+        let place =
+            value(|place, fault| unsafe { sys::pdb_names_place(self.table.lock().get(), offset, place, fault) })?;
+        let place: sys::Name = place.ok_or(ErrorKind::UnexpectedEof)?;
         Ok(Name(&self.stream[place.offset..][..place.length]))
     }
 
     /// The offset of each name, and the name, in their order.
-    pub fn iter(&self) -> impl Iterator<Item = Result<(u32, Name<'_>)>> {
-        let mut next = Some(0u32);
-        std::iter::from_fn(move || {
-            let offset = next?;
-            match self.get(offset) {
-                Ok(name) => {
-                    // Right after the NUL.
-                    next = u32::try_from(name.0.len()).ok().and_then(|it| offset.checked_add(it)?.checked_add(1));
-                    Some(Ok((offset, name)))
-                }
-                Err(Error::UnexpectedEof) => None,
-                Err(error) => {
-                    next = None;
-                    Some(Err(error))
-                }
-            }
-        })
+    pub fn iter(&self) -> NameIter<'_> {
+        NameIter { names: self, next: Some(0) }
     }
 }

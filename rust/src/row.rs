@@ -85,9 +85,9 @@ shapes! { IdShape "The shapes of ids."
 
 /// The numbers in a record: what it says besides names and lists. Those that a record of its shape doesn't have are
 /// None.
-#[derive(Debug, Clone, Copy, PartialEq, Eq)]
+#[derive(Debug, Clone, Copy, Default, PartialEq, Eq)]
 #[repr(transparent)]
-pub struct Row(pub sys::Row);
+pub struct Row(pub(crate) sys::Row);
 
 macro_rules! numbers {
     ($($(#[$about:meta])* $name:ident: $kind:ty = $has:ident)*) => {

@@ -5,6 +5,8 @@
 
 use std::ffi::c_void;
 
+pub const PDB_VERSION: u32 = 100;
+
 #[repr(C)]
 #[derive(Debug, Clone, Copy, Default, PartialEq, Eq)]
 pub struct Fault {

@@ -1,6 +1,7 @@
 use std::cell::{Cell, OnceCell};
+use std::fmt;
 
-use crate::error::{Error, Result};
+use crate::error::{Error, ErrorKind, Result};
 use crate::handle::{Handle, items, named_items, value};
 use crate::layouts::{Definitions, Layout};
 use crate::names::Name;
@@ -26,14 +27,21 @@ const BATCH: usize = 64;
 /// fn is_sync<T: Sync>() {}
 /// is_sync::<pdb_container::Types>();
 /// ```
-#[derive(Debug)]
 pub struct Types {
     stream: Vec<u8>,
+    number: Option<u32>,
     table: Handle,
     /// Whether an iterator has the walk of `table`; another one opens a table of its own.
     is_walked: Cell<bool>,
     first_index: u32,
     definitions: OnceCell<Definitions>,
+}
+
+impl fmt::Debug for Types {
+    fn fmt(&self, f: &mut fmt::Formatter<'_>) -> fmt::Result {
+        let (bytes, first_index) = (self.stream.len(), self.first_index);
+        f.debug_struct("Types").field("bytes", &bytes).field("first_index", &first_index).finish_non_exhaustive()
+    }
 }
 
 // SAFETY, in all of this file: slices are as long as they say, places that the library writes stay in one call, and a
@@ -46,10 +54,15 @@ fn open(stream: &[u8]) -> Result<Handle> {
 impl Types {
     /// Reads the table of types in a stream.
     pub fn open(stream: Vec<u8>) -> Result<Types> {
-        let table = open(&stream)?;
+        Types::numbered(stream, None)
+    }
+
+    /// Reads the table of types in the stream of a number, which errors tell.
+    pub(crate) fn numbered(stream: Vec<u8>, number: Option<u32>) -> Result<Types> {
+        let table = open(&stream).map_err(|error| error.at(number, None))?;
         let first_index = value(|index, fault| unsafe { sys::pdb_types_first_index(table.get(), index, fault) })?;
         let first_index = first_index.unwrap_or_default();
-        Ok(Types { stream, table, is_walked: Cell::new(false), first_index, definitions: OnceCell::new() })
+        Ok(Types { stream, number, table, is_walked: Cell::new(false), first_index, definitions: OnceCell::new() })
     }
 
     /// The index of the first type that has a record.
@@ -72,7 +85,7 @@ impl Types {
             Walk::Shared
         } else {
             open(&self.stream).map(Walk::Own).unwrap_or_else(|error| {
-                stop = Some(error);
+                stop = Some(error.at(self.number, None));
                 Walk::Ended
             })
         };
@@ -82,32 +95,35 @@ impl Types {
 
     /// The type of an index, which may be that of a primitive type.
     pub fn get(&self, index: u32) -> Result<Type<'_>> {
-        let place = value(|place, fault| unsafe { sys::pdb_types_find(self.table.get(), index, place, fault) })?;
-        let record = match place {
-            Some(place) => self.record(&place),
-            None if index < FIRST_RECORD => &[],
-            None => return Err(Error::TypeNotFound { index }),
-        };
-        let row = value(|row, fault| unsafe { sys::pdb_type_parse(record.as_ptr(), record.len(), index, row, fault) })?;
-        Ok(Type { index, record, row: Row(row.unwrap_or_default()) })
+        let place = value(|place, fault| unsafe { sys::pdb_types_find(self.table.get(), index, place, fault) });
+        let place: Option<sys::Record> = place.map_err(|error| error.at(self.number, None))?;
+        if place.is_none() && index >= FIRST_RECORD {
+            return Err(Error::from(ErrorKind::TypeNotFound { index }).at(self.number, None));
+        }
+        let mut found = self.typed(&sys::Record { index, ..place.unwrap_or_default() }, sys::Row::default());
+        let (at, length) = (found.record.as_ptr(), found.record.len());
+        let row = found.located(value(|row, fault| unsafe { sys::pdb_type_parse(at, length, index, row, fault) }))?;
+        found.row = Row(row.unwrap_or_default());
+        Ok(found)
     }
 
-    /// The definition of the first class, union or enumeration of a name, if there is one. It walks along the table.
-    pub fn find(&self, name: &str) -> Result<Option<Type<'_>>> {
-        for ty in self.iter().flatten().filter(Type::is_definition) {
-            if ty.name()?.is_some_and(|it| it == name) {
-                return Ok(Some(ty));
-            }
+    /// The definition of the first class, union or enumeration of a name, if there is one.
+    ///
+    /// # Errors
+    /// Fails as `definitions` does: in a table whose walk stops early, a name that was not met may be behind.
+    pub fn find(&self, name: impl AsRef<[u8]>) -> Result<Option<Type<'_>>> {
+        match self.definitions()?.named(name)?.first() {
+            Some(index) => self.get(*index).map(Some),
+            None => Ok(None),
         }
-        Ok(None)
     }
 
     /// The fields of the list of an index, and of the lists in which it continues.
     pub fn fields(&self, list: u32) -> Result<Fields> {
         let found = named_items(|rows: *mut sys::Field, length, count, names, room, size, fault| unsafe {
             sys::pdb_types_fields(self.table.get(), list, rows, length, count, names, room, size, fault)
-        })?;
-        let (rows, names) = found.unwrap_or_default();
+        });
+        let (rows, names) = found.map_err(|error| error.at(self.number, None))?.unwrap_or_default();
         Ok(Fields { rows, names })
     }
 
@@ -116,7 +132,7 @@ impl Types {
         if let Some(found) = self.definitions.get() {
             return Ok(found);
         }
-        let found = Definitions::open(&self.stream)?;
+        let found = Definitions::numbered(&self.stream, self.number)?;
         Ok(self.definitions.get_or_init(|| found))
     }
 
@@ -132,9 +148,10 @@ impl Types {
         Ok(None)
     }
 
-    /// The bytes of a record.
-    fn record(&self, place: &sys::Record) -> &[u8] {
-        &self.stream[place.offset as usize..][..place.length as usize]
+    /// The type whose record is at a place, and says this.
+    fn typed(&self, place: &sys::Record, row: sys::Row) -> Type<'_> {
+        let record = &self.stream[place.offset as usize..][..place.length as usize];
+        Type { index: place.index, record, row: Row(row), stream: self.number, offset: place.offset }
     }
 }
 
@@ -189,7 +206,7 @@ impl TypeIter<'_> {
         let status = unsafe { sys::pdb_types_read(table, self.batch.as_mut_ptr(), BATCH, &mut count, &mut fault) };
         (self.at, self.filled) = (0, count);
         if status != sys::PDB_OK {
-            self.stop = (status != sys::PDB_END).then(|| Error::of(&fault));
+            self.stop = (status != sys::PDB_END).then(|| Error::of(&fault).at(self.types.number, None));
             self.end();
         }
         count > 0
@@ -215,17 +232,17 @@ impl<'t> Iterator for TypeIter<'t> {
         self.at += 1;
         self.index = it.place.index;
         if it.fault.status != sys::PDB_OK {
-            return Some(Err(failed(&it.fault)));
+            return Some(Err(failed(&it.fault, self.types.number, it.place.offset)));
         }
-        Some(Ok(Type { index: it.place.index, record: self.types.record(&it.place), row: Row(it.info) }))
+        Some(Ok(self.types.typed(&it.place, it.info)))
     }
 }
 
 /// The error of a record, out of the way of the others.
 #[cold]
 #[inline(never)]
-fn failed(fault: &sys::Fault) -> Error {
-    Error::of(fault)
+fn failed(fault: &sys::Fault, stream: Option<u32>, offset: u32) -> Error {
+    Error::of(fault).at(stream, Some(offset))
 }
 
 impl std::iter::FusedIterator for TypeIter<'_> {}
@@ -245,9 +262,42 @@ pub struct Type<'t> {
     pub record: &'t [u8],
     /// The numbers in its record.
     pub row: Row,
+    stream: Option<u32>,
+    offset: u32,
 }
 
 impl<'t> Type<'t> {
+    /// Reads the record of an index.
+    pub(crate) fn read(index: u32, record: &'t [u8]) -> Result<Type<'t>> {
+        let (at, length) = (record.as_ptr(), record.len());
+        let row = value(|row, fault| unsafe { sys::pdb_type_parse(at, length, index, row, fault) })?;
+        Ok(Type { index, record, row: Row(row.unwrap_or_default()), stream: None, offset: 0 })
+    }
+
+    /// The fields in the record of a list of fields, without those of lists in which it continues.
+    pub(crate) fn own_fields(&self) -> Result<Vec<(Row, Name<'t>)>> {
+        let found = named_items(|rows: *mut sys::Field, length, count, names, room, size, fault| unsafe {
+            let (at, bytes) = (self.record.as_ptr(), self.record.len());
+            sys::pdb_type_fields(at, bytes, self.index, rows, length, count, names, room, size, fault)
+        })?;
+        let (rows, names) = found.unwrap_or_default();
+        let (fields, mut from) = (Fields { rows, names }, 0);
+        let field = |it: Field<'_>| {
+            // Names stand in the record in their order.
+            let name = borrowed(&self.record[from..], it.name.unwrap_or_default().as_bytes());
+            if !name.as_bytes().is_empty() {
+                from = name.as_bytes().as_ptr() as usize - self.record.as_ptr() as usize + name.as_bytes().len();
+            }
+            (it.row, name)
+        };
+        Ok(fields.iter().map(field).collect())
+    }
+
+    /// What a call about the record gives, whose error is in this record.
+    fn located<T>(&self, result: Result<T>) -> Result<T> {
+        result.map_err(|error| error.at(self.stream, Some(self.offset)))
+    }
+
     /// What shape it has.
     pub fn shape(&self) -> Shape {
         Shape::of(self.row.0.shape)
@@ -260,40 +310,40 @@ impl<'t> Type<'t> {
 
     /// Its name, if it has one.
     pub fn name(&self) -> Result<Option<Name<'t>>> {
-        let name = items(|room, size, count, fault| unsafe {
+        let name = self.located(items(|room, size, count, fault| unsafe {
             sys::pdb_type_name(self.record.as_ptr(), self.record.len(), self.index, room, size, count, fault)
-        })?;
+        }))?;
         Ok(name.map(|it| borrowed(self.record, &it)))
     }
 
     /// The unique name of a class, a union or an enumeration, if it has one.
     pub fn unique_name(&self) -> Result<Option<Name<'t>>> {
-        let name = items(|room, size, count, fault| unsafe {
+        let name = self.located(items(|room, size, count, fault| unsafe {
             sys::pdb_type_unique_name(self.record.as_ptr(), self.record.len(), self.index, room, size, count, fault)
-        })?;
+        }))?;
         Ok(name.map(|it| borrowed(self.record, &it)))
     }
 
     /// The types of the arguments in a list of arguments; None for any other type.
     pub fn arguments(&self) -> Result<Option<Vec<u32>>> {
-        items(|room, size, count, fault| unsafe {
+        self.located(items(|room, size, count, fault| unsafe {
             sys::pdb_type_arguments(self.record.as_ptr(), self.record.len(), self.index, room, size, count, fault)
-        })
+        }))
     }
 
     /// The size of an array in bytes up to each dimension, the innermost first: each size includes those before it.
     /// None for any other type.
     pub fn dimensions(&self) -> Result<Option<Vec<u32>>> {
-        items(|room, size, count, fault| unsafe {
+        self.located(items(|room, size, count, fault| unsafe {
             sys::pdb_type_dimensions(self.record.as_ptr(), self.record.len(), self.index, room, size, count, fault)
-        })
+        }))
     }
 
     /// The methods in a list of methods; None for any other type.
     pub fn methods(&self) -> Result<Option<Vec<Row>>> {
-        let found = items(|room, size, count, fault| unsafe {
+        let found = self.located(items(|room, size, count, fault| unsafe {
             sys::pdb_type_methods(self.record.as_ptr(), self.record.len(), self.index, room, size, count, fault)
-        })?;
+        }))?;
         Ok(found.map(|rows| rows.into_iter().map(Row).collect()))
     }
 }
@@ -323,15 +373,45 @@ impl Fields {
     }
 
     /// Each field, in their order.
-    pub fn iter(&self) -> impl Iterator<Item = Field<'_>> {
-        let mut from = 0;
-        self.rows.iter().map(move |field| {
-            let name = &self.names[from..][..field.name_length];
-            from += field.name_length;
-            Field { row: Row(field.info), name: (field.has_name != 0).then_some(Name::new(name)) }
-        })
+    pub fn iter(&self) -> FieldIter<'_> {
+        FieldIter { rows: self.rows.iter(), names: &self.names }
     }
 }
+
+impl<'f> IntoIterator for &'f Fields {
+    type Item = Field<'f>;
+    type IntoIter = FieldIter<'f>;
+
+    fn into_iter(self) -> FieldIter<'f> {
+        self.iter()
+    }
+}
+
+/// Each field of a list, in their order.
+#[derive(Debug, Clone)]
+pub struct FieldIter<'f> {
+    rows: std::slice::Iter<'f, sys::Field>,
+    names: &'f [u8],
+}
+
+impl<'f> Iterator for FieldIter<'f> {
+    type Item = Field<'f>;
+
+    fn next(&mut self) -> Option<Field<'f>> {
+        let field = self.rows.next()?;
+        let (name, names) = self.names.split_at(field.name_length);
+        self.names = names;
+        Some(Field { row: Row(field.info), name: (field.has_name != 0).then_some(Name::new(name)) })
+    }
+
+    fn size_hint(&self) -> (usize, Option<usize>) {
+        self.rows.size_hint()
+    }
+}
+
+impl ExactSizeIterator for FieldIter<'_> {}
+
+impl std::iter::FusedIterator for FieldIter<'_> {}
 
 /// A field of a list: its numbers, and its name if it has one.
 #[derive(Debug, Clone, Copy, PartialEq, Eq)]

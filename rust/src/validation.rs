@@ -1,5 +1,5 @@
-use crate::error::{Error, Result};
-use crate::handle::items;
+use crate::error::{Error, ErrorKind, Result};
+use crate::handle::{check_version, items};
 use crate::sys;
 
 /// An enumeration whose values have the numbers of the library's constants.
@@ -102,7 +102,7 @@ Inconsistency {
 #[derive(Debug, Clone, Copy, PartialEq, Eq)]
 pub enum Problem {
     /// The part can't be read, for this reason.
-    Error(Error),
+    Error(ErrorKind),
     /// The part can be read, and this is inconsistent in it, with the number that goes with it, or 0.
     Inconsistent(Inconsistency, u32),
 }
@@ -136,7 +136,7 @@ impl Finding {
             file_byte: (found.has_file_byte != 0).then_some(found.file_byte),
             is_warning: found.is_warning != 0,
             problem: match found.inconsistency {
-                sys::PDB_NO_INCONSISTENCY => Problem::Error(Error::of(&found.fault)),
+                sys::PDB_NO_INCONSISTENCY => Problem::Error(Error::of(&found.fault).kind),
                 what => Problem::Inconsistent(Inconsistency::of(what), found.number),
             },
         }
@@ -144,6 +144,7 @@ impl Finding {
 }
 
 fn findings(file: &[u8], every: u32) -> Result<Vec<Finding>> {
+    check_version()?;
     // SAFETY: the slices are as long as they say, and places that the library writes stay in the call.
     let found = items(|room, size, count, fault| unsafe {
         sys::pdb_validate(file.as_ptr(), file.len(), every, room, size, count, fault)

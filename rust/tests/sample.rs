@@ -1,8 +1,8 @@
 //! Reads examples/sample.pdb, and copies of it with damage.
 
 use pdb_container::{
-    Address, Error, Extent, Features, Format, IdShape, Inconsistency, KeyForm, LayoutKind, LayoutRow, Part, Pdb,
-    Problem, Shape, Types, validate,
+    Address, AddressMap, Error, ErrorKind, Extent, Features, Format, Frames, IdShape, Inconsistency, KeyForm,
+    LayoutKind, LayoutRow, Names, Omap, Part, Pdb, Problem, Shape, Types, validate,
 };
 
 fn sample() -> Vec<u8> {
@@ -18,6 +18,11 @@ fn replaced(file: &[u8], from: &[u8], to: &[u8]) -> Vec<u8> {
     copy
 }
 
+/// What a call gives, without where its error is.
+fn kind<T>(result: Result<T, Error>) -> Result<T, ErrorKind> {
+    result.map_err(|error| error.kind)
+}
+
 #[test]
 fn header_and_streams() {
     let file = sample();
@@ -25,9 +30,9 @@ fn header_and_streams() {
     assert_eq!((pdb.page_size(), pdb.stream_count(), pdb.stream_size(10)), (512, 20, Ok(160)));
     assert_eq!(pdb.stream_prefix(10, 5).unwrap(), b".text");
     assert_eq!(pdb.stream(10).unwrap().len(), 160);
-    assert_eq!(pdb.stream(99), Err(Error::StreamNotFound { number: 99 }));
+    assert_eq!(kind(pdb.stream(99)), Err(ErrorKind::StreamNotFound { number: 99 }));
     assert_eq!(pdb.named_stream("/names").unwrap(), pdb.stream(14).unwrap());
-    assert_eq!(pdb.named_stream("/none"), Err(Error::StreamNameNotFound));
+    assert_eq!(kind(pdb.named_stream("/none")), Err(ErrorKind::StreamNameNotFound));
     let named: Vec<_> = pdb.named_streams().unwrap().iter().map(|it| (it.name().to_string(), it.number)).collect();
     assert_eq!(named, [("/names".to_string(), Some(14)), ("/LinkInfo".to_string(), Some(5))]);
     let roles = pdb.roles().unwrap();
@@ -126,7 +131,7 @@ fn layouts() {
         (Ok(vec![]), Ok(None), Ok(None))
     );
     let after_last = 0x1000 + types.count();
-    assert_eq!(definitions.layout_of(after_last), Err(Error::TypeNotFound { index: after_last }));
+    assert_eq!(kind(definitions.layout_of(after_last)), Err(ErrorKind::TypeNotFound { index: after_last }));
 }
 
 #[test]
@@ -162,8 +167,8 @@ fn types_and_their_fields() {
     assert_eq!(types.get(0x74).unwrap().name(), Ok(None));
     assert_eq!(types.find("Missing").unwrap(), None);
     let after_last = 0x1000 + types.count();
-    assert_eq!(types.get(after_last), Err(Error::TypeNotFound { index: after_last }));
-    assert_eq!(types.fields(derived.index), Err(Error::UnimplementedTypeKind { kind: 0x1504 }));
+    assert_eq!(kind(types.get(after_last)), Err(ErrorKind::TypeNotFound { index: after_last }));
+    assert_eq!(kind(types.fields(derived.index)), Err(ErrorKind::UnimplementedTypeKind { kind: 0x1504 }));
 }
 
 #[test]
@@ -189,12 +194,12 @@ fn ids_and_names() {
     assert!(all.iter().any(|it| it.shape() == IdShape::Function && it.name().unwrap().unwrap() == "mainCRTStartup"));
     let build = all.iter().find(|it| it.shape() == IdShape::BuildInfo).unwrap().list().unwrap().unwrap();
     assert_eq!(ids.get(build[2]).unwrap().name().unwrap().unwrap(), "sample.cpp");
-    assert_eq!(ids.get(0xfff), Err(Error::TypeNotFound { index: 0xfff }));
+    assert_eq!(kind(ids.get(0xfff)), Err(ErrorKind::TypeNotFound { index: 0xfff }));
     let names = pdb.names().unwrap();
     let found: Vec<_> = names.iter().collect::<Result<_, _>>().unwrap();
     assert!(found.iter().any(|(_, name)| *name == "/sample/sample.cpp"));
     assert!(found.iter().all(|(offset, name)| names.get(*offset) == Ok(*name)));
-    assert_eq!(names.get(1 << 20), Err(Error::UnexpectedEof));
+    assert_eq!(kind(names.get(1 << 20)), Err(ErrorKind::UnexpectedEof));
 }
 
 #[test]
@@ -251,9 +256,16 @@ fn a_record_that_cannot_be_read() {
         failed.extend(ty.err().map(|error| (all.index(), error)));
     }
     assert_eq!(count, types.count());
-    assert_eq!(failed, [(modifier.index, Error::UnimplementedTypeKind { kind: 0xe })]);
-    assert_eq!(types.get(modifier.index), Err(failed[0].1));
-    assert_eq!(failed[0].1.to_string(), "Support for types of kind 0x000e is not implemented");
+    assert_eq!(failed.len(), 1);
+    let (index, error) = failed[0];
+    assert_eq!((index, error.kind), (modifier.index, ErrorKind::UnimplementedTypeKind { kind: 0xe }));
+    assert_eq!(types.get(index), Err(error));
+    let stream = Pdb::parse(&damaged).unwrap().stream(2).unwrap();
+    let record = types.iter().nth((index - types.first_index()) as usize - 1).unwrap().unwrap().record;
+    let offset = stream.windows(record.len()).position(|it| it == record).unwrap() + record.len() + 2;
+    assert_eq!((error.stream, error.offset), (Some(2), Some(offset as u32)));
+    let wanted = format!("Support for types of kind 0x000e is not implemented [stream 2 byte {offset:#x}]");
+    assert_eq!(error.to_string(), wanted);
 }
 
 #[test]
@@ -266,11 +278,12 @@ fn a_table_that_is_damaged() {
     let damaged = replaced(&file, &front, &shorter);
     let types = Pdb::parse(&damaged).unwrap().types().unwrap();
     let all: Vec<_> = types.iter().collect();
-    assert_eq!((all.len(), all[2]), (3, Err(Error::TypeTooShort)));
+    assert_eq!((all.len(), kind(all[2])), (3, Err(ErrorKind::TypeTooShort)));
+    assert_eq!(all[2].unwrap_err().stream, Some(2));
     assert!(all[..2].iter().all(Result::is_ok));
     let mut fused = types.iter().skip(3);
     assert_eq!((fused.next(), fused.next()), (None, None));
-    assert_eq!(types.get(0x1002), Err(Error::TypeTooShort));
+    assert_eq!(kind(types.get(0x1002)), Err(ErrorKind::TypeTooShort));
 }
 
 /// Whether all types have a text, and no layout fails.
@@ -348,7 +361,7 @@ fn whole_and_not() {
     let found = validate(b"MZ").unwrap();
     assert_eq!(found.len(), 1);
     assert_eq!((found[0].part, found[0].stream, found[0].index), (Part::Header, None, None));
-    assert_eq!(found[0].problem, Problem::Error(Error::UnrecognizedFileFormat));
+    assert_eq!(found[0].problem, Problem::Error(ErrorKind::UnrecognizedFileFormat));
     // The header, two items, and the length of the third, which becomes too short for its kind.
     let front = Pdb::parse(&file).unwrap().stream_prefix(2, 110).unwrap();
     let mut shorter = front.clone();
@@ -357,7 +370,7 @@ fn whole_and_not() {
     assert_eq!(found.len(), 2);
     assert_eq!((found[0].part, found[0].stream, found[0].index), (Part::Types, Some(2), Some(0x1002)));
     assert_eq!(found[0].byte, Some(108));
-    assert_eq!(found[0].problem, Problem::Error(Error::TypeTooShort));
+    assert_eq!(found[0].problem, Problem::Error(ErrorKind::TypeTooShort));
     assert!(!found[0].is_warning && found[0].file_byte.is_some());
     // The place that is stored for a later item is not found any more.
     assert!(matches!(found[1].problem, Problem::Inconsistent(Inconsistency::IndexOffset, _)));
@@ -366,12 +379,12 @@ fn whole_and_not() {
 #[test]
 fn no_program_database() {
     for file in [&b""[..], &[b'M'; 8192]] {
-        assert_eq!(Pdb::parse(file).unwrap_err(), Error::UnrecognizedFileFormat);
+        assert_eq!(Pdb::parse(file).unwrap_err().kind, ErrorKind::UnrecognizedFileFormat);
     }
     fn is_error<E: std::error::Error + Send + Sync + 'static>(error: E) -> Box<dyn std::error::Error + Send + Sync> {
         error.into()
     }
-    assert!(!is_error(Error::OutOfMemory).to_string().is_empty());
+    assert!(!is_error(Error::from(ErrorKind::OutOfMemory)).to_string().is_empty());
 }
 
 #[test]
@@ -385,4 +398,71 @@ fn another_thread() {
     .join()
     .unwrap();
     assert_eq!((types.iter().count(), elsewhere), (count, count));
+}
+
+#[test]
+fn look_ups_by_name_of_a_damaged_table() {
+    let whole = sample();
+    let derived = {
+        let pdb = Pdb::parse(&whole).unwrap();
+        let types = pdb.types().unwrap();
+        types.find("Derived").unwrap().unwrap().record.to_vec()
+    };
+    let at = whole.windows(derived.len()).position(|it| it == derived).unwrap() - 2;
+    let mut damaged = whole.clone();
+    damaged[at..at + 2].copy_from_slice(&[1, 0]);
+    let pdb = Pdb::parse(&damaged).unwrap();
+    let types = pdb.types().unwrap();
+    // The walk stops before it: what was not met is no missing type.
+    assert!(types.find("Derived").is_err());
+    assert!(types.layout("Derived").is_err());
+}
+
+#[test]
+fn what_is_printed_for_a_debugger_is_short() {
+    let bytes = sample();
+    let pdb = Pdb::parse(&bytes).unwrap();
+    let (types, ids, names) = (pdb.types().unwrap(), pdb.ids().unwrap(), pdb.names().unwrap());
+    for text in [format!("{pdb:?}"), format!("{types:?}"), format!("{ids:?}"), format!("{names:?}")] {
+        assert!(text.len() < 100, "{text}");
+    }
+}
+
+#[test]
+fn names_are_bytes_and_text() {
+    use pdb_container::{Name, NameIter};
+    // With a glob import, this is still the standard library's.
+    #[allow(unused_imports)]
+    use pdb_container::*;
+    fn first(mut names: NameIter<'_>) -> Result<Name<'_>, Box<dyn std::error::Error>> {
+        Ok(names.next().ok_or("no name")??.1)
+    }
+    let bytes = sample();
+    let names = Pdb::parse(&bytes).unwrap().names().unwrap();
+    let name = first(names.iter()).unwrap();
+    assert_eq!(name.as_ref(), name.as_bytes());
+    assert_eq!(name, *name.as_bytes());
+}
+
+#[test]
+fn maps_that_threads_share() {
+    fn shared<T: Send + Sync>(it: T) -> T {
+        it
+    }
+    let file = sample();
+    let pdb = Pdb::parse(&file).unwrap();
+    let names: Names = shared(pdb.names().unwrap());
+    let (map, omap): (AddressMap, Omap) =
+        (shared(pdb.address_map().unwrap()), shared(pdb.omap_from_src().unwrap().unwrap()));
+    let frames: Frames = shared(pdb.frames().unwrap());
+    let read = || {
+        let moved: Vec<_> =
+            (0x1000..0x1190).map(|it| (map.translate(Address::InternalRva(it)), omap.lookup(it))).collect();
+        (moved, names.iter().map(Result::unwrap).collect::<Vec<_>>(), frames.list().unwrap())
+    };
+    let wanted = read();
+    std::thread::scope(|scope| {
+        let threads: Vec<_> = (0..8).map(|_| scope.spawn(|| (0..50).all(|_| read() == wanted))).collect();
+        assert!(threads.into_iter().all(|it| it.join().unwrap()));
+    });
 }

@@ -1,4 +1,4 @@
-"""Asks the program pdbq about files, within limits of time and memory."""
+"""Asks the program pdbq about files, within limits of time, memory and stack."""
 
 import contextlib
 import os
@@ -13,6 +13,7 @@ from pdbtest.report import Trouble
 SECONDS = 2  # of a processor's time for one run, and ten times as many by the clock
 MEMORY = 64 << 20  # bytes of addresses that a run may have, and so many times the file's size
 MULTIPLE = 6
+STACK = 128 << 10  # bytes of stack that a run may take
 
 INVALID_HEADER = "The type information header was invalid: "
 NOT_BELOW = "Unimplemented PDB feature: field list continuation not below its list"
@@ -99,16 +100,20 @@ class Asker:
             os.ftruncate(output, 0)
             os.lseek(output, 0, os.SEEK_SET)
         channels = [(os.POSIX_SPAWN_DUP2, fd, n) for n, fd in enumerate((given, self.out, self.err))]
-        # The program inherits the limit, which this process has as well until it has started it.
-        soft, hard = resource.getrlimit(resource.RLIMIT_AS)
-        most = MEMORY + MULTIPLE * len(self.data) if self.is_limited else soft
-        resource.setrlimit(resource.RLIMIT_AS, (most, hard))
+        # The program inherits the limits, which this process has as well until it has started it.
+        limits = {resource.RLIMIT_STACK: STACK}
+        if self.is_limited:
+            limits[resource.RLIMIT_AS] = MEMORY + MULTIPLE * len(self.data)
+        before = {which: resource.getrlimit(which) for which in limits}
+        for which, most in limits.items():
+            resource.setrlimit(which, (most, before[which][1]))
         try:
             return os.posix_spawn(program, [program, *map(str, words)], {}, file_actions=channels)
         except OSError as error:
             raise Trouble(f"{program} does not run: {error}") from error
         finally:
-            resource.setrlimit(resource.RLIMIT_AS, (soft, hard))
+            for which, limit in before.items():
+                resource.setrlimit(which, limit)
 
     def run(self, program, words, is_piped=False):
         """Runs a program, with the file on its standard input or with a pipe there. Returns what it gives, and its

@@ -6,7 +6,7 @@ import random
 
 from pdbtest import llvm
 from pdbtest.addresses import OMAP, moved_lines
-from pdbtest.calls import call, objects_of
+from pdbtest.calls import call, check_call, objects_of, refused
 from pdbtest.msf import TYPES, Msf
 from pdbtest.roles import HEADER_ROLES, ROLES
 from pdbtest.tables import Leaf
@@ -119,10 +119,12 @@ def listed_by_llvm(file):
     }
 
 
-def listed_by(tally, dumper, file):
-    """The same as pdbdump shows it."""
-    commands = ("summary", "sections", "names", "types", "ids")
-    rows = {command: objects_of(tally, dumper, [command, "--json", file]) for command in commands}
+def listed_by(tally, dumper, file, has_names):
+    """The same as pdbdump shows it. Of a file without a stream /names it says so."""
+    commands = ("summary", "sections", "types", "ids") + (("names",) if has_names else ())
+    rows = {"names": []} | {command: objects_of(tally, dumper, [command, "--json", file]) for command in commands}
+    if not has_names:
+        check_call(tally, dumper, ["names", file], refused("StreamNameNotFound"))
     streams = [row for row in rows["summary"] if "stream" in row]
     kinds = [row for row in rows["summary"] if row.get("table") == TYPES and "kind" in row]
     roles = ROLES | HEADER_ROLES
@@ -141,7 +143,7 @@ def check_dump(tally, dumpers, file):
     """That pdbdump lists what LLVM lists."""
     wanted = listed_by_llvm(file)
     for dumper in dumpers:
-        came = listed_by(tally, dumper, file)
+        came = listed_by(tally, dumper, file, "/names" in wanted["named"].values())
         for what, rows in wanted.items():
             pairs = itertools.zip_longest(came[what], rows) if isinstance(rows, list) else [(came[what], rows)]
             first = next((pair for pair in pairs if pair[0] != pair[1]), None)

@@ -38,9 +38,17 @@ def export(room, file, number):
     return to.read_bytes()
 
 
-def dump(file, part):
-    """What is told of a part of a file."""
-    return run_tool(["llvm-pdbutil", "dump", f"-{part}", str(file)])
+def all_bytes(file, numbers, tool="llvm-pdbutil"):
+    """The bytes of several streams, as they are listed in one run."""
+    text = run_tool([tool, "bytes", *(f"-stream-data={number}" for number in numbers), str(file)])
+    _, *streams = re.split(r"^  Stream \d+: .* \(dumping [\d,]+ / [\d,]+ bytes\)$", text, flags=re.MULTILINE)
+    lines = (re.findall(r"^ +[0-9A-F]+: ([0-9A-F ]+) +\|", stream, re.MULTILINE) for stream in streams)
+    return [bytes.fromhex("".join(words)) for words in lines]
+
+
+def dump(file, *parts, tool="llvm-pdbutil"):
+    """What is told of parts of a file."""
+    return run_tool([tool, "dump", *(f"-{part}" for part in parts), str(file)])
 
 
 def told_records(text):
@@ -94,8 +102,9 @@ def classes(file):
 
 def names(file):
     """The place of each name of the string table, and the name."""
-    found = re.findall(r"^ *(\d+) \| '(.*)'$", dump(file, "string-table"), re.MULTILINE)
-    if not found:
+    text = dump(file, "string-table")
+    found = re.findall(r"^ *(\d+) \| '(.*)'$", text, re.MULTILINE)
+    if not found and "ID | String" not in text and "Not present in file" not in text:
         raise unknown_form("llvm-pdbutil", "names", file)
     return [(int(place), name) for place, name in found]
 
@@ -122,7 +131,9 @@ def sections(file):
     """What is told of each section header: a name, and five numbers."""
     text, _, _ = dump(file, "section-headers").partition("Original Section Headers")
     parts = "name|virtual size|virtual address|size of raw data|file pointer to raw data|flags"
-    found = re.findall(rf"^ *(\S+) (?:{parts})$", text, re.MULTILINE)
+    found = re.findall(rf"^ *(\S*) ?\b(?:{parts})$", text, re.MULTILINE)
+    if not found and "DBI stream not present" in text:
+        return []
     if not found or len(found) % 6:
         raise unknown_form("llvm-pdbutil", "sections", file)
     return [[name, *(int(number, 16) for number in numbers)] for name, *numbers in pieces(found, 6)]
@@ -145,6 +156,23 @@ def debug_header(file):
     text = run_tool(["llvm-pdbutil", "pdb2yaml", "--pdb-stream", "--dbi-stream", str(file)])
     debug = text[text.index("DbiStream:") :]
     return int(re.search(r"Age: +(\d+)", debug)[1]), re.search(r"MachineType: +(\w+)", debug)[1]
+
+
+def maker(file):
+    """Who linked a file, by the linker's own module; or which version of Microsoft's library wrote it, by the header of
+    stream 3; or that it has no such header, as what a compiler writes beside its objects."""
+    text = dump(file, "symbols")
+    by_clang = ", compiled by Clang" if re.search("Ver = [^,]*version", text) else ""
+    own = text.partition("`* Linker *`")[2]
+    linker = re.search(r"Ver = (.*?) *, language = link\s+frontend = [\d.]+, backend = ([\d.]+)", own)
+    if linker:
+        return " ".join(linker.groups()) + by_clang
+    text = run_tool(["llvm-pdbutil", "pdb2yaml", "--dbi-stream", str(file)])
+    numbers = [int(found) for found in re.findall(r"(?:BuildNumber|PdbDllVersion|PdbDllRbld): +(\d+)", text)]
+    if not numbers:
+        return "a compiler's type server"
+    version, *build = numbers
+    return f"mspdb {version >> 8 & 0x7F}.{version & 0xFF}." + ".".join(map(str, build))
 
 
 def debug_directory(image):

@@ -1,13 +1,16 @@
-"""How much memory a program takes."""
+"""How much memory a program takes, with a limit to its stack."""
 
 import os
 import subprocess
 import sys
 
+STACK = 1 << 20  # bytes of stack that a program may take
+
 # A process of its own, since the memory of the one that starts a program counts as the program's.
-MEASURE = """
-import os, sys
-child = os.posix_spawn(sys.argv[1], sys.argv[1:], {})
+MEASURE = f"""
+import os, resource, sys
+resource.setrlimit(resource.RLIMIT_STACK, ({STACK}, {STACK}))
+child = os.posix_spawn(sys.argv[1], sys.argv[1:], {{}})
 _, status, used = os.wait4(child, 0)
 print(used.ru_maxrss * 1024, file=sys.stderr)
 sys.exit(os.waitstatus_to_exitcode(status))

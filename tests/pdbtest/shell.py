@@ -4,6 +4,7 @@ import os
 import shutil
 import subprocess
 import time
+from pathlib import Path
 
 from pdbtest.programs import ROOT
 
@@ -48,3 +49,18 @@ def copy_repository(to):
             (to / name).parent.mkdir(parents=True, exist_ok=True)
             shutil.copy2(ROOT / name, to / name, follow_symlinks=False)
     return to
+
+
+def path_without_rt(room):
+    """The folders of the PATH; one that has rt is replaced by links to all else that it has."""
+    folders = []
+    for at, folder in enumerate(os.get_exec_path()):
+        if Path(folder, "rt").exists():
+            links = room / f"path-{at}"
+            links.mkdir()
+            for path in Path(folder).iterdir():
+                if path.name != "rt":
+                    (links / path.name).symlink_to(path)
+            folder = str(links)
+        folders.append(folder)
+    return ":".join(folders)

@@ -11,6 +11,9 @@ from pdbtest.report import Trouble
 
 SECONDS = 120  # for one run of a tool
 LINKER = "x86_64-w64-mingw32-ld"  # GNU ld for Windows
+NEWER = "llvm-pdbutil-19"
+WINE = "/usr/lib/wine"  # where Debian has what /usr/bin lacks of it
+CROSS = "/usr/aarch64-linux-gnu/lib/libc.so"  # the C library that programs for ARM are linked with
 
 # those that only bench/run needs, and all
 BENCH_PACKAGES = {"llvm-config": "llvm-dev"}
@@ -19,6 +22,7 @@ PACKAGES = {
     "clang": "clang",
     "lld-link": "lld",
     "llvm-pdbutil": "llvm",
+    NEWER: "llvm-19",
     "llvm-readobj": "llvm",
     LINKER: "binutils-mingw-w64-x86-64",
     "cc": "gcc",
@@ -27,19 +31,29 @@ PACKAGES = {
     "pkg-config": "pkg-config",
     "valgrind": "valgrind",
     "cargo": "cargo",
+    "mypy": "mypy",
+    "wine64": "wine64",
+    "x86_64-w64-mingw32-gcc": "gcc-mingw-w64-x86-64",
+    "qemu-aarch64": "qemu-user",
+    "aarch64-linux-gnu-gcc": "gcc-aarch64-linux-gnu",
+    CROSS: "libc6-dev-arm64-cross",
+    "node": "nodejs",
+    "wasm-ld": "lld",
     **BENCH_PACKAGES,
 }
 
 
 def path_of(name):
     """The path of a command, also where its name has a version, as in lld-link-14; None if there is none."""
+    if name.startswith("/"):
+        return name if Path(name).exists() else None
     versions = [
         (int(match[1]), path)
         for folder in os.get_exec_path()
         for path in Path(folder).glob(f"{name}-*")
         if (match := re.fullmatch(re.escape(name) + r"-(\d+)", path.name)) and os.access(path, os.X_OK)
     ]
-    return shutil.which(name) or (str(max(versions)[1]) if versions else None)
+    return shutil.which(name) or shutil.which(name, path=WINE) or (str(max(versions)[1]) if versions else None)
 
 
 def has_sanitizers():

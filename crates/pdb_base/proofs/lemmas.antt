@@ -11,5 +11,6 @@ pub mod Padding
 pub mod Reading
 pub mod Records
 pub mod Refused
+pub mod Rules
 pub mod Shifts
 pub mod Spelling

@@ -15,3 +15,8 @@ OrdersBy {A} number compared = (a b : A) → MatchOrdering (compared a b) (numbe
 -- The default value is this value and no other.
 abbrev pub DefaultsTo : {A : Type 0} → (A → Type 0) → A → Type 0
 DefaultsTo {A} is_default meant = (value : A) → is_default value → value ≡ meant
+
+-- `clone` never fails, and returns the value that it is given.
+abbrev pub Copies : {A : Type 0} → (A → A → Type 0) → (A → Type 0) → Type 0
+Copies {A} is_clone is_infallible =
+    (original : A) → is_infallible original × ((copy : A) → is_clone original copy → copy ≡ original)

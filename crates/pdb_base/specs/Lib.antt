@@ -3,6 +3,7 @@ pub mod BitLaws
 pub mod Refusal
 pub mod ErrorText
 pub mod Answer
+pub mod Rules
 pub mod Memory
 pub mod Place
 pub mod BufferText

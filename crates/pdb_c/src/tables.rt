@@ -46,7 +46,7 @@ pub extern "C" fn pdb_types_first_index(
     ensures kept { table.new.held.content ≡ table.old.held.content }
     ensures status { result ≡ fault.new.status }
 {
-    ask!(table, alloc, fault, Table(open) => tell_value(open.items().header().minimum_index, index))
+    ask!(table, alloc, fault, Table(open) => tell_value(open.table().items().header().minimum_index, index))
 }
 
 /// Writes the number of indexes that the header of a table counts. The walk may give fewer items,

@@ -12,7 +12,7 @@ use Rattle.pdb_container.specs.ErrorText.{io_error_front, text_of}
 use Rattle.pdb_base.specs.Text.{lossy}
 use Rattle.pdb_container.specs.Answer.{Answer}
 use Rattle.pdb_container.specs.Reply.{ReplyValue, bytes, item_record, fields, name, moved, AreMoved, answer_of}
-use Rattle.pdb_vectors.specs.Example.{s1_bytes}
+use Rattle.pdb_fixtures.specs.Example.{s1_bytes}
 use Rattle.pdb_cli.specs.declared.outcome.Outcome.{Outcome}
 use Rattle.pdb_cli.specs.Lines.{line, hex_lines, record_line, name_lines, range_lines, reply_lines}
 use Rattle.pdb_cli.specs.Words.{query_of}

@@ -10,7 +10,7 @@ use crate::lines::reply_lines;
 use crate::refusal::error_line;
 use crate::words;
 use pdb_container::{Error, Query, Reply, Result, run};
-use pdb_vectors::s1;
+use pdb_fixtures::s1;
 use std::alloc::Global;
 
 /// What the program writes, and the status that it ends with.

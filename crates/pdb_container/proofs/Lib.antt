@@ -1,2 +1,3 @@
 pub mod lemmas
 pub mod RunLemmas
+pub mod ReplyLaws

@@ -1,6 +1,7 @@
 pub mod Reply
 pub mod ReadStreams
 pub mod OpenTables
+pub mod Replies
 -- the definitions that the contracts of what this crate re-exports cite
 pub use Rattle.pdb_base.specs.Bits
 pub use Rattle.pdb_base.specs.Refusal

@@ -2,6 +2,7 @@
 //! records, names, addresses and their translation, frames, and the roles of streams.
 #![tactic(auto)]
 
+pub mod laws;
 mod open_tables;
 mod queries;
 mod query;

@@ -1,31 +1,36 @@
 //! The tables that a run keeps open, and replies from them.
 
-ghost use Rattle.std.specs.Prelude.{List, ℕ};
+ghost use Rattle.std.specs.Prelude.{List, ℕ, ◌≡◌, ◌+◌, ◌*◌, ◌≤◌, IsTrue};
 ghost use Rattle.pdb_base.specs.Answer.{Answer, Answers};
-ghost use Rattle.pdb_container.specs.OpenTables.{AreOf, IsOf, OpensTable, items_in};
+ghost use Rattle.pdb_base.specs.Count.{calls_of};
+ghost use Rattle.pdb_container.specs.OpenTables.{AreOf, IsOf, OpensTable, items_in, most_look_ups, unlearned};
 ghost use Rattle.pdb_container.specs.Reply.{IsReply, RepliesUnless, reply_by};
 ghost use Rattle.pdb_space.specs.{Omap.omap_table_of, StringTable.names_of};
 
 use crate::query::{Query, Reply};
 use crate::read_streams::ReadStreams;
 use crate::replies::{fields_reply, id_reply, name_reply, ranges_reply, type_reply};
-use pdb_base::{IdIndex, ItemIndex, Result, Stream, TypeIndex};
+use pdb_base::{Count, IdIndex, ItemIndex, Result, Stream, TypeIndex};
 use pdb_space::{OMAPTable, StringTable};
 use pdb_tpi::{ItemInformation, OpenTable};
 use std::alloc::Global;
 
 /// A table that a stream holds.
 pub trait Table: Sized + Drop {
-    // The table in the bytes of a stream.
+    // The table in the bytes of a stream, and a table as it was before look-ups learned of it.
     ghost table_in: { List ℕ → Answer Self };
+
+    ghost before: { Self → Self };
 
     /// Parses the table in a stream.
     fn parse_in(alloc: Global, stream: Stream) -> Result<Self>
-        ensures { Answers (λ table. table) result (table_in stream) };
+        ensures { Answers before result (table_in stream) };
 }
 
 impl<I: ItemIndex> Table for OpenTable<I> {
     ghost table_in = { items_in };
+
+    ghost before = { unlearned };
 
     #[tactic(auto, unfolding(crate::specs::OpenTables::items_in))]
     fn parse_in(alloc: Global, stream: Stream) -> Result<Self> {
@@ -36,6 +41,8 @@ impl<I: ItemIndex> Table for OpenTable<I> {
 impl Table for StringTable {
     ghost table_in = { names_of };
 
+    ghost before = { λ table. table };
+
     fn parse_in(_alloc: Global, stream: Stream) -> Result<Self> {
         StringTable::parse(stream)
     }
@@ -43,6 +50,8 @@ impl Table for StringTable {
 
 impl Table for OMAPTable {
     ghost table_in = { omap_table_of };
+
+    ghost before = { λ table. table };
 
     fn parse_in(_alloc: Global, stream: Stream) -> Result<Self> {
         OMAPTable::parse(stream)
@@ -65,7 +74,7 @@ fn read_table<T: Table, F: ReadStreams>(
     number: u32,
 ) -> Result<Numbered<T>>
     requires { F.can_read file.old }
-    ensures table { OpensTable (F.failed file.old file.new) T.table_in (F.stream file.old) number result }
+    ensures table { OpensTable (F.failed file.old file.new) T.before T.table_in (F.stream file.old) number result }
     ensures kept { F.kept file.old file.new }
 {
     let stream = file.read(alloc, number, None)?;
@@ -83,8 +92,8 @@ fn table_of_stream<T: Table, F: ReadStreams>(
     last: Option<Numbered<T>>,
 ) -> Result<Numbered<T>>
     requires can_read { F.can_read file.old }
-    requires of { IsOf T.table_in (F.stream file.old) last }
-    ensures table { OpensTable (F.failed file.old file.new) T.table_in (F.stream file.old) number result }
+    requires of { IsOf T.before T.table_in (F.stream file.old) last }
+    ensures table { OpensTable (F.failed file.old file.new) T.before T.table_in (F.stream file.old) number result }
     ensures kept { F.kept file.old file.new }
 {
     if let Some(last) = last {
@@ -95,18 +104,22 @@ fn table_of_stream<T: Table, F: ReadStreams>(
     read_table(alloc, file, number)
 }
 
-/// The last table of each kind that was opened.
+/// The last table of each kind that was opened, and a count of the record lengths that look-ups in
+/// them read.
 #[derive(Default, Drop)]
 pub struct OpenTables {
     types: Option<Numbered<OpenTable<TypeIndex>>>,
     ids: Option<Numbered<OpenTable<IdIndex>>>,
     names: Option<Numbered<StringTable>>,
     omap: Option<Numbered<OMAPTable>>,
+    reads: Count,
 }
 
 impl OpenTables {
-    /// Answers a query from the table that it is about, which is opened if it is not open yet. The
-    /// last query learns no places of items, so that it takes no memory beyond the file.
+    /// Answers a query from the table that it is about, which is opened if it is not open yet. A look-up
+    /// reads eight record lengths at most. The last query of a file that it consumes learns no places
+    /// of items, so that it takes no memory beyond the file, and its look-up of a type or an id walks
+    /// from the first record.
     #[tactic(auto, unfolding(crate::specs::Reply::type_within, crate::specs::Reply::id_within, crate::specs::Reply::fields_within, crate::specs::Reply::name_within, crate::specs::Reply::moved_within, crate::specs::OpenTables::items_in))]
     fn attempt<F: ReadStreams>(
         &mut self,
@@ -118,6 +131,8 @@ impl OpenTables {
         requires of { AreOf (F.stream file.old) self.old }
         ensures reply { RepliesUnless (F.failed file.old file.new) result (reply_by (F.stream file.old) query) }
         ensures of { AreOf (F.stream file.old) self.new }
+        ensures few { IsTrue F.lasts → calls_of self.new.reads ≤
+            calls_of self.old.reads + 8 * most_look_ups (F.stream file.old) query }
         ensures kept { F.kept file.old file.new }
     {
         match query {
@@ -128,23 +143,23 @@ impl OpenTables {
             Query::TypeRecord { stream, index } => {
                 let types = table_of_stream(alloc, file, stream, self.types.take())?;
                 let types = self.types.insert(types);
-                if F::STAYS_OPEN {
+                if F::is_lasting() {
                     types.table.learn(TypeIndex(index));
                 }
-                type_reply(alloc, &types.table, index)
+                type_reply(alloc, &types.table, index, &mut self.reads)
             }
             Query::Fields { stream, index } => {
                 let types = table_of_stream(alloc, file, stream, self.types.take())?;
                 let types = self.types.insert(types);
-                fields_reply(alloc, &mut types.table, index)
+                fields_reply(alloc, &mut types.table, index, &mut self.reads)
             }
             Query::IdRecord { stream, index } => {
                 let ids = table_of_stream(alloc, file, stream, self.ids.take())?;
                 let ids = self.ids.insert(ids);
-                if F::STAYS_OPEN {
+                if F::is_lasting() {
                     ids.table.learn(IdIndex(index));
                 }
-                id_reply(alloc, &ids.table, index)
+                id_reply(alloc, &ids.table, index, &mut self.reads)
             }
             Query::Name { stream, offset } => {
                 let names = table_of_stream(alloc, file, stream, self.names.take())?;
@@ -165,6 +180,8 @@ impl OpenTables {
         requires of { AreOf (F.stream file.old) self.old }
         ensures reply { IsReply (F.failed file.old file.new) result (reply_by (F.stream file.old) query) }
         ensures of { AreOf (F.stream file.old) self.new }
+        ensures few { IsTrue F.lasts → calls_of self.new.reads ≤
+            calls_of self.old.reads + 8 * most_look_ups (F.stream file.old) query }
         ensures kept { F.kept file.old file.new }
     {
         match self.attempt(alloc, file, query) {

@@ -1,6 +1,6 @@
 //! Two ways to read a stream: from a file that stays open, and from one that the read consumes.
 
-ghost use Rattle.std.specs.Prelude.{ℕ, List, Option, Some, None, IsSome};
+ghost use Rattle.std.specs.Prelude.{◌≡◌, ℕ, Bool, true, false, List, Option, Some, None, IsSome};
 ghost use Rattle.pdb_base.specs.Answer.{Answer, AnswersUnless};
 ghost use Rattle.pdb_msf.specs.{File.stream_of, Source.HasFailed};
 ghost use Rattle.pdb_container.specs.ReadStreams.{StaysOpen, WasSound, stays_open, stream_once};
@@ -11,12 +11,11 @@ use std::alloc::Global;
 
 /// A file whose streams are read.
 pub trait ReadStreams {
-    /// Whether another stream can be read after the next one.
-    const STAYS_OPEN: bool;
+    // Whether another stream can be read after the next one; the stream of a number, cut to a limit;
+    // whether one can still be read; whether the source failed between two states; and what stays
+    // true from one to the next, also where nothing is read.
+    ghost lasts: { Bool };
 
-    // The stream of a number, cut to a limit; whether one can still be read; whether the source
-    // failed between two states; and what stays true from one to the next, also where nothing is
-    // read.
     ghost stream: { Self → ℕ → Option ℕ → Answer (List ℕ) };
 
     ghost can_read: { Self → Type 0 };
@@ -24,6 +23,10 @@ pub trait ReadStreams {
     ghost failed: { Self → Self → Type 0 };
 
     ghost kept: { Self → Self → Type 0 };
+
+    /// Returns whether another stream can be read after the next one.
+    fn is_lasting() -> bool
+        ensures { result ≡ lasts };
 
     /// Returns the bytes of a stream, at most as many as the limit.
     fn read(&mut self, alloc: Global, number: u32, limit: Option<usize>) -> Result<Stream>
@@ -36,7 +39,7 @@ pub trait ReadStreams {
 }
 
 impl<S: Source> ReadStreams for BigMSF<S> {
-    const STAYS_OPEN: bool = true;
+    ghost lasts = { true };
 
     ghost stream = { λ file. stream_of (S.state file.source).bytes file.head };
 
@@ -48,6 +51,10 @@ impl<S: Source> ReadStreams for BigMSF<S> {
 
     ghost stays = { λ file. stays_open S.state file };
 
+    fn is_lasting() -> bool {
+        true
+    }
+
     fn read(&mut self, alloc: Global, number: u32, limit: Option<usize>) -> Result<Stream> {
         self.get(alloc, number, limit)
     }
@@ -55,7 +62,7 @@ impl<S: Source> ReadStreams for BigMSF<S> {
 
 /// A file that the next read consumes.
 impl<S: Source + Drop> ReadStreams for Option<BigMSF<S>> {
-    const STAYS_OPEN: bool = false;
+    ghost lasts = { false };
 
     ghost stream = { λ file. stream_once S.state file };
 
@@ -66,6 +73,10 @@ impl<S: Source + Drop> ReadStreams for Option<BigMSF<S>> {
     ghost kept = { λ old new. Unit {0} };
 
     ghost stays = { λ _. tt };
+
+    fn is_lasting() -> bool {
+        false
+    }
 
     fn read(&mut self, alloc: Global, number: u32, limit: Option<usize>) -> Result<Stream> {
         match self.take() {

@@ -1,12 +1,17 @@
 //! Replies from tables that are open.
 
-ghost use Rattle.std.specs.Prelude.{◌≡◌, map, IfOk, Ok};
+ghost use Rattle.std.specs.Prelude.{◌≡◌, ◌≢◌, ◌+◌, ◌*◌, ◌≤◌, length, map, Err, IfOk, Ok};
+ghost use Rattle.std.specs.List.{sum_by};
+ghost use Rattle.pdb_base.specs.declared.error.Error.TheVariants.{OutOfMemory};
 ghost use Rattle.std.specs.Option.{option_map};
+ghost use Rattle.pdb_base.specs.Count.{after_calls, calls_of};
+ghost use Rattle.pdb_tpi.specs.Finder.{IsLearned, item_of, known_up_to, reads_from};
+ghost use Rattle.pdb_tpi.specs.LookedUp.{lists_looked_up};
 ghost use Rattle.pdb_values.specs.{Text.text_bytes, TypeValue.name_of_type, TypeView.type_value};
 ghost use Rattle.pdb_container.specs.Reply.{Replies, fields_in, id_in, moved, name_in, type_in};
 
 use crate::query::Reply;
-use pdb_base::{IdIndex, RawString, Result, TypeIndex};
+use pdb_base::{Count, IdIndex, RawString, Result, TypeIndex};
 use pdb_space::{OMAPTable, StringRef, StringTable};
 use pdb_tpi::OpenTable;
 use pdb_values::TypeData;
@@ -27,13 +32,22 @@ fn owned_name(
     }
 }
 
-/// Replies with the type of an index: its kind, and its name if it has one.
+/// Replies with the type of an index: its kind, and its name if it has one. The look-up reads eight
+/// record lengths at most, if nothing is left to learn for it.
 #[inline(never)]
 #[tactic(auto, unfolding(crate::specs::Reply::type_in))]
-pub fn type_reply(alloc: Global, types: &OpenTable<TypeIndex>, index: u32) -> Result<Reply>
-    ensures { Replies result (type_in index types.now.table) }
+pub fn type_reply(
+    alloc: Global,
+    types: &OpenTable<TypeIndex>,
+    index: u32,
+    count: &mut Count,
+) -> Result<Reply>
+    ensures reply { Replies result (type_in index types.now.table) }
+    ensures counted { calls_of count.new ≡
+        after_calls (reads_from types.now.table types.now.known index) (calls_of count.old) }
+    ensures few { IsLearned types.now.table types.now.known index → calls_of count.new ≤ calls_of count.old + 8 }
 {
-    let item = types.item(TypeIndex(index))?;
+    let item = types.item_counted(TypeIndex(index), count)?;
     let value = item.parse(alloc)?;
     Ok(Reply::Record {
         index,
@@ -42,13 +56,22 @@ pub fn type_reply(alloc: Global, types: &OpenTable<TypeIndex>, index: u32) -> Re
     })
 }
 
-/// Replies with the id of an index: its kind, and its name if it has one.
+/// Replies with the id of an index: its kind, and its name if it has one. The look-up reads eight
+/// record lengths at most, if nothing is left to learn for it.
 #[inline(never)]
 #[tactic(auto, unfolding(crate::specs::Reply::id_in))]
-pub fn id_reply(alloc: Global, ids: &OpenTable<IdIndex>, index: u32) -> Result<Reply>
-    ensures { Replies result (id_in index ids.now.table) }
+pub fn id_reply(
+    alloc: Global,
+    ids: &OpenTable<IdIndex>,
+    index: u32,
+    count: &mut Count,
+) -> Result<Reply>
+    ensures reply { Replies result (id_in index ids.now.table) }
+    ensures counted { calls_of count.new ≡
+        after_calls (reads_from ids.now.table ids.now.known index) (calls_of count.old) }
+    ensures few { IsLearned ids.now.table ids.now.known index → calls_of count.new ≤ calls_of count.old + 8 }
 {
-    let item = ids.item(IdIndex(index))?;
+    let item = ids.item_counted(IdIndex(index), count)?;
     let value = item.parse(alloc)?;
     Ok(Reply::Record {
         index,
@@ -73,15 +96,26 @@ fn names_of(
     Ok(names)
 }
 
-/// Replies with the names of the fields of a list and of the lists that continue it.
+/// Replies with the names of the fields of a list and of the lists that continue it. The look-up of
+/// each list reads eight record lengths at most.
 #[inline(never)]
 #[tactic(auto, unfolding(crate::specs::Reply::fields_in))]
-pub fn fields_reply(alloc: Global, types: &mut OpenTable<TypeIndex>, index: u32) -> Result<Reply>
+pub fn fields_reply(
+    alloc: Global,
+    types: &mut OpenTable<TypeIndex>,
+    index: u32,
+    count: &mut Count,
+) -> Result<Reply>
     ensures reply { Replies result (fields_in index types.old.table) }
-    ensures kept { types.new ≡ types.old }
+    ensures counted { let reads = reads_from types.old.table (known_up_to types.old.table types.old.known index) in
+        result ≢ Err OutOfMemory → calls_of count.new ≡
+        after_calls (sum_by reads (lists_looked_up (item_of types.old.table) index)) (calls_of count.old) }
+    ensures few { calls_of count.new ≤
+        calls_of count.old + 8 * length (lists_looked_up (item_of types.old.table) index) }
+    ensures kept { types.new.table ≡ types.old.table }
 {
     types.learn(TypeIndex(index));
-    let fields = types.fields(alloc, TypeIndex(index))?;
+    let fields = types.fields_counted(alloc, TypeIndex(index), count)?;
     Ok(Reply::Fields(names_of(alloc, &fields)?))
 }
 

@@ -6,3 +6,4 @@ pub mod RoleLaws
 pub mod NamedLaws
 pub mod FeatureLemmas
 pub mod FeatureLaws
+pub mod FaultLaws

@@ -7,5 +7,6 @@ pub mod Features
 pub mod SectionHeaders
 pub mod File
 pub mod Laws
+pub mod Faults
 -- definitions of lower libraries that the contracts of this one use
 pub use Rattle.pdb_base.specs.Endian

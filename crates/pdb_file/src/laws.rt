@@ -3,7 +3,12 @@
 
 ghost use Rattle.std.specs.Prelude.{ℕ, List};
 ghost use Rattle.pdb_file.specs.declared.information.PDBInformation.{PDBInformation};
-ghost use Rattle.pdb_file.specs.Laws.{FindsHeader, FindsDebugHeader, FindsFeatures, FindsNamed, FindsRoles};
+ghost use Rattle.pdb_base.specs.Rules.{FollowsRules};
+ghost use Rattle.pdb_file.specs.Faults.{map_within, named_rules, IsNamedStream, named_stream_rules};
+ghost use Rattle.pdb_file.specs.File.{file_named_stream};
+ghost use Rattle.pdb_msf.specs.Header.{Head};
+ghost use Rattle.pdb_file.specs.Laws.{AreNamed, FindsHeader, FindsDebugHeader, FindsFeatures, FindsNamed, FindsRoles};
+ghost use Rattle.pdb_file.specs.StreamNames.{stream_names_of};
 
 pub mod derived;
 
@@ -33,6 +38,18 @@ pub fn roles()
 /// name has no NUL after it among the names.
 pub fn stream_names()
     ensures { (information : PDBInformation) → FindsNamed information }
+{}
+
+/// The named streams have the error of the first rule of their list that stream 1 breaks: the table is
+/// whole, and each entry in turn has a name that ends. They are there if stream 1 breaks none.
+/// A stream that is asked for by its name has the error of the first of its rules that the file breaks.
+#[tactic(auto, using(crate::proofs::FaultLaws::named_follow, crate::proofs::FaultLaws::named_stream_follows))]
+pub fn named_stream_faults()
+    ensures names { (information : PDBInformation) →
+        FollowsRules (named_rules information) (AreNamed (map_within information)) (stream_names_of information) }
+    ensures stream { (file : List ℕ) (head : Head) (name : List ℕ) →
+        FollowsRules (named_stream_rules file head name) (IsNamedStream file head name)
+        (file_named_stream file head name) }
 {}
 
 /// The features are those that the `u32` numbers after the table of stream 1 tell: each whose number

@@ -1,5 +1,5 @@
-//! What the definitions that contracts cite say in other words. The functions do nothing: each
-//! contract is a law.
+//! What the definitions that contracts cite say in other words. The functions do nothing, but that
+//! one casts a kind to its number: each contract is a law.
 
 ghost use Rattle.std.specs.Prelude.{◌≡◌, ℕ, List, Option, Result};
 ghost use Rattle.pdb_base.specs.declared.error.Error.{Error};
@@ -7,6 +7,7 @@ ghost use Rattle.pdb_frames.specs.declared.frame_data.FrameData.{FrameData};
 ghost use Rattle.pdb_frames.specs.declared.old_frame_data.OldFrameData.{OldFrameData};
 ghost use Rattle.pdb_frames.specs.declared.new_frame_data.NewFrameData.{NewFrameData};
 ghost use Rattle.pdb_frames.specs.Span.{Span};
+ghost use Rattle.pdb_frames.specs.FrameNumbers.{frame_type_number};
 ghost use Rattle.pdb_frames.specs.Merge.{by_heads};
 ghost use Rattle.pdb_frames.specs.Table.{Frames, IsFrameStep, StartsIncrease};
 ghost use Rattle.pdb_frames.specs.Laws.{CoversToItsEnd, IsSortedByStart, IsMerged, IsWoven, FramesEndForGood};
@@ -56,6 +57,13 @@ pub fn steps()
 pub fn kinds()
     ensures { ComparesByNumber ⟦<FrameType as PartialEq>⟧.eq ⟦<FrameType as Ord>⟧.cmp }
 {}
+
+/// The number of a kind is its discriminant.
+pub fn numbers(kind: FrameType) -> u8
+    ensures { result ≡ frame_type_number kind }
+{
+    kind as u8
+}
 
 /// A record of the older format has 16 bytes, and one of the newer format 32.
 pub fn sizes()

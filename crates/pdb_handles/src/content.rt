@@ -4,7 +4,7 @@ use pdb_base::TypeIndex;
 use pdb_frames::FrameTable;
 use pdb_msf::Layout;
 use pdb_space::{AddressMap, OMAPTable, StringTable};
-use pdb_tpi::OpenTable;
+use pdb_tpi::OpenWalk;
 use pdb_types::OpenDefinitions;
 
 /// What a handle holds.
@@ -22,7 +22,7 @@ pub enum Content {
     /// The header and the directory of a file.
     File(Layout),
     /// The items of a table of types or of ids.
-    Table(OpenTable<TypeIndex>),
+    Table(OpenWalk<TypeIndex>),
     /// The definitions of a table of types.
     Definitions(OpenDefinitions),
 }

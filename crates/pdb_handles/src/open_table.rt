@@ -14,7 +14,7 @@ use crate::fault::{END, FINE, Fault, NONE, TOO_SMALL};
 use crate::fields::{FieldRow, listing_found};
 use crate::found::tell_value;
 use pdb_base::{Result, Stream, TypeIndex};
-use pdb_tpi::{OpenTable, RecordPlace, TypeInformation};
+use pdb_tpi::{OpenTable, OpenWalk, RecordPlace, TypeInformation};
 use std::alloc::Global;
 
 /// Where the record of an index is in the stream of its table.
@@ -61,25 +61,25 @@ pub fn table_in(alloc: Global, stream: &[u8]) -> Result<Content>
     ensures { Answers (λ content. content) result (held_as Table (table_opened stream.now)) }
 {
     let items = TypeInformation::parse(Stream::new(stream.to_vec(alloc)?))?;
-    Ok(Content::Table(OpenTable::new(alloc, items)?))
+    Ok(Content::Table(OpenWalk::new(OpenTable::new(alloc, items)?)))
 }
 
 /// Returns the number of indexes that the header of a table counts.
-pub fn index_count(kept: &OpenTable<TypeIndex>) -> u32
+pub fn index_count(kept: &OpenWalk<TypeIndex>) -> u32
     ensures { result ≡ count_in_header kept.now.table }
 {
-    let header = kept.items().header();
+    let header = kept.table().items().header();
     header.maximum_index - header.minimum_index
 }
 
 /// Writes where the record of an index is in the stream.
-pub fn find_record(kept: &mut OpenTable<TypeIndex>, index: u32, place: &mut Located) -> Fault
+pub fn find_record(kept: &mut OpenWalk<TypeIndex>, index: u32, place: &mut Located) -> Fault
     ensures told { record { fault = result; value = place.new } ≡
         located_told place.old index (place_of_record kept.old.table index) }
     ensures kept { kept.new ≡ kept.old }
 {
     kept.learn(TypeIndex(index));
-    match kept.find(TypeIndex(index)) {
+    match kept.table().find(TypeIndex(index)) {
         Ok(Some(found)) => tell_value(Located::at(index, found), place),
         Ok(None) => Fault::status(NONE),
         Err(error) => Fault::of(&error),
@@ -89,7 +89,7 @@ pub fn find_record(kept: &mut OpenTable<TypeIndex>, index: u32, place: &mut Loca
 /// Writes what is found for each of some indexes to the start of the caller's array, and sets
 /// `length` to their number. If the array has no room for all of them, none is written.
 pub fn find_records(
-    kept: &mut OpenTable<TypeIndex>,
+    kept: &mut OpenWalk<TypeIndex>,
     indexes: &[u32],
     room: &mut [FoundRecord],
     length: &mut usize,
@@ -115,7 +115,7 @@ pub fn find_records(
 }
 
 /// Writes where the next record is, or the index at which the walk ends or fails.
-pub fn next_record(kept: &mut OpenTable<TypeIndex>, place: &mut Located) -> Fault
+pub fn next_record(kept: &mut OpenWalk<TypeIndex>, place: &mut Located) -> Fault
     ensures { record { fault = result; value = place.new; held = Some (Table kept.new) } ≡
         step_outcome kept.old (step_located kept.old) }
 {
@@ -137,7 +137,7 @@ pub fn next_record(kept: &mut OpenTable<TypeIndex>, place: &mut Located) -> Faul
 /// # Errors
 /// Fails as `OpenTable::fields` does.
 pub fn listed_fields(
-    kept: &mut OpenTable<TypeIndex>,
+    kept: &mut OpenWalk<TypeIndex>,
     alloc: Global,
     index: u32,
 ) -> Result<Option<Listing<FieldRow>>>
@@ -145,5 +145,5 @@ pub fn listed_fields(
     ensures kept { kept.new ≡ kept.old }
 {
     kept.learn(TypeIndex(index));
-    listing_found(alloc, kept.fields(alloc, TypeIndex(index)))
+    listing_found(alloc, kept.table().fields(alloc, TypeIndex(index)))
 }

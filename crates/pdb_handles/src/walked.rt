@@ -8,7 +8,7 @@ use crate::open_table::Located;
 use crate::records::write_type_row;
 use crate::row::{Numbers, Row};
 use pdb_base::TypeIndex;
-use pdb_tpi::{OpenTable, RecordPlace};
+use pdb_tpi::{OpenWalk, RecordPlace};
 use std::alloc::Global;
 
 /// A record of a table of types, and what it says.
@@ -28,7 +28,7 @@ pub struct TypeRow {
 #[inline(always)]
 fn write_type(
     alloc: Global,
-    kept: &OpenTable<TypeIndex>,
+    kept: &OpenWalk<TypeIndex>,
     index: u32,
     place: RecordPlace,
     told: &mut TypeRow,
@@ -36,7 +36,7 @@ fn write_type(
     ensures { IsTypeRow index place (type_of index (record_bytes kept.now.table place)) told.new }
 {
     told.place = Located::at(index, place);
-    told.fault = write_type_row(alloc, kept.bytes_at(place), index, &mut told.info);
+    told.fault = write_type_row(alloc, kept.table().bytes_at(place), index, &mut told.info);
     if told.fault.status != FINE {
         told.info = Row::of(0, &Numbers::default());
     }
@@ -46,7 +46,7 @@ fn write_type(
 /// or as are left before the walk stops, and sets `count` to their number.
 pub fn write_next(
     alloc: Global,
-    kept: &mut OpenTable<TypeIndex>,
+    kept: &mut OpenWalk<TypeIndex>,
     rows: &mut [TypeRow],
     count: &mut usize,
 ) -> Fault

@@ -100,7 +100,7 @@ read_good pages_used count words numbers good =
 
 -- ---- the directory
 
-is_directory : (file : List ℕ) (head : Head) (directory : List ℕ) → directory_of file head ≡ Ok directory
+pub is_directory : (file : List ℕ) (head : Head) (directory : List ℕ) → directory_of file head ≡ Ok directory
     → IsDirectory file head directory
 unfolding directory_of directory_numbers
 is_directory file head directory e =
@@ -117,7 +117,7 @@ is_directory file head directory e =
       read = (scatters file g.page_size numbers.0 g.directory_size).found directory (found_there _ directory numbers.2);
     }
 
-only_directory : (file : List ℕ) (head : Head) (directory : List ℕ) → IsDirectory file head directory
+pub only_directory : (file : List ℕ) (head : Head) (directory : List ℕ) → IsDirectory file head directory
     → directory_of file head ≡ Ok directory
 unfolding directory_of directory_numbers
 only_directory file head directory is =

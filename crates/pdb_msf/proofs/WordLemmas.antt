@@ -42,7 +42,7 @@ word_missing (a ∷ b ∷ c ∷ d ∷ rest) e h =
 
 -- ---- many words
 
-words-drop_one : (bytes : List ℕ) → words (drop 4 bytes) ≡ drop 1 (words bytes)
+pub words-drop_one : (bytes : List ℕ) → words (drop 4 bytes) ≡ drop 1 (words bytes)
 words-drop_one [] = refl
 words-drop_one (a ∷ []) = refl
 words-drop_one (a ∷ b ∷ []) = refl
@@ -73,7 +73,7 @@ length-words (a ∷ b ∷ c ∷ d ∷ rest) = let more = length-words rest in (o
 
 -- ---- in turn
 
-slice_get-drop : {X : Type 0} (i : ℕ) (xs : List X) → slice_get (drop i xs) 0 ≡ slice_get xs i
+pub slice_get-drop : {X : Type 0} (i : ℕ) (xs : List X) → slice_get (drop i xs) 0 ≡ slice_get xs i
 slice_get-drop zero xs = refl
 slice_get-drop (suc i) [] = refl
 slice_get-drop (suc i) (x ∷ xs) = slice_get-drop i xs

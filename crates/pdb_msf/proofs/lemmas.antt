@@ -1,2 +1,4 @@
--- The lemmas on sources that proofs here and in the crates above want. They are public, as those of std are.
+-- The lemmas on sources and on faults that proofs here and in the crates above want. They are public, as those of std
+-- are.
+pub mod Faults
 pub mod Kept

@@ -10,4 +10,5 @@ pub mod Exactly
 pub mod Directory
 pub mod File
 pub mod Layout
+pub mod Faults
 pub mod Laws

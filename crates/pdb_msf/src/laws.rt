@@ -1,15 +1,18 @@
 //! Laws that say in other words what the definitions cited by contracts mean. The functions do
 //! nothing: each contract is a law.
 
-ghost use Rattle.std.specs.Prelude.{◌≡◌, ℕ, ◌<◌, List, [], ◌∷◌, map, Option, Ok, Err};
+ghost use Rattle.std.specs.Prelude.{◌≡◌, ℕ, ◌<◌, List, [], ◌∷◌, map, take, Option, Ok, Err};
 ghost use Rattle.pdb_base.specs.Refusal.{Refusal, page_reference_out_of_range};
+ghost use Rattle.pdb_base.specs.Rules.{FollowsRules};
 ghost use Rattle.pdb_msf.specs.Pages.{pages, valid_page, page_numbers};
 ghost use Rattle.pdb_msf.specs.Runs.{AreJoined};
-ghost use Rattle.pdb_msf.specs.Header.{Head, file_head};
+ghost use Rattle.pdb_msf.specs.Header.{Head, file_head, head_of};
+ghost use Rattle.pdb_msf.specs.Directory.{directory_of};
+ghost use Rattle.pdb_msf.specs.Faults.{head_in, header_rules, file_rules, directory_rules, stream_rules};
 ghost use Rattle.pdb_msf.specs.File.{stream_of};
 ghost use Rattle.pdb_msf.specs.Layout.{LayoutValue, layout_of, stream_by};
-ghost use Rattle.pdb_msf.specs.Laws.{IsLeast, Scatters, HasHeaderAtOffsets, AreGood, FirstFault, CutsOnly, IsStream};
-ghost use Rattle.pdb_msf.specs.Laws.{Moment, IsLater, AnswersAlike};
+ghost use Rattle.pdb_msf.specs.Laws.{IsLeast, Scatters, HasHeaderAtOffsets, AreGood, FirstFault, CutsOnly};
+ghost use Rattle.pdb_msf.specs.Laws.{IsDirectory, IsStream, Moment, IsLater, AnswersAlike};
 
 /// The number of pages that some bytes take is the least that holds them.
 pub fn pages()
@@ -55,6 +58,31 @@ pub fn page_numbers()
         page_numbers pages_used count words ≡ Ok numbers → AreGood pages_used count words numbers }
     ensures fault { (pages_used count : ℕ) (words : List ℕ) (fault : Refusal) →
         page_numbers pages_used count words ≡ Err fault → FirstFault pages_used count words fault }
+{}
+
+/// A header has the error of the first rule of its list that the bytes break. If they break none, it
+/// has its numbers at fixed offsets, and the page numbers that follow them.
+#[tactic(auto, using(crate::proofs::lemmas::Faults::header_follows, crate::proofs::lemmas::Faults::file_follows))]
+pub fn header_faults()
+    ensures view { (view : List ℕ) → FollowsRules (header_rules view) (λ head. head ≡ head_in view) (head_of view) }
+    ensures file { (file : List ℕ) →
+        FollowsRules (file_rules file) (λ head. head ≡ head_in (take 4096 file)) (file_head file) }
+{}
+
+/// A directory has the error of the first rule of its list that the file breaks, and is there if the
+/// file breaks none.
+#[tactic(auto, using(crate::proofs::lemmas::Faults::directory_follows))]
+pub fn directory_faults()
+    ensures { (file : List ℕ) (head : Head) →
+        FollowsRules (directory_rules file head) (IsDirectory file head) (directory_of file head) }
+{}
+
+/// A stream has the error of the first of its nine rules that the file breaks, and has its bytes if
+/// the file breaks none.
+#[tactic(auto, using(crate::proofs::lemmas::Faults::stream_follows))]
+pub fn stream_faults()
+    ensures { (file : List ℕ) (head : Head) (n : ℕ) (limit : Option ℕ) →
+        FollowsRules (stream_rules file head n limit) (IsStream file head n limit) (stream_of file head n limit) }
 {}
 
 /// If a stream is answered without a limit, then the answer with a limit is its first bytes, no

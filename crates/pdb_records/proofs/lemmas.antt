@@ -1,2 +1,3 @@
 -- Lemmas that crates above use too.
+pub mod Agreed
 pub mod Whole

@@ -5,3 +5,4 @@ pub mod RecordLemmas
 pub mod OrderLemmas
 pub mod SectionLemmas
 pub mod SearchLemmas
+pub mod lemmas

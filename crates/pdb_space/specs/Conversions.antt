@@ -117,7 +117,7 @@ pub record ComesSomehow {A : Type 0} (start : Option ℕ) (made : ℕ → Option
 
 -- The result of a conversion that uses a table. If there is no table, or if the sources of the table don't
 -- decrease, it is the one that is meant. With any table it is None, or a result that some record of the
--- table gives, as `somehow` says.
+-- table gives, as the relation between tables and results says.
 pub record IsByTable {A : Type 0} (table : Option (List OmapValue)) (meant : Option A)
     (somehow : List OmapValue → A → Type 0) (result : Option A) : Type 0 where
   pub exact : IfSome table IsSortedBySource → result ≡ meant

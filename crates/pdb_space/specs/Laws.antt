@@ -1,7 +1,10 @@
 -- What sums, comparisons and conversions of addresses come to, and the definitions of tables, ranges and
 -- sections, stated in other words.
-use Rattle.std.specs.Prelude.{◌≡◌, ◌≢◌, ◌↔◌, ◌⊎◌, ◌+◌, ◌-◌, ◌<◌, ◌≤◌, ℕ, List, slice_get, Option, Some, None}
+use Rattle.std.specs.Prelude.{◌≡◌, ◌≢◌, ◌↔◌, ◌⊎◌, ◌+◌, ◌-◌, ◌%◌, ◌<◌, ◌≤◌, ℕ, List, [], ◌∷◌, length, slice_get, codes}
+use Rattle.std.specs.Prelude.{Option, Some, None}
 pub use Rattle.pdb_base.specs.Derived.{TellsApart}
+use Rattle.pdb_base.specs.Refusal.{invalid_stream_length}
+use Rattle.pdb_base.specs.Rules.{Rule, ◌⇒◌}
 use Rattle.pdb_space.specs.declared.section_header.ImageSectionHeader.{ImageSectionHeader}
 use Rattle.pdb_space.specs.Omap.{OmapValue}
 use Rattle.pdb_space.specs.Conversions.{AddressMapValue, rva_to_internal_rva, internal_rva_to_rva}
@@ -80,3 +83,7 @@ pub record IsFirstToReach (sections : List ImageSectionHeader) (address : ℕ) (
   pub numbered : place.section ≡ index + 1
   pub fits : index + 1 ≤ 0xffff
   pub distance : place.offset ≡ address - section.virtual_address
+
+-- the rule of an OMAP table: its records have eight bytes each
+abbrev pub omap_rules : List ℕ → List Rule
+omap_rules stream = (length stream % 8 ≢ 0 ⇒ invalid_stream_length (codes "OMAP")) ∷ []

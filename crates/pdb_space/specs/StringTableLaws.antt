@@ -1,9 +1,11 @@
 -- The definitions of `StringTable`, stated in other words.
 use Rattle.pdb_base.specs.Reading.{word_at}
-use Rattle.std.specs.Prelude.{◌≡◌, ◌≢◌, ◌⊎◌, ℕ, ◌+◌, ◌<◌, ◌≤◌, List, ◌∷◌, ◌++◌, length, take, drop, slice_get, Some, Ok}
+use Rattle.std.specs.Prelude.{◌≡◌, ◌≢◌, ◌⊎◌, ℕ, ◌+◌, ◌<◌, ◌≤◌, List, [], ◌∷◌, ◌++◌, length, take, drop, slice_get}
+use Rattle.std.specs.Prelude.{Some, Ok}
 use Rattle.std.specs.Prelude.{Err, codes}
 use Rattle.std.specs.List.{AllByRecursion}
 use Rattle.pdb_base.specs.Refusal.{Refusal, unexpected_eof, unimplemented_feature}
+use Rattle.pdb_base.specs.Rules.{Rule, ◌⇒◌}
 use Rattle.pdb_space.specs.StringTable.{names_signature, name_of, names_of}
 
 -- The stream holds a string table with these names: it begins with the u32 signature, a u32 version that is
@@ -51,3 +53,17 @@ pub record FindsName (names : List ℕ) (offset : ℕ) : Type 0 where
   pub only : (name : List ℕ) → IsNameAt names offset name → name_of names offset ≡ Ok name
   pub missing : (e : Refusal) → name_of names offset ≡ Err e → (e ≡ unexpected_eof) × HasNoNul names offset
   pub none : HasNoNul names offset → name_of names offset ≡ Err unexpected_eof
+
+-- the rules of a string table: its header is whole and has the signature, the names fit, and their version is known
+abbrev pub names_rules : List ℕ → List Rule
+names_rules stream =
+    (length stream < 12 ⇒ unexpected_eof)
+    ∷ (word_at 0 stream ≢ names_signature ⇒ unimplemented_feature (codes "invalid string table signature"))
+    ∷ (length stream < 12 + word_at 8 stream ⇒ unexpected_eof)
+    ∷ ((word_at 4 stream ≢ 1) × (word_at 4 stream ≢ 2)
+    ⇒ unimplemented_feature (codes "unknown string table hash version"))
+    ∷ []
+
+-- the rule of a name: there is a NUL at its offset or after it
+abbrev pub name_rules : List ℕ → ℕ → List Rule
+name_rules names offset = (HasNoNul names offset ⇒ unexpected_eof) ∷ []

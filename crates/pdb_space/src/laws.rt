@@ -3,7 +3,8 @@
 
 ghost use Rattle.std.specs.Prelude.{◌≡◌, ◌↔◌, ℕ, List, Some, length};
 ghost use Rattle.std.specs.declared.ops.Range.{Range};
-ghost use Rattle.pdb_space.specs.Omap.{OmapValue, IsSortedBySource, shift};
+ghost use Rattle.pdb_base.specs.Rules.{FollowsRules};
+ghost use Rattle.pdb_space.specs.Omap.{OmapValue, IsSortedBySource, mappings_of, omap_table_of, shift};
 ghost use Rattle.pdb_space.specs.Ranges.{end_to_end, parts, pointwise};
 ghost use Rattle.pdb_space.specs.declared.section_header.ImageSectionHeader.{ImageSectionHeader};
 ghost use Rattle.pdb_space.specs.SectionPlace.{SectionPlace};
@@ -12,7 +13,10 @@ ghost use Rattle.pdb_space.specs.Sum.{Fits};
 ghost use Rattle.pdb_space.specs.Conversions.{AddressMapValue};
 ghost use Rattle.pdb_space.specs.Laws.{EndsForGood, IsCutToFit, IsFirstToReach, IsReached, KeepsNumbers};
 ghost use Rattle.pdb_space.specs.Laws.{OrdersByNumber, OrdersBySource, OrdersWithinSections, TellsApart, UndoEachOther};
-ghost use Rattle.pdb_space.specs.StringTableLaws.{FindsName, FindsNames, RefusesByFirstFault};
+ghost use Rattle.pdb_space.specs.Laws.{omap_rules};
+ghost use Rattle.pdb_space.specs.StringTable.{name_of, names_of};
+ghost use Rattle.pdb_space.specs.StringTableLaws.{FindsName, FindsNames, HoldsNames, IsNameAt, RefusesByFirstFault};
+ghost use Rattle.pdb_space.specs.StringTableLaws.{name_rules, names_rules};
 
 use crate::address::Rva;
 use crate::address_map::{PdbInternalRvaRangeIter, RvaRangeIter};
@@ -83,6 +87,19 @@ pub fn string_tables()
 #[tactic(auto, using(crate::proofs::NameLemmas::finds_name))]
 pub fn names()
     ensures { (names : List ℕ) (offset : ℕ) → FindsName names offset }
+{}
+
+/// The names of a stream have the error of the first rule of their list that the stream breaks, and
+/// a name that of the first rule that the names break. An OMAP table has an error exactly if its
+/// length is no multiple of eight.
+#[tactic(auto, using(crate::proofs::lemmas::Faults::names_follow, crate::proofs::lemmas::Faults::name_follows, crate::proofs::lemmas::Faults::omap_follows))]
+pub fn faults()
+    ensures string_table { (stream : List ℕ) →
+        FollowsRules (names_rules stream) (HoldsNames stream) (names_of stream) }
+    ensures name { (names : List ℕ) (offset : ℕ) →
+        FollowsRules (name_rules names offset) (IsNameAt names offset) (name_of names offset) }
+    ensures omap { (stream : List ℕ) →
+        FollowsRules (omap_rules stream) (λ table. table ≡ mappings_of stream) (omap_table_of stream) }
 {}
 
 /// The parts into which a table moves a range are, laid end to end, what it makes of the range's

@@ -82,7 +82,7 @@ bytes_taken zero bytes fits = tt
 bytes_taken (suc n) [] fits = tt
 bytes_taken (suc n) (byte ∷ bytes) fits = (fits.0, bytes_taken n bytes fits.1)
 
-bytes_dropped : (n : ℕ) (bytes : List ℕ) → AreBytes bytes → AreBytes (drop n bytes)
+pub bytes_dropped : (n : ℕ) (bytes : List ℕ) → AreBytes bytes → AreBytes (drop n bytes)
 bytes_dropped zero bytes fits = fits
 bytes_dropped (suc n) [] fits = tt
 bytes_dropped (suc n) (byte ∷ bytes) fits = bytes_dropped n bytes fits.1

@@ -12,4 +12,7 @@ pub mod HeaderFaults
 pub mod WalkSteps
 pub mod DerivedLemmas
 pub mod ChainLemmas
+pub mod LookedUpLemmas
+pub mod LookUpLemmas
 pub mod PositionLemmas
+pub mod lemmas

@@ -1,6 +1,6 @@
 -- A finder knows where some blocks of eight items begin, and looks up an item by a walk within its block.
-use Rattle.std.specs.Prelude.{◌≡◌, ℕ, ◌+◌, ◌-◌, ◌*◌, ◌/◌, ◌<◌, ◌≤◌, ◌==◌, Bool, ◌&&◌, nat_lt, nat_le, min}
-use Rattle.std.specs.Prelude.{if◌then◌else◌, List, [], ◌∷◌, ◌++◌, length, map, Ok, Err}
+use Rattle.std.specs.Prelude.{◌≡◌, ℕ, ◌+◌, ◌-◌, ◌*◌, ◌/◌, ◌<◌, ◌≤◌, ◌==◌, Bool, IsTrue, ◌&&◌, nat_lt, nat_le, min, max}
+use Rattle.std.specs.Prelude.{if◌then◌else◌, List, [], ◌∷◌, ◌++◌, length, map, Option, Some, None, Ok, Err}
 use Rattle.std.specs.Int.{div_ceil}
 use Rattle.std.specs.List.{fold, range_with_len}
 use Rattle.pdb_base.specs.Refusal.{type_not_found, type_not_indexed}
@@ -62,6 +62,32 @@ max_index_of table known = if known == 0 then 0 else min (first_of_block table k
 abbrev pub has_index : Table → ℕ → Bool
 has_index table i = nat_le table.header.minimum_index i && nat_lt i table.header.maximum_index
 
+-- the last block that the walk reaches: all items before it are in the walk
+abbrev pub last_reached : Table → ℕ
+last_reached table = length (walk table) / 8
+
+-- The number of blocks that are known once those up to that of an index are learned: the most blocks up to that
+-- one that the walk reaches, or as many as were known if those are more. An index that the header doesn't count
+-- is in no block.
+abbrev pub known_up_to : Table → ℕ → ℕ → ℕ
+known_up_to table known i =
+    if has_index table i then max known (min (block_of table i) (last_reached table) + 1) else known
+
+-- Nothing is left to learn for the look-up of an index: each block up to that of the index is known, as far as the
+-- walk reaches.
+abbrev pub IsLearned : Table → ℕ → ℕ → Type 0
+IsLearned table known i = IsTrue (has_index table i) → min (block_of table i) (last_reached table) < known
+
+-- The place of an index in the walk. An index below the minimum stands for a primitive type and has none, and from
+-- the maximum on there is no item.
+abbrev pub place_in_walk : Table → ℕ → Answer (Option ℕ)
+place_in_walk table i =
+    if nat_lt i table.header.minimum_index
+    then Ok None
+    else if nat_le table.header.maximum_index i
+    then Err (type_not_found i)
+    else Ok (Some (i - table.header.minimum_index))
+
 -- The item of an index. An index below the minimum stands for a primitive type, which has no record: its
 -- item is the bytes ff ff. From the maximum on, there is no item.
 unfoldable pub item_of : Table → ℕ → Answer (List ℕ)
@@ -95,6 +121,14 @@ unfoldable pub reads_of : Table → ℕ → ℕ → ℕ
 reads_of table known i =
     if has_index table i && nat_lt (block_of table i) known
     then reads_between table (8 * block_of table i) (i - table.header.minimum_index)
+    else 0
+
+-- The number of length words that a look-up in the whole table reads: those from the first item of the last known
+-- block on that isn't behind the index's, and none if the index isn't counted.
+unfoldable pub reads_from : Table → ℕ → ℕ → ℕ
+reads_from table known i =
+    if has_index table i
+    then reads_between table (8 * min (block_of table i) (known - 1)) (i - table.header.minimum_index)
     else 0
 
 -- The most blocks that can be known: as many as hold the counted items, but, since an item takes at least

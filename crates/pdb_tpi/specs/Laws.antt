@@ -1,11 +1,10 @@
 -- The definitions of headers, of the walk and of finders, restated in other words.
 use Rattle.std.specs.Prelude.{◌≡◌, ℕ, ◌+◌, ◌-◌, ◌%◌, ◌<◌, ◌≤◌, List, ◌++◌, length, take, drop, IsTrue, Ok}
-use Rattle.std.specs.Int.{w32, cast_signed}
 use Rattle.std.specs.List.{AllByRecursion}
 use Rattle.pdb_base.specs.Endian.{little_number}
-use Rattle.pdb_base.specs.Reading.{number_in}
 use Rattle.pdb_base.specs.Refusal.{unexpected_eof, type_too_short, type_not_found}
 use Rattle.pdb_tpi.specs.Header.{header_fields}
+use Rattle.pdb_tpi.specs.Faults.{table_header_at}
 use Rattle.pdb_tpi.specs.Table.{Table}
 use Rattle.pdb_tpi.specs.Walk.{with_length, IsItem, IsWalk, items, rest, fault_of}
 use Rattle.pdb_tpi.specs.Steps.{walk}
@@ -19,24 +18,7 @@ AreBytes bytes = AllByRecursion (λ byte. byte < 256) bytes
 abbrev pub HasTableHeaderAtOffsets : List ℕ → Type 0
 HasTableHeaderAtOffsets bytes =
     56 ≤ length bytes
-    → header_fields bytes
-    ≡ Ok (
-      record {
-        version = number_in 4 0 bytes;
-        header_size = number_in 4 4 bytes;
-        minimum_index = number_in 4 8 bytes;
-        maximum_index = number_in 4 12 bytes;
-        gprec_size = number_in 4 16 bytes;
-        tpi_hash_stream = number_in 2 20 bytes;
-        tpi_hash_pad_stream = number_in 2 22 bytes;
-        hash_key_size = number_in 4 24 bytes;
-        hash_bucket_size = number_in 4 28 bytes;
-        hash_values = record { offset = cast_signed w32 (number_in 4 32 bytes); size = number_in 4 36 bytes };
-        ti_off = record { offset = cast_signed w32 (number_in 4 40 bytes); size = number_in 4 44 bytes };
-        hash_adj = record { offset = cast_signed w32 (number_in 4 48 bytes); size = number_in 4 52 bytes };
-      },
-      drop 56 bytes,
-    )
+    → header_fields bytes ≡ Ok (table_header_at bytes, drop 56 bytes)
 
 -- For any bytes, there is exactly one walk.
 pub record WalksOnce (limit : ℕ) (bytes : List ℕ) : Type 0 where

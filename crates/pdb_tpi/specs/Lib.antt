@@ -7,7 +7,9 @@ pub mod Finder
 pub mod Item
 pub mod Record
 pub mod Chain
+pub mod Faults
 pub mod Laws
 pub mod OpenTable
 pub mod LookUp
+pub mod LookedUp
 pub mod StepLaws

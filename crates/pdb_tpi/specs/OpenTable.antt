@@ -6,7 +6,7 @@ use Rattle.pdb_base.specs.Answer.{Answer, ◌>>=◌}
 use Rattle.pdb_tpi.specs.declared.open_table.RecordPlace.{RecordPlace}
 use Rattle.pdb_tpi.specs.Table.{Table}
 use Rattle.pdb_tpi.specs.Steps.{WalkPosition, walk, steps_taken, step_of}
-use Rattle.pdb_tpi.specs.Place.{ArePlaces, IsPlace}
+use Rattle.pdb_tpi.specs.Place.{ArePlaces}
 use Rattle.pdb_tpi.specs.Finder.{item_of}
 
 -- the number of bytes that an item takes: two for its length, and those of its record
@@ -38,8 +38,7 @@ abbrev pub step_located : WalkPosition → Answer (Option RecordPlace × WalkPos
 step_located stand = step_of stand >>= λ step. Ok
     (option_map (λ item. record_place stand.table (steps_taken stand) item.1) step.0, step.1)
 
--- What an open table keeps: where the blocks begin that look-ups know, and where its walk stands.
-pub record IsOpenTable (table : Table) (positions : List ℕ) (capacity index position : ℕ) : Type 0 where
+-- What an open table keeps: where the blocks begin that are known, which are some if the header counts an index.
+pub record AreKnownPlaces (table : Table) (positions : List ℕ) (capacity : ℕ) : Type 0 where
   pub blocks : ArePlaces table positions capacity
   pub some : table.header.minimum_index < table.header.maximum_index → 0 < length positions
-  pub place : IsPlace table index position

@@ -10,7 +10,7 @@ ghost use Rattle.pdb_tpi.specs.Table.{count_in_header};
 ghost use Rattle.pdb_tpi.specs.Place.{ArePlaces, IsPlace};
 ghost use Rattle.pdb_tpi.specs.Finder.{FinderState, first_of_block, known_when_new, known_after, known_of};
 ghost use Rattle.pdb_tpi.specs.Finder.{max_index_of};
-ghost use Rattle.pdb_tpi.specs.Finder.{most_blocks, find_of, reads_between, reads_of};
+ghost use Rattle.pdb_tpi.specs.Finder.{most_blocks, place_in_walk, find_of, reads_between, reads_of};
 
 use crate::item::Item;
 use crate::item_information::ItemInformation;
@@ -83,6 +83,26 @@ impl<I: ItemIndex> ItemInformation<I> {
             table: self,
             positions: self.positions(alloc)?,
         })
+    }
+
+    /// Returns the place in the walk of the item of an index, or None for an index below the minimum,
+    /// which is that of a primitive type.
+    ///
+    /// # Errors
+    /// Fails with `TypeNotFound` for an index from the maximum on.
+    #[inline(always)]
+    pub(crate) fn place_of(&self, index: I) -> Result<Option<u32>>
+        ensures { Gives (λ place. place) result (place_in_walk self.now (I.number index)) }
+    {
+        let header = self.header();
+        let number: u32 = index.into();
+        if number < header.minimum_index {
+            return Ok(None);
+        }
+        if number >= header.maximum_index {
+            return Err(Error::TypeNotFound(number));
+        }
+        Ok(Some(number - header.minimum_index))
     }
 
     /// Returns the item at a place in the walk, and the position behind it, and counts the lengths
@@ -181,20 +201,14 @@ impl<'t, I: ItemIndex> ItemFinder<'t, I> {
         ensures few { calls_of count.new ≤ calls_of count.old + 8 }
     {
         let table = self.table;
-        let header = table.header();
-        let number: u32 = index.into();
-        if number < header.minimum_index {
+        let Some(place) = table.place_of(index)? else {
             return Ok(Item {
                 index,
                 bytes: PRIMITIVE,
             });
-        }
-        if number >= header.maximum_index {
-            return Err(Error::TypeNotFound(number));
-        }
-        let place = number - header.minimum_index;
+        };
         if self.positions.len() <= (place / BLOCK_LEN) as usize {
-            return Err(Error::TypeNotIndexed(number, self.max_index().into()));
+            return Err(Error::TypeNotIndexed(index.into(), self.max_index().into()));
         }
         let (item, _) = table.item_at(&self.positions, place, count)?;
         Ok(item)

@@ -57,9 +57,10 @@ impl<'t, I: Copy> Item<'t, I> {
         self.bytes
     }
 
-    /// Returns whether the record has no bytes. This is always false.
+    /// Returns whether the record has no bytes. This is always false: it has two bytes at least.
     pub fn is_empty(&self) -> bool
-        ensures { IsTrue result ↔ (self.now.bytes.now ≡ []) }
+        ensures exact { IsTrue result ↔ (self.now.bytes.now ≡ []) }
+        ensures least { 2 ≤ length self.now.bytes.now }
     {
         self.bytes.is_empty()
     }

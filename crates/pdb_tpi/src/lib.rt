@@ -12,6 +12,7 @@ mod item_iter;
 pub mod laws;
 mod length;
 mod open_table;
+mod open_walk;
 mod type_record;
 
 pub use finder::ItemFinder;
@@ -20,6 +21,7 @@ pub use item::Item;
 pub use item_information::ItemInformation;
 pub use item_iter::ItemIter;
 pub use open_table::{OpenTable, RecordPlace};
+pub use open_walk::OpenWalk;
 use pdb_base::{IdIndex, TypeIndex};
 pub use pdb_values::constants;
 

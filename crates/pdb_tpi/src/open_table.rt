@@ -1,17 +1,16 @@
-//! Tables that stay open between look-ups and steps of a walk.
+//! Tables that stay open between look-ups.
 
-ghost use Rattle.std.specs.Prelude.{◌≡◌, ◌-◌, ◌≤◌, ◌<◌, Ok, IfOk, OnErr};
+ghost use Rattle.std.specs.Prelude.{◌≡◌, ◌+◌, ◌-◌, ◌≤◌, ◌<◌, Ok, IfOk};
 ghost use Rattle.pdb_base.specs.Answer.{Answers, Gives};
-ghost use Rattle.pdb_tpi.specs.Finder.{item_of};
+ghost use Rattle.pdb_base.specs.Count.{calls_of, after_calls};
+ghost use Rattle.pdb_tpi.specs.Finder.{IsLearned, item_of, known_up_to, known_when_new, most_blocks, reads_from};
 ghost use Rattle.pdb_tpi.specs.Item.{item_bytes, index_of};
-ghost use Rattle.pdb_tpi.specs.OpenTable.{record_bytes, place_of_record, step_located};
-ghost use Rattle.pdb_tpi.specs.StepLaws.{first_stand};
+ghost use Rattle.pdb_tpi.specs.OpenTable.{record_bytes, place_of_record};
 
 use crate::finder::{BLOCK_LEN, PRIMITIVE};
 use crate::item::Item;
 use crate::item_information::ItemInformation;
-use crate::item_iter::ItemIter;
-use pdb_base::{Count, Error, FallibleIterator, ItemIndex, Result};
+use pdb_base::{Count, ItemIndex, Result};
 use std::alloc::Global;
 use std::marker::Model;
 
@@ -24,36 +23,31 @@ pub struct RecordPlace {
     pub length: u32,
 }
 
-/// A table that owns the positions that look-ups have learned, and the position of one walk along
-/// it.
+/// A table that owns the positions that look-ups have learned.
 ///
-/// An `ItemFinder` and an `ItemIter` borrow their table. This type is for a caller that can keep no
-/// borrow, and that has the bytes of the stream anyway: it gives records by their places.
+/// An `ItemFinder` borrows its table. This type is for a caller that can keep no borrow, and that has
+/// the bytes of the stream anyway: it gives records by their places.
 #[derive(Debug, Drop)]
 pub struct OpenTable<I> {
     items: ItemInformation<I>,
     /// The positions of the blocks that look-ups know.
     positions: Vec<u32>,
-    /// The index of the next item of the walk.
-    index: u64,
-    /// Where the item of that index begins.
-    position: usize,
 }
 
 impl<I> Model for OpenTable<I> {
-    ghost use Rattle.std.specs.Prelude.{vec_capacity};
-    ghost use Rattle.pdb_tpi.specs.Steps.{WalkPosition};
-    ghost use Rattle.pdb_tpi.specs.OpenTable.{IsOpenTable};
+    ghost use Rattle.std.specs.Prelude.{length, vec_capacity};
+    ghost use Rattle.pdb_tpi.specs.Finder.{FinderState};
+    ghost use Rattle.pdb_tpi.specs.OpenTable.{AreKnownPlaces};
 
-    ghost Value = { WalkPosition };
+    ghost Value = { FinderState };
 
-    ghost view = { λ t. record { table = t.items; index = t.index } };
+    ghost view = { λ t. record { table = t.items; known = length t.positions.items } };
 
-    ghost invariant = { λ t. IsOpenTable t.items t.positions.items (vec_capacity t.positions) t.index t.position };
+    ghost invariant = { λ t. AreKnownPlaces t.items t.positions.items (vec_capacity t.positions) };
 }
 
 /// Returns the place of a record of `len` bytes whose item ends at the position `end`.
-fn record_before(end: usize, len: usize) -> RecordPlace
+pub(crate) fn record_before(end: usize, len: usize) -> RecordPlace
     requires before { len ≤ end }
     requires short { end < 0xffffffff }
     ensures { result ≡ record { offset = end - len; length = len } }
@@ -65,21 +59,15 @@ fn record_before(end: usize, len: usize) -> RecordPlace
 }
 
 impl<I: ItemIndex> OpenTable<I> {
-    /// Keeps a table open, with its walk before the first item.
+    /// Keeps a table open. It knows the first block if the header counts any index.
     ///
     /// # Errors
     /// Returns `OutOfMemory` if an allocation fails.
     pub fn new(alloc: Global, items: ItemInformation<I>) -> Result<Self>
-        ensures { Answers (λ table. table) result (Ok (first_stand items)) }
+        ensures { Answers (λ table. table) result (Ok (record { table = items; known = known_when_new items })) }
     {
         let positions = items.positions(alloc)?;
-        let (index, position) = items.iter().place();
-        Ok(OpenTable {
-            items,
-            positions,
-            index,
-            position,
-        })
+        Ok(OpenTable { items, positions })
     }
 
     /// Returns the table.
@@ -89,18 +77,13 @@ impl<I: ItemIndex> OpenTable<I> {
         &self.items
     }
 
-    /// Returns the index of the next item of the walk, or the index behind the last one if the walk
-    /// has ended.
-    pub fn index(&self) -> u64
-        ensures { result ≡ self.now.index }
-    {
-        self.index
-    }
-
-    /// Learns where items begin, up to the one of an index, as far as there are any, for later
+    /// Learns where the blocks begin up to that of an index, as far as the walk reaches them, for later
     /// look-ups.
     pub fn learn(&mut self, index: I)
-        ensures { self.new ≡ self.old }
+        ensures next { self.new ≡
+            record self.old { known = known_up_to self.old.table self.old.known (I.number index) } }
+        ensures learned { IsLearned self.new.table self.new.known (I.number index) }
+        ensures few { self.new.known ≤ most_blocks self.new.table }
     {
         let number: u32 = index.into();
         let known = self.positions.len() as u64 * BLOCK_LEN as u64;
@@ -109,11 +92,14 @@ impl<I: ItemIndex> OpenTable<I> {
         }
     }
 
-    /// Learns where the blocks begin that are not known yet, up to that of an index, as far as there
-    /// are any.
+    /// Learns where the blocks begin that are not known yet, up to that of an index, as far as the walk
+    /// reaches them.
     #[inline(never)]
     fn learn_blocks(&mut self, index: I)
-        ensures { self.new ≡ self.old }
+        ensures next { self.new ≡
+            record self.old { known = known_up_to self.old.table self.old.known (I.number index) } }
+        ensures learned { IsLearned self.new.table self.new.known (I.number index) }
+        ensures few { self.new.known ≤ most_blocks self.new.table }
     {
         let header = self.items.header();
         let number: u32 = index.into();
@@ -133,96 +119,79 @@ impl<I: ItemIndex> OpenTable<I> {
         }
     }
 
-    /// Returns the place of the record of an index in the stream of the table. Returns None for an
-    /// index below the first one, which is that of a primitive type and has no record there.
+    /// Returns the place of the record of an index in the stream of the table, and counts the lengths
+    /// that are read, which are eight at most once all blocks up to that of the index are learned.
+    /// Returns None for an index below the first one, which is that of a primitive type and has no
+    /// record there. It is inlined, so that no result with room for an error is copied.
     ///
     /// # Errors
     /// Fails with `TypeNotFound` for an index from the table's maximum on, with the fault at which
     /// the walk stops if that is before the item, and with `UnexpectedEof` if the walk ends before
     /// the item.
-    #[tactic(auto, unfolding(crate::specs::Finder::item_of))]
-    pub fn find(&self, index: I) -> Result<Option<RecordPlace>>
-        ensures { Gives (λ place. place) result (place_of_record self.now.table (I.number index)) }
+    #[inline(always)]
+    #[tactic(auto, unfolding(crate::specs::Finder::item_of, crate::specs::Finder::reads_from))]
+    pub fn find_counted(&self, index: I, count: &mut Count) -> Result<Option<RecordPlace>>
+        ensures place { Gives (λ place. place) result (place_of_record self.now.table (I.number index)) }
+        ensures counted { calls_of count.new ≡
+            after_calls (reads_from self.now.table self.now.known (I.number index)) (calls_of count.old) }
+        ensures few { IsLearned self.now.table self.now.known (I.number index) →
+            calls_of count.new ≤ calls_of count.old + 8 }
     {
-        let header = self.items.header();
-        let number: u32 = index.into();
-        if number >= header.minimum_index && number < header.maximum_index {
-            let place = number - header.minimum_index;
-            let mut count = Count::new();
-            if let Ok((item, end)) = self.items.item_at(&self.positions, place, &mut count) {
-                return Ok(Some(record_before(end, item.len())));
-            }
-        }
-        self.find_or_fail(index)
-    }
-
-    /// Does what `find` does, out of line, also where that fails.
-    #[inline(never)]
-    #[tactic(auto, unfolding(crate::specs::Finder::item_of))]
-    fn find_or_fail(&self, index: I) -> Result<Option<RecordPlace>>
-        ensures { Gives (λ place. place) result (place_of_record self.now.table (I.number index)) }
-    {
-        let header = self.items.header();
-        let number: u32 = index.into();
-        if number < header.minimum_index {
+        let Some(place) = self.items.place_of(index)? else {
             return Ok(None);
-        }
-        if number >= header.maximum_index {
-            return Err(Error::TypeNotFound(number));
-        }
-        let place = number - header.minimum_index;
-        let (item, end) = self
-            .items
-            .item_at(&self.positions, place, &mut Count::new())?;
+        };
+        let (item, end) = self.items.item_at(&self.positions, place, count)?;
         Ok(Some(record_before(end, item.len())))
     }
 
-    /// Returns the item of an index, wherever in the table it is. The bytes of a primitive type are
-    /// ff ff. It is inlined, so that no result with room for an error is copied.
+    /// Returns the place of the record of an index in the stream of the table, or None for an index
+    /// below the first one.
     ///
     /// # Errors
-    /// Fails as `find` does.
+    /// Fails as `find_counted` does.
     #[inline(always)]
-    #[tactic(auto, unfolding(crate::specs::Finder::item_of))]
-    pub fn item(&self, index: I) -> Result<Item<'_, I>>
+    pub fn find(&self, index: I) -> Result<Option<RecordPlace>>
+        ensures { Gives (λ place. place) result (place_of_record self.now.table (I.number index)) }
+    {
+        self.find_counted(index, &mut Count::new())
+    }
+
+    /// Returns the item of an index, wherever in the table it is, and counts the lengths that are read,
+    /// which are eight at most once all blocks up to that of the index are learned. The bytes of a
+    /// primitive type are ff ff. It is inlined, so that no result with room for an error is copied.
+    ///
+    /// # Errors
+    /// Fails as `find_counted` does.
+    #[inline(always)]
+    #[tactic(auto, unfolding(crate::specs::Finder::item_of, crate::specs::Finder::reads_from))]
+    pub fn item_counted(&self, index: I, count: &mut Count) -> Result<Item<'_, I>>
         ensures item { Gives item_bytes result (item_of self.now.table (I.number index)) }
         ensures index { IfOk result (λ item. index_of item ≡ index) }
+        ensures counted { calls_of count.new ≡
+            after_calls (reads_from self.now.table self.now.known (I.number index)) (calls_of count.old) }
+        ensures few { IsLearned self.now.table self.now.known (I.number index) →
+            calls_of count.new ≤ calls_of count.old + 8 }
     {
-        let header = self.items.header();
-        let number: u32 = index.into();
-        if number < header.minimum_index {
+        let Some(place) = self.items.place_of(index)? else {
             return Ok(Item {
                 index,
                 bytes: PRIMITIVE,
             });
-        }
-        if number >= header.maximum_index {
-            return Err(Error::TypeNotFound(number));
-        }
-        let place = number - header.minimum_index;
-        let (item, _) = self
-            .items
-            .item_at(&self.positions, place, &mut Count::new())?;
+        };
+        let (item, _) = self.items.item_at(&self.positions, place, count)?;
         Ok(item)
     }
 
-    /// Returns the place of the next record of the walk in the stream of the table, or None behind
-    /// the last one.
+    /// Returns the item of an index, wherever in the table it is.
     ///
     /// # Errors
-    /// Fails with the fault at which the walk stops. The walk then stays where it is.
-    pub fn step(&mut self) -> Result<Option<RecordPlace>>
-        ensures place { Gives (λ place. (place, self.new)) result (step_located self.old) }
-        ensures kept { OnErr result (self.new ≡ self.old) }
+    /// Fails as `find_counted` does.
+    #[inline(always)]
+    pub fn item(&self, index: I) -> Result<Item<'_, I>>
+        ensures item { Gives item_bytes result (item_of self.now.table (I.number index)) }
+        ensures index { IfOk result (λ item. index_of item ≡ index) }
     {
-        let mut items = ItemIter::at(&self.items, self.index, self.position);
-        let Some(item) = items.next()? else {
-            return Ok(None);
-        };
-        let (index, end) = items.place();
-        self.index = index;
-        self.position = end;
-        Ok(Some(record_before(end, item.len())))
+        self.item_counted(index, &mut Count::new())
     }
 
     /// Returns the bytes of the stream at a place, such as that of a record, as many of them as
@@ -232,14 +201,5 @@ impl<I: ItemIndex> OpenTable<I> {
     {
         self.items
             .bytes_at(place.offset as usize, place.length as usize)
-    }
-
-    /// Moves the walk back to before the first item.
-    pub fn rewind(&mut self)
-        ensures { self.new ≡ first_stand self.old.table }
-    {
-        let (index, position) = self.items.iter().place();
-        self.index = index;
-        self.position = position;
     }
 }

@@ -10,8 +10,7 @@ use Rattle.pdb_tpi.specs.Chain.{not_below}
 use Rattle.pdb_tpi.specs.Finder.{item_of}
 use Rattle.pdb_tpi.specs.OpenTable.{item_position}
 use Rattle.pdb_tpi.specs.Record.{id_of, kind_of, type_of}
-use Rattle.pdb_tpi.specs.StepLaws.{first_stand}
-use Rattle.pdb_tpi.specs.Steps.{WalkPosition, walk, walk_rest}
+use Rattle.pdb_tpi.specs.Steps.{walk, walk_rest}
 use Rattle.pdb_tpi.specs.Table.{Table, table_of}
 use Rattle.pdb_tpi.specs.Walk.{fault_of}
 use Rattle.pdb_values.specs.TypeValue.{TypeValue, field_list}
@@ -105,10 +104,6 @@ record_faults fault means table =
     (fault_behind fault (table.header.minimum_index + length (walk table)) table.header.maximum_index (walk_rest table))
 
 -- ---- the tables
-
--- the table in a stream, and a walk before its first record
-unfoldable pub walk_before_records : List ℕ → Answer WalkPosition
-walk_before_records stream = table_of stream >>= λ table. Ok (first_stand table)
 
 -- the faults of a table: that of its header, or those of its records
 abbrev pub table_faults : Part → ℕ → (Table → List FaultPlace) → Answer Table → List FaultPlace

@@ -6,10 +6,11 @@ ghost use Rattle.pdb_base.specs.Answer.{Answers, Gives};
 ghost use Rattle.pdb_base.specs.Refusal.{refusal_of};
 ghost use Rattle.pdb_base.specs.declared.error.Error.{Error};
 ghost use Rattle.pdb_tpi.specs.Item.{item_bytes, index_of};
+ghost use Rattle.pdb_tpi.specs.Table.{table_of};
 ghost use Rattle.pdb_values.specs.TypeView.{type_value};
 ghost use Rattle.pdb_validation.specs.Finding.{by_extent, finding_view};
 ghost use Rattle.pdb_validation.specs.Tables.{continued_in, continues_at, fault_at, id_faults, checked_id, ids_faults};
-ghost use Rattle.pdb_validation.specs.Tables.{missing_fault, walk_before_records, read_in, refusal_fault};
+ghost use Rattle.pdb_validation.specs.Tables.{missing_fault, read_in, refusal_fault};
 ghost use Rattle.pdb_validation.specs.Tables.{refusal_in, fail_with, type_faults, checked_type, types_faults};
 ghost use Rattle.pdb_validation.specs.Tables.{unless_unread};
 ghost use Rattle.pdb_validation.specs.declared.finding.Part.TheVariants as parts;
@@ -263,9 +264,8 @@ fn add_id_records(
 }
 
 /// Opens the table of types in a stream, with the places of all its records.
-#[tactic(auto, unfolding(crate::specs::Tables::walk_before_records))]
 fn open_types(alloc: Global, stream: Stream) -> Result<OpenTable<TypeIndex>>
-    ensures { Answers (λ table. table) result (walk_before_records stream) }
+    ensures { Answers (λ types. types.table) result (table_of stream) }
 {
     let table = TypeInformation::parse(stream)?;
     let maximum = table.header().maximum_index;
@@ -276,7 +276,7 @@ fn open_types(alloc: Global, stream: Stream) -> Result<OpenTable<TypeIndex>>
 
 /// Adds the findings of the table of types in a stream that has those pages: that of its header, or
 /// those of its records.
-#[tactic(auto, unfolding(crate::specs::Tables::walk_before_records, crate::specs::Tables::types_faults))]
+#[tactic(auto, unfolding(crate::specs::Tables::types_faults))]
 pub(crate) fn add_types(
     alloc: Global,
     stream: Stream,

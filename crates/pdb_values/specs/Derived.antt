@@ -1,4 +1,4 @@
--- What `==` returns for values that borrow a name.
+-- What `==` returns for values that borrow a name or hold a list.
 use Rattle.std.specs.Prelude.{◌≡◌, ◌↔◌, Bool, IsTrue}
 
 -- `eq` returns true for two values if `said` maps both to the same value, wherever their names are

@@ -1,26 +1,27 @@
--- Lines of answers, one after another, as the lines of questions are read.
-use Rattle.std.proofs.Common.{◌≡◌, ℕ, ◌+◌, ◌<◌, ◌&&◌, suc, add-one, drop-cons, List, [], ◌∷◌, ◌++◌, length, get_or}
-use Rattle.std.proofs.Common.{drop, Bool, true, false, cond, Option, Some, None, Result, Ok, Err, refl, sym, ap, subst}
-use Rattle.std.proofs.Common.{◌∙◌, arith, append_assoc, append-nil, map, inl, inr}
-use Rattle.std.proofs.lemmas.List.{map-append, take-append-drop, take_more}
-use Rattle.std.proofs.lemmas.List.Elements.{filter-append}
+-- Questions that are answered as their lines are read.
+use Rattle.std.proofs.Common.{◌≡◌, ℕ, ◌<◌, ◌&&◌, List, [], ◌∷◌, ◌++◌, length, get_or, Bool, true, false, cond}
+use Rattle.std.proofs.Common.{Option, Some, None, Result, Ok, Err, refl, sym, ap, ◌∙◌, arith, append_assoc, append-nil}
+use Rattle.std.proofs.Common.{map}
+use Rattle.std.proofs.lemmas.Bool.{false≢true}
+use Rattle.std.proofs.lemmas.List.{map-append, take_more}
+use Rattle.std.proofs.lemmas.List.Elements.{All-append, All-cons, All-nil, filter-append}
 use Rattle.std.proofs.lemmas.List.Splits.{length-slice_split}
-use Rattle.std.specs.Prelude.{◌==◌, not, filter, take, OnOk}
-use Rattle.pdb_cli.specs.Channels.{IsUnread}
+use Rattle.std.specs.Prelude.{◌==◌, ◌+◌, not, filter, take, IsSomeAnd, IsTrue, OnOk}
 use Rattle.pdbdump_cli.specs.declared.answers.AskedFile.{AskedFile}
-use Rattle.std.specs.List.{flat_map, onto_first, slice_split}
-use Rattle.std.proofs.KnownBytes.{Appends-nil, Consumes-nil, Consumes-trans}
+use Rattle.std.specs.List.{onto_first, slice_split}
+use Rattle.std.proofs.KnownBytes.{Consumes-nil, Consumes-trans}
 use Rattle.std.specs.Io.KnownBytes.{Consumes, IsAtEnd}
 use Rattle.pdb_base.specs.declared.error.Error.{Error}
-use Rattle.pdb_base.specs.declared.error.Error.TheVariants.{OutOfMemory}
+use Rattle.pdb_container.specs.declared.query.Query.{Query}
 use Rattle.pdb_container.specs.declared.query.Reply.{Reply}
+use Rattle.pdb_container.specs.declared.query.Reply.TheVariants as replies
 use Rattle.pdb_msf.specs.Header.{Head}
-use Rattle.pdb_output.specs.Output.{OutputState, Gets, IsCutShort, IsPrefix}
-use Rattle.pdb_output.proofs.lemmas.Written.{flushed_after, lacks_all, second_writes}
+use Rattle.pdb_output.specs.Output.{OutputState, Gets}
+use Rattle.pdbdump_rows.proofs.lemmas.Rows.{lines_more, lines_none}
 use Rattle.pdbdump_rows.specs.declared.form.Form.{Form}
-use Rattle.pdbdump_cli.specs.Asked.{AnswersAll, AreAnswered, AreFirstAnswered, AreLinesAnswered, AsksAll}
-use Rattle.pdbdump_cli.specs.Asked.{IsBlockAnswered, IsReady, IsReplied, IsKeptOpen}
-use Rattle.pdbdump_cli.specs.Answers.{answered_text, is_answer}
+use Rattle.pdbdump_rows.specs.Rows.{AreRows, WritesLines}
+use Rattle.pdbdump_cli.specs.Asked.{AnswersAll, AnswersQuery, AreAnswered, AreLinesAnswered, AsksAll, IsBlockAnswered}
+use Rattle.pdbdump_cli.specs.Asked.{IsQuestionAnswered, IsKeptOpen, IsReady, IsReplied, is_answer}
 use Rattle.pdbdump_cli.specs.Questions.{Asking, asking, ends_line, query_in, questions_in, questions_of}
 
 -- ---- pieces of a text
@@ -100,11 +101,7 @@ unfolding onto
 line_ends line byte whole is =
     line_and line byte true whole is ∙ ap (λ (all : List ℕ). all ∷ [] ∷ []) (append-nil line)
 
--- ---- answers
-
-and_assoc : (p q a : Bool) → ((p && q) && a) ≡ (p && (q && a))
-and_assoc true q a = refl
-and_assoc false q a = refl
+-- ---- questions
 
 questions_append : (first others : List (List ℕ)) → questions_of (first ++ others)
     ≡ questions_of first ++ questions_of others
@@ -118,130 +115,67 @@ unfolding questions_in
 questions_here text rest ended split =
     ap (λ (parts : List (List ℕ)). questions_of parts) split ∙ questions_append ended (rest ∷ [])
 
--- a result, and whether all were answered before
-abbrev pub and_then : Bool → Result Bool Error → Result Bool Error
-and_then all (Ok next) = Ok (all && next)
-and_then all (Err e) = Err e
+-- a line that has an answer is a question that is answered
+answered_by : (file : List ℕ) (head : Head) (query : Option Query) (reply : Option Reply)
+    → IsReplied file head query reply → IsTrue (is_answer reply) → IsSomeAnd query (AnswersQuery file head)
+answered_by file head None reply is holds = absurd (false≢true (rw is at holds))
+answered_by file head (Some query) None is holds = absurd is
+answered_by file head (Some query) (Some (replies.Bytes stream)) is holds = (_, is)
+answered_by file head (Some query) (Some (replies.Record index kind name)) is holds = (_, is)
+answered_by file head (Some query) (Some (replies.Name name)) is holds = (_, is)
+answered_by file head (Some query) (Some (replies.Fields names)) is holds = (_, is)
+answered_by file head (Some query) (Some (replies.Ranges ranges)) (table, asked, is, are) holds = (_, is)
+answered_by file head (Some query) (Some (replies.Refused e)) is holds = absurd (false≢true holds)
+
+-- some questions, and then others
+answered_append : (file : List ℕ) (head : Head) (first others : List Asking) (all next : Bool)
+    → AreAnswered file head first all → AreAnswered file head others next
+    → AreAnswered file head (first ++ others) (all && next)
+answered_append file head first others true next is are =
+    λ yes. All-append (IsQuestionAnswered file head) first others (is refl) (are yes)
+answered_append file head first others false next is are = λ yes. absurd (false≢true yes)
 
 module _ (form : Form) (file : List ℕ) (head : Head) where
-  answered_append : (first others : List Asking) (lines more : List ℕ) (all next : Bool)
-      → AreAnswered form file head first lines all → AreAnswered form file head others more next
-      → AreAnswered form file head (first ++ others) (lines ++ more) (all && next)
-  answered_append [] others lines more all next is are = rw (is.0, is.1) are
-  answered_append (question ∷ first) others lines more all next is are = record {
-    reply = is.reply;
-    is_reply = is.is_reply;
-    rest = is.rest ++ more;
-    rest_all = is.rest_all && next;
-    others_are = answered_append first others is.rest more is.rest_all next is.others_are are;
-    lines_are = rw is.lines_are (append_assoc _ is.rest more);
-    all_is = rw is.all_is (and_assoc (is_answer is.reply) is.rest_all next);
-  }
+  -- an empty line is no question
+  pub none_answered : (line : List ℕ) (old : OutputState) → (length line == 0) ≡ true
+      → AnswersAll form file head (questions_of (line ∷ [])) old old (Ok true)
+  none_answered line old empty = rw empty (λ yes. All-nil (IsQuestionAnswered file head), lines_none form old)
+
+  -- the only question
+  pub one_answered : (line : List ℕ) (reply : Option Reply) (old new : OutputState) → (length line == 0) ≡ false
+      → IsReplied file head (query_in line) reply → WritesLines form old new (Ok tt)
+      → AnswersAll form file head (questions_of (line ∷ [])) old new (Ok (is_answer reply))
+  one_answered line reply old new some is lines = rw some (
+    λ yes. All-cons (IsQuestionAnswered file head) (asking line) [] (answered_by file head (query_in line) reply is yes)
+        (All-nil (IsQuestionAnswered file head)),
+    lines,
+  )
 
   -- the answers to some questions, and then to others
-  answers_then : (first others : List Asking) (old now new : OutputState) (all : Bool) (result : Result Bool Error)
-      → AnswersAll form file head first old now (Ok all) → AnswersAll form file head others now new result
-      → AnswersAll form file head (first ++ others) old new (and_then all result)
-  answers_then first others old now new all (Ok next) (lines, are, got) (more, these, gets) = (
-    lines ++ more,
-    answered_append first others lines more all next are these,
-    second_writes old now new lines more (Ok tt) got gets,
+  answers_then : (first others : List Asking) (old now new : OutputState) (all next : Bool)
+      → AnswersAll form file head first old now (Ok all) → AnswersAll form file head others now new (Ok next)
+      → AnswersAll form file head (first ++ others) old new (Ok (all && next))
+  answers_then first others old now new all next is are = (
+    answered_append file head first others all next is.0 are.0,
+    lines_more form old now new (Ok tt) are.1 is.1,
   )
-  answers_then first others old now new all (Err e) (lines, are, got) (part, cause) =
-      let cut : IsCutShort (lines ++ part.lines) old new e =
-      second_writes old now new lines part.lines (Err e) got (record { cause = cause; prefix = part.prefix }) in (
-        record {
-          first = first ++ part.first;
-          others = part.others;
-          are_first = rw part.are_first (sym (append_assoc first part.first part.others));
-          lines = lines ++ part.lines;
-          all = all && part.all;
-          are_answered = answered_append first part.first lines part.lines all part.all are part.are_answered;
-          prefix = cut.prefix;
-        },
-        cut.cause,
-      )
-
-  -- memory ran out before the first answer
-  pub none_answered : (questions : List Asking) (old : OutputState) (e : Error) → e ≡ OutOfMemory
-      → AnswersAll form file head questions old old (Err e)
-  none_answered questions old e want = (
-    record {
-      first = [];
-      others = questions;
-      are_first = refl;
-      lines = [];
-      all = true;
-      are_answered = (refl, refl);
-      prefix = (lacks_all old [] e want).prefix;
-    },
-    inr (want, refl),
-  )
-
-  -- the lines of the only answer were cut short
-  pub one_cut : (line : List ℕ) (reply : Option Reply) (old new : OutputState) (e : Error) → (length line == 0) ≡ false
-      → IsReplied file head (query_in line) reply → IsCutShort (answered_text form line reply) old new e
-      → AnswersAll form file head (questions_of (line ∷ [])) old new (Err e)
-  one_cut line reply old new e some is cut =
-      let lines = answered_text form line reply in
-      let whole : IsCutShort (lines ++ []) old new e = rw (append-nil lines) cut in
-      rw some (
-        record {
-          first = asking line ∷ [];
-          others = [];
-          are_first = refl;
-          lines = lines ++ [];
-          all = is_answer reply && true;
-          are_answered = record {
-            reply = reply;
-            is_reply = is;
-            rest = [];
-            rest_all = true;
-            others_are = (refl, refl);
-            lines_are = refl;
-            all_is = refl;
-          };
-          prefix = whole.prefix;
-        },
-        whole.cause,
-      )
-
-  -- the first questions of more are the first
-  of_more : (questions more : List Asking) (old new : Option (List ℕ))
-      → AreFirstAnswered form file head questions old new
-      → AreFirstAnswered form file head (questions ++ more) old new
-  of_more questions more old new part = record {
-    first = part.first;
-    others = part.others ++ more;
-    are_first = rw part.are_first (append_assoc part.first part.others more);
-    lines = part.lines;
-    all = part.all;
-    are_answered = part.are_answered;
-    prefix = part.prefix;
-  }
-
-  -- ---- lines that are read
-
-  -- the result of answering the lines that end in a text: `rest` is what follows the last one's end
-  abbrev AnswersLines : List ℕ → OutputState → OutputState → List ℕ → Result Bool Error → Type 0
-  AnswersLines text old new rest (Ok all) = AreLinesAnswered form file head text old new rest all
-  AnswersLines text old new rest (Err e) = AnswersAll form file head (questions_in text) old new (Err e)
 
   -- no line is read
   pub no_line : (now : OutputState) (rest : List ℕ) → slice_split ends_line rest ≡ rest ∷ []
       → AreLinesAnswered form file head rest now now rest true
-  no_line now rest whole = record {
-    ended = [];
-    split = whole;
-    answers = ([], (refl, refl), record { holds = refl; added = Appends-nil now.contents });
-  }
+  no_line now rest whole =
+      record {
+        ended = [];
+        split = whole;
+        answers = (λ yes. All-nil (IsQuestionAnswered file head), lines_none form now);
+      }
 
   -- more lines behind those that were answered
-  lines_then : (text more rest left : List ℕ) (old now new : OutputState) (all : Bool) (result : Result Bool Error)
+  lines_then : (text more rest left : List ℕ) (old now new : OutputState) (all next : Bool)
       → slice_split ends_line rest ≡ rest ∷ [] → AreLinesAnswered form file head text old now rest all
-      → AnswersLines (rest ++ more) now new left result → AnswersLines (text ++ more) old new left (and_then all result)
-  unfolding questions_in
-  lines_then text more rest left old now new all (Ok next) whole before these = record {
+      → AreLinesAnswered form file head (rest ++ more) now new left next
+      → AreLinesAnswered form file head (text ++ more) old new left (all && next)
+  lines_then text more rest left old now new all next whole before these = record {
     ended = before.ended ++ these.ended;
     split =
         split_behind ends_line text more rest before.ended before.split whole
@@ -249,64 +183,29 @@ module _ (form : Form) (file : List ℕ) (head : Head) where
         ∙ sym (append_assoc before.ended these.ended (left ∷ []));
     answers =
         rw (questions_append before.ended these.ended)
-        (answers_then _ _ old now new all (Ok next) before.answers these.answers);
+        (answers_then _ _ old now new all next before.answers these.answers);
   }
-  lines_then text more rest left old now new all (Err e) whole before part =
-      rw (
-        split_behind ends_line text more rest before.ended before.split whole,
-        questions_append before.ended (slice_split ends_line (rest ++ more)),
-      )
-      (answers_then _ _ old now new all (Err e) before.answers part)
-
-  -- one line that ends
-  one_line : (line : List ℕ) (byte : ℕ) (old new : OutputState) (result : Result Bool Error)
-      → slice_split ends_line line ≡ line ∷ [] → ends_line byte ≡ true
-      → AnswersAll form file head (questions_of (line ∷ [])) old new result
-      → AnswersLines (line ++ byte ∷ []) old new [] result
-  one_line line byte old new (Ok all) whole is answers =
-      record { ended = line ∷ []; split = line_ends line byte whole is; answers = answers }
-  one_line line byte old new (Err e) whole is (part, cause) = (
-    rw (questions_here (line ++ byte ∷ []) [] (line ∷ []) (line_ends line byte whole is)) (of_more _ _ _ _ part),
-    cause,
-  )
 
   -- the line that the text ends in, behind those that have an end
-  last_line : (text rest : List ℕ) (old now new : OutputState) (all : Bool) (result : Result Bool Error)
+  last_line : (text rest : List ℕ) (old now new : OutputState) (all next : Bool)
       → AreLinesAnswered form file head text old now rest all
-      → AnswersAll form file head (questions_of (rest ∷ [])) now new result
-      → AnswersAll form file head (questions_in text) old new (and_then all result)
-  last_line text rest old now new all result before answers =
+      → AnswersAll form file head (questions_of (rest ∷ [])) now new (Ok next)
+      → AnswersAll form file head (questions_in text) old new (Ok (all && next))
+  last_line text rest old now new all next before answers =
       rw (questions_here text rest before.ended before.split)
-      (answers_then _ _ old now new all result before.answers answers)
-
-  -- the answers so far, of which a prefix was written
-  answered_so_far : (text rest : List ℕ) (old now : OutputState) (new : Option (List ℕ)) (all : Bool)
-      → (before : AreLinesAnswered form file head text old now rest all) → IsPrefix before.answers.0 old.contents new
-      → AreFirstAnswered form file head (questions_in text) old.contents new
-  answered_so_far text rest old now new all before prefix = record {
-    first = questions_of before.ended;
-    others = questions_of (rest ∷ []);
-    are_first = questions_here text rest before.ended before.split;
-    lines = before.answers.0;
-    all = all;
-    are_answered = before.answers.1;
-    prefix = prefix;
-  }
+      (answers_then _ _ old now new all next before.answers answers)
 
   -- the lines are flushed
   lines_flushed : (text rest : List ℕ) (old now new : OutputState) (all : Bool)
       → AreLinesAnswered form file head text old now rest all → Gets now new []
       → AreLinesAnswered form file head text old new rest all
   lines_flushed text rest old now new all before flushed =
-      let (lines, are, got) = before.answers in
+      let nothing : WritesLines form now new (Ok tt)
+      = record { text = []; holds = record { fronts = []; rows = AreRows.none }; written = flushed } in
       record {
         ended = before.ended;
         split = before.split;
-        answers = (
-          lines,
-          are,
-          subst (Gets old new) (append-nil lines) (second_writes old now new lines [] (Ok tt) got flushed),
-        );
+        answers = (before.answers.0, lines_more form old now new (Ok tt) nothing before.answers.1);
       }
 
 -- ---- a file that is asked
@@ -325,15 +224,12 @@ pub line_taken : (before after : AskedFile) (byte : ℕ) (old new : OutputState)
     → AnswersAll before.form before.file.source.items before.file.head (questions_of (before.rest.items ∷ [])) old new
     result
     → OnOk result (after.rest.items ≡ []) → IsBlockAnswered before after (byte ∷ []) old new result
-line_taken before after byte old new (Ok all) ready is answers none =
-    rw none (one_line _ _ _ before.rest.items byte old new (Ok all) ready.unended is answers)
-line_taken before after byte old new (Err e) ready is answers none =
-    (byte ∷ [], [], refl, one_line _ _ _ before.rest.items byte old new (Err e) ready.unended is answers)
-
--- there was no memory for a byte
-pub byte_lacks : (before after : AskedFile) (byte : ℕ) (old : OutputState)
-    → IsBlockAnswered before after (byte ∷ []) old old (Err OutOfMemory)
-byte_lacks before after byte old = ([], byte ∷ [], refl, none_answered _ _ _ _ old OutOfMemory refl)
+line_taken before after byte old new (Ok all) ready is answers none = rw none (record {
+  ended = before.rest.items ∷ [];
+  split = line_ends before.rest.items byte ready.unended is;
+  answers = answers;
+})
+line_taken before after byte old new (Err e) ready is answers none = answers
 
 -- one byte more
 pub block_more : (before mid after : AskedFile) (block : List ℕ) (i d : ℕ) (old now new : OutputState) (all next : Bool)
@@ -345,34 +241,10 @@ pub block_more : (before mid after : AskedFile) (block : List ℕ) (i d : ℕ) (
     old new after.rest.items (all && next)
 block_more before mid after block i d old now new all next within kept lines these =
     rw (take_more block i d within, ← append_assoc before.rest.items (take i block) (get_or block i d ∷ []))
-    (lines_then _ _ _ _ _ _ _ old now new all (Ok next) kept.ready.unended lines
+    (lines_then _ _ _ _ _ _ _ old now new all next kept.ready.unended lines
     (rw (kept.form, kept.bytes, kept.head) at these))
 
-pub block_cut : (before mid after last : AskedFile) (block : List ℕ) (i d : ℕ) (old now new : OutputState) (all : Bool)
-    (e : Error) → i < length block → IsKeptOpen before mid
-    → AreLinesAnswered before.form before.file.source.items before.file.head (before.rest.items ++ take i block) old now
-    mid.rest.items all
-    → IsBlockAnswered mid after (get_or block i d ∷ []) now new (Err e)
-    → IsBlockAnswered before last block old new (Err e)
-block_cut before mid after last block i d old now new all e within kept lines (text, rest, is, part) = (
-  take i block ++ text,
-  rest ++ drop (suc i) block,
-  sym (take-append-drop i block)
-      ∙ ap (λ (bytes : List ℕ). take i block ++ bytes) (drop-cons block i d within
-      ∙ ap (λ (bytes : List ℕ). bytes ++ drop (suc i) block) is ∙ append_assoc text rest (drop (suc i) block))
-      ∙ sym (append_assoc (take i block) text (rest ++ drop (suc i) block)),
-  rw (← append_assoc before.rest.items (take i block) text)
-      (lines_then _ _ _ _ text _ [] old now new all (Err e) kept.ready.unended lines
-      (rw (kept.form, kept.bytes, kept.head) at part)),
-)
-
 -- ---- an input of questions
-
-consumes_front : (had left : Option (List ℕ)) (text rest : List ℕ) → Consumes had left (text ++ rest)
-    → (middle : Option (List ℕ)) × Consumes had middle text
-consumes_front None left text rest is = (None, tt)
-consumes_front (Some bytes) None text rest is = absurd is
-consumes_front (Some bytes) (Some more) text rest is = (Some (rest ++ more), is ∙ append_assoc text rest more)
 
 -- the lines of what was read from an input so far
 pub record AreReadSoFar (before now : AskedFile) (had left : Option (List ℕ)) (old new : OutputState) (all : Bool)
@@ -389,7 +261,7 @@ nothing_read before had old ready none = record {
   lines = no_line _ _ _ old before.rest.items ready.unended;
 }
 
--- what was written is flushed, or the output failed
+-- what was written is flushed
 pub flushed_so_far : (before mid : AskedFile) (had left : Option (List ℕ)) (old now new : OutputState) (all : Bool)
     → AreReadSoFar before mid had left old now all → Gets now new [] → AreReadSoFar before mid had left old new all
 flushed_so_far before mid had left old now new all so_far flushed = record {
@@ -398,48 +270,18 @@ flushed_so_far before mid had left old now new all so_far flushed = record {
   lines = lines_flushed _ _ _ _ _ old now new all so_far.lines flushed;
 }
 
-pub cut_so_far : (before mid : AskedFile) (had left : Option (List ℕ)) (old now new : OutputState) (all : Bool)
-    (e : Error) → AreReadSoFar before mid had left old now all → IsCutShort [] now new e
-    → AsksAll before.form before.file.source.items before.file.head had left old new (Err e)
-cut_so_far before mid had left old now new all e so_far cut =
-    let after = flushed_after old now new _ e so_far.lines.answers.2 cut in (
-      so_far.text,
-      left,
-      so_far.read,
-      answered_so_far _ _ _ _ _ old now new.contents all so_far.lines after.prefix,
-      inl after.cause,
-    )
-
--- no more could be read
-pub unread_so_far : (before mid : AskedFile) (had left : Option (List ℕ)) (old now : OutputState) (all : Bool)
-    (e : Error) → AreReadSoFar before mid had left old now all → IsUnread e
-    → AsksAll before.form before.file.source.items before.file.head had left old now (Err e)
-unread_so_far before mid had left old now all e so_far unread =
-    let got = so_far.lines.answers.2 in (
-      so_far.text,
-      left,
-      so_far.read,
-      answered_so_far _ _ _ _ _ old now now.contents all so_far.lines
-          ([], record { done = so_far.lines.answers.0; got = got.added; left = sym (append-nil _) }),
-      inr (unread, got.holds),
-    )
-
-asks_all : (form : Form) (file : List ℕ) (head : Head) (had end : Option (List ℕ)) (text : List ℕ)
-    (old new : OutputState) (result : Result Bool Error) → Consumes had end text → IsAtEnd end
-    → AnswersAll form file head (questions_in text) old new result → AsksAll form file head had end old new result
-asks_all form file head had end text old new (Ok all) read is_end answers = (text, read, is_end, answers)
-asks_all form file head had end text old new (Err e) read is_end (part, cause) = (text, end, read, part, inl cause)
-
 -- the input has ended, and the last line is answered
-pub ends_so_far : (before mid : AskedFile) (had left end : Option (List ℕ)) (old now new : OutputState) (all : Bool)
-    (result : Result Bool Error) → IsKeptOpen before mid → AreReadSoFar before mid had left old now all
-    → Consumes left end [] → IsAtEnd end
-    → AnswersAll mid.form mid.file.source.items mid.file.head (questions_of (mid.rest.items ∷ [])) now new result
-    → AsksAll before.form before.file.source.items before.file.head had end old new (and_then all result)
-ends_so_far before mid had left end old now new all result kept so_far read is_end answers =
-    asks_all _ _ _ had end so_far.text old new (and_then all result)
-    (rw (append-nil so_far.text) at (Consumes-trans had left end so_far.text [] so_far.read read)) is_end
-    (last_line _ _ _ _ _ old now new all result so_far.lines (rw (kept.form, kept.bytes, kept.head) at answers))
+pub ends_so_far : (before mid : AskedFile) (had left end : Option (List ℕ)) (old now new : OutputState)
+    (all next : Bool) → IsKeptOpen before mid → AreReadSoFar before mid had left old now all → Consumes left end []
+    → IsAtEnd end
+    → AnswersAll mid.form mid.file.source.items mid.file.head (questions_of (mid.rest.items ∷ [])) now new (Ok next)
+    → AsksAll before.form before.file.source.items before.file.head had end old new (Ok (all && next))
+ends_so_far before mid had left end old now new all next kept so_far read is_end answers = (
+  so_far.text,
+  rw (append-nil so_far.text) at (Consumes-trans had left end so_far.text [] so_far.read read),
+  is_end,
+  last_line _ _ _ _ _ old now new all next so_far.lines (rw (kept.form, kept.bytes, kept.head) at answers),
+)
 
 -- a block more
 pub more_so_far : (before mid after : AskedFile) (had left end : Option (List ℕ)) (block : List ℕ)
@@ -449,26 +291,6 @@ pub more_so_far : (before mid after : AskedFile) (had left end : Option (List �
 more_so_far before mid after had left end block old now new all next kept so_far read these = record {
   text = so_far.text ++ block;
   read = Consumes-trans had left end so_far.text block so_far.read read;
-  lines = lines_then _ _ _ so_far.text block _ _ old now new all (Ok next) kept.ready.unended so_far.lines
+  lines = lines_then _ _ _ so_far.text block _ _ old now new all next kept.ready.unended so_far.lines
       (rw (kept.form, kept.bytes, kept.head) at these);
 }
-
-pub more_in_part : (before mid after : AskedFile) (had left end : Option (List ℕ)) (block : List ℕ)
-    (old now new : OutputState) (all : Bool) (e : Error) → IsKeptOpen before mid
-    → AreReadSoFar before mid had left old now all → Consumes left end block
-    → IsBlockAnswered mid after block now new (Err e)
-    → AsksAll before.form before.file.source.items before.file.head had end old new (Err e)
-more_in_part before mid after had left end block old now new all e kept so_far read (text, rest, is, part) =
-    let whole = Consumes-trans had left end so_far.text block so_far.read read in
-    let front = consumes_front had end (so_far.text ++ text) rest
-    (rw (is, ← append_assoc so_far.text text rest) at whole) in
-    let these = lines_then _ _ _ so_far.text text _ [] old now new all (Err e) kept.ready.unended so_far.lines
-    (rw (kept.form, kept.bytes, kept.head) at part) in
-    (so_far.text ++ text, front.0, front.1, these.0, inl these.1)
-
--- ---- lists
-
--- what is made of the first that is left stands before what is made of the others
-pub flat_next : {A : Type 0} (f : A → List ℕ) (xs : List A) (i : ℕ) (d : A) (x : List ℕ) → i < length xs
-    → f (get_or xs i d) ≡ x → flat_map f (drop i xs) ≡ x ++ flat_map f (drop (i + 1) xs)
-flat_next f xs i d x within is = rw (add-one, drop-cons xs i d, is) refl

@@ -1,5 +1,7 @@
--- What is written for the queries in an input about one file, each as it is read.
-use Rattle.std.specs.Prelude.{◌≡◌, ◌⊎◌, ◌&&◌, ℕ, Bool, true, List, [], ◌∷◌, ◌++◌, Option, Some, None, Result, Ok, Err}
+-- What is known of the questions in an input about one file, each answered as it is read, and of whether all are
+-- answered.
+use Rattle.std.specs.Prelude.{◌≡◌, ◌⊎◌, ℕ, Bool, true, false, IsTrue, IsSomeAnd, List, ◌∷◌, ◌++◌, Option, Some, None}
+use Rattle.std.specs.Prelude.{Result, Ok, Err, [], All}
 use Rattle.std.specs.Io.KnownBytes.{Consumes, IsAtEnd}
 use Rattle.std.specs.List.{slice_split}
 use Rattle.pdb_base.specs.declared.error.Error.{Error}
@@ -8,13 +10,14 @@ use Rattle.pdb_base.specs.Refusal.{refusal_of}
 use Rattle.pdb_cli.specs.Channels.{IsUnread}
 use Rattle.pdb_container.specs.declared.query.Query.{Query}
 use Rattle.pdb_container.specs.declared.query.Reply.{Reply}
+use Rattle.pdb_container.specs.declared.query.Reply.TheVariants as replies
 use Rattle.pdb_container.specs.OpenTables.{AreOf}
-use Rattle.pdb_container.specs.Reply.{IsReply, reply_of}
+use Rattle.pdb_container.specs.Reply.{IsReply, ReplyValue, reply_of}
 use Rattle.pdb_msf.specs.File.{stream_of}
 use Rattle.pdb_msf.specs.Header.{Head, file_head}
+use Rattle.pdb_output.specs.Output.{IsFailed, OutputState}
 use Rattle.pdbdump_rows.specs.declared.form.Form.{Form}
-use Rattle.pdb_output.specs.Output.{OutputState, Gets, IsOutputFailure, IsPrefix}
-use Rattle.pdbdump_cli.specs.Answers.{answered_text, is_answer}
+use Rattle.pdbdump_rows.specs.Rows.{WritesLines}
 use Rattle.pdbdump_cli.specs.Questions.{Asking, ends_line, questions_in, questions_of}
 use Rattle.pdbdump_cli.specs.declared.answers.AskedFile.{AskedFile}
 
@@ -25,58 +28,44 @@ IsReplied file head None reply = reply ≡ None
 IsReplied file head (Some query) None = ⊥
 IsReplied file head (Some query) (Some reply) = IsReply ⊥ reply (reply_of file head query)
 
--- The lines of the first question and of its answer, followed by those of the others, and whether all are
--- answered.
-pub record IsAnsweredThen (form : Form) (file : List ℕ) (head : Head) (question : Asking)
-    (others : List ℕ → Bool → Type 0) (lines : List ℕ) (all : Bool) : Type 0 where
-  pub reply : Option Reply
-  pub is_reply : IsReplied file head question.1 reply
-  pub rest : List ℕ
-  pub rest_all : Bool
-  pub others_are : others rest rest_all
-  pub lines_are : lines ≡ answered_text form question.0 reply ++ rest
-  pub all_is : all ≡ (is_answer reply && rest_all)
+-- whether there is a reply, and it isn't a refusal
+abbrev pub is_answer : Option Reply → Bool
+is_answer None = false
+is_answer (Some (replies.Refused e)) = false
+is_answer (Some reply) = true
 
--- the answers to questions, in order
-abbrev pub AreAnswered : Form → List ℕ → Head → List Asking → List ℕ → Bool → Type 0
-AreAnswered form file head [] lines all = (lines ≡ []) × (all ≡ true)
-AreAnswered form file head (question ∷ questions) lines all =
-    IsAnsweredThen form file head question (AreAnswered form file head questions) lines all
+-- a file with this header answers a query
+abbrev pub AnswersQuery : List ℕ → Head → Query → Type 0
+AnswersQuery file head query = (value : ReplyValue) × (reply_of file head query ≡ Ok value)
 
--- The first of these questions were answered, and a prefix of the lines of their answers was written.
-pub record AreFirstAnswered (form : Form) (file : List ℕ) (head : Head) (questions : List Asking)
-    (old new : Option (List ℕ)) : Type 0 where
-  pub first : List Asking
-  pub others : List Asking
-  pub are_first : questions ≡ first ++ others
-  pub lines : List ℕ
-  pub all : Bool
-  pub are_answered : AreAnswered form file head first lines all
-  pub prefix : IsPrefix lines old new
+-- a line is a question that the file answers
+abbrev pub IsQuestionAnswered : List ℕ → Head → Asking → Type 0
+IsQuestionAnswered file head question = IsSomeAnd question.1 (AnswersQuery file head)
 
--- The result of answering questions: the lines of all answers were written, and the result is whether all are
--- answered; or the output failed, or memory ran out, behind a prefix of them.
+-- If all of these questions are said to be answered, each of them is.
+abbrev pub AreAnswered : List ℕ → Head → List Asking → Bool → Type 0
+AreAnswered file head questions all = IsTrue all → All (IsQuestionAnswered file head) questions
+
+-- why answering ends early: the output failed, or memory ran out
+abbrev pub IsAnsweringFailure : OutputState → Error → Type 0
+IsAnsweringFailure new e = IsFailed new e ⊎ (e ≡ OutOfMemory)
+
+-- The result of answering questions: rows were written, and the result says whether all are answered; or answering
+-- ended early.
 abbrev pub AnswersAll : Form → List ℕ → Head → List Asking → OutputState → OutputState → Result Bool Error → Type 0
-AnswersAll form file head questions old new (Ok all) = (lines : List ℕ)
-    × AreAnswered form file head questions lines all × Gets old new lines
-AnswersAll form file head questions old new (Err e) =
-    AreFirstAnswered form file head questions old.contents new.contents × IsOutputFailure old new e
+AnswersAll form file head questions old new (Ok all) = AreAnswered file head questions all
+    × WritesLines form old new (Ok tt)
+AnswersAll form file head questions old new (Err e) = IsAnsweringFailure new e
 
--- Why a run of queries ends early: the output failed, or memory ran out, or the input can't be read.
-abbrev pub IsAskingFailure : OutputState → OutputState → Error → Type 0
-IsAskingFailure old new e = IsOutputFailure old new e ⊎ (IsUnread e × (new.has_failed ≡ old.has_failed))
-
--- The queries in an input were answered about a file with this header. Either all that the input had was read, and
--- the lines of all answers were written; the result is whether all are answered. Or the run ended early, behind a
--- prefix of the answers to what was read.
+-- The questions in an input were answered about a file with this header. All that the input had was read, rows were
+-- written, and the result says whether all are answered; or it ended early, or the input can't be read.
 abbrev pub AsksAll : Form → List ℕ → Head → Option (List ℕ) → Option (List ℕ) → OutputState → OutputState
     → Result Bool Error → Type 0
 AsksAll form file head had left old new (Ok all) = (text : List ℕ) × Consumes had left text × IsAtEnd left
     × AnswersAll form file head (questions_in text) old new (Ok all)
-AsksAll form file head had left old new (Err e) = (text : List ℕ) × (rest : Option (List ℕ)) × Consumes had rest text
-    × AreFirstAnswered form file head (questions_in text) old.contents new.contents × IsAskingFailure old new e
+AsksAll form file head had left old new (Err e) = IsFailed new e ⊎ IsUnread e
 
--- The queries in an input were answered about a file; or opening the file fails, or an allocation for it, and nothing
+-- The questions in an input were answered about a file; or opening the file fails, or an allocation for it, and nothing
 -- is read or written.
 pub data IsAsked (form : Form) (file : List ℕ) (had left : Option (List ℕ)) (old new : OutputState)
     (result : Result Bool Error) : Type 0 where
@@ -112,6 +101,4 @@ abbrev pub IsBlockAnswered : AskedFile → AskedFile → List ℕ → OutputStat
 IsBlockAnswered before after block old new (Ok all) =
     AreLinesAnswered before.form before.file.source.items before.file.head (before.rest.items ++ block) old new
     after.rest.items all
-IsBlockAnswered before after block old new (Err e) = (text : List ℕ) × (rest : List ℕ) × (block ≡ text ++ rest)
-    × AnswersAll before.form before.file.source.items before.file.head (questions_in (before.rest.items ++ text))
-    old new (Err e)
+IsBlockAnswered before after block old new (Err e) = IsAnsweringFailure new e

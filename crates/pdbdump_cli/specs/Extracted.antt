@@ -1,11 +1,10 @@
 -- What `extract` writes of a file.
 use Rattle.std.specs.Prelude.{ℕ, List, Option, Some, None, Ok}
-use Rattle.pdb_base.specs.Answer.{Answer}
+use Rattle.pdb_base.specs.Answer.{Answer, ◌>>=◌}
 use Rattle.pdb_cli.specs.Words.{number_of}
 use Rattle.pdb_msf.specs.Header.{Head}
 use Rattle.pdbdump_tables.specs.Extracted.{extraction, stream_meant}
-use Rattle.pdbdump_tables.specs.Listing.{Listing, listed_of}
-use Rattle.pdbdump_cli.specs.Words.{ExtractValue}
+use Rattle.pdbdump_cli.specs.declared.command.Extract.{Extract}
 
 -- the number of the stream that a word means: the number that it spells, or else that of its role or name
 abbrev pub number_or_meant : List ℕ → Head → List ℕ → Option ℕ → Answer ℕ
@@ -15,7 +14,7 @@ number_or_meant file head word None = stream_meant file head word
 unfoldable pub number_meant : List ℕ → Head → List ℕ → Answer ℕ
 number_meant file head word = number_or_meant file head word (number_of word)
 
--- a part of the bytes of the stream that was requested, and nothing else
-unfoldable pub extraction_in : List ℕ → Head → ExtractValue → Listing
+-- the part of the bytes of the stream that was requested
+unfoldable pub extraction_in : List ℕ → Head → Extract → Answer (List ℕ)
 extraction_in file head asked =
-    listed_of (λ number. extraction file head number asked.skip asked.limit) (number_meant file head asked.stream)
+    number_meant file head asked.stream.now >>= λ number. extraction file head number asked.skip asked.limit

@@ -8,32 +8,26 @@ use Rattle.pdb_file.specs.File.{type_stream}
 use Rattle.pdb_msf.specs.File.{stream_of}
 use Rattle.pdb_msf.specs.Header.{file_head}
 use Rattle.pdb_output.specs.Output.{OutputState}
-use Rattle.pdbdump_layouts.specs.Shown.{IsCallAnswered, IsShowResult}
-use Rattle.pdbdump_rows.specs.declared.form.Form.{Form}
-use Rattle.pdbdump_cli.specs.LayoutWords.{LayoutsValue}
+use Rattle.pdbdump_layouts.specs.Shown.{IsShowResult}
 use Rattle.pdbdump_cli.specs.Served.{IsEndedAs}
 
 -- the bytes of the stream of types of a file
 abbrev pub type_bytes : List ℕ → Answer (List ℕ)
 type_bytes file = file_head file >>= λ head. stream_of file head type_stream None
 
--- Layouts of types of a file are shown, as its stream of types determines; or the stream is refused, or memory for it,
--- and nothing is written.
-pub data AreLaidOut (form : Form) (asked : LayoutsValue) (file : List ℕ) (out out' err err' : OutputState)
-    (result : Result Bool Error) : Type 0 where
-  shown : (stream : List ℕ) → type_bytes file ≡ Ok stream
-      → IsShowResult stream asked.names asked.options form out out' err err' result
-      → AreLaidOut form asked file out out' err err' result
+-- Layouts of types in the stream of types of a file are shown; or the stream is refused, or memory for it, and nothing
+-- is written.
+pub data AreLaidOut (file : List ℕ) (out out' err err' : OutputState) (result : Result Bool Error) : Type 0 where
+  shown : (stream : List ℕ) → type_bytes file ≡ Ok stream → IsShowResult stream out out' err err' result
+      → AreLaidOut file out out' err err' result
   refused : (fault : Error) → result ≡ Err fault → (type_bytes file ≡ Err (refusal_of fault)) ⊎ (fault ≡ OutOfMemory)
-      → out' ≡ out → err' ≡ err → AreLaidOut form asked file out out' err err' result
+      → out' ≡ out → err' ≡ err → AreLaidOut file out out' err err' result
 
 -- Layouts of types of a file were shown, the output was flushed, and the program ended, with status 1 if something was
--- told.
-pub record IsLayoutDone (form : Form) (asked : LayoutsValue) (file : List ℕ) (out out' err err' : OutputState)
-    (status : ℕ) : Type 0 where
+-- reported.
+pub record IsLayoutDone (file : List ℕ) (out out' err err' : OutputState) (status : ℕ) : Type 0 where
   pub written : OutputState
   pub told : OutputState
   pub answer : Result Bool Error
-  pub shown : AreLaidOut form asked file out written err told answer
-  pub answered : IsCallAnswered answer err told
+  pub shown : AreLaidOut file out written err told answer
   pub ends : IsEndedAs answer written out' told err' status

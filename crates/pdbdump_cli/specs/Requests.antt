@@ -1,12 +1,11 @@
 -- What the program does for a request, and how it ends.
 use Rattle.std.specs.Prelude.{ℕ, List, Result}
+use Rattle.std.specs.Option.{option_map}
 use Rattle.pdb_base.specs.declared.error.Error.{Error}
 use Rattle.pdb_output.specs.Output.{OutputState}
 use Rattle.pdbdump_rows.specs.declared.form.Form.{Form}
 use Rattle.pdbdump_cli.specs.Identified.{IsIdDone}
-use Rattle.pdbdump_cli.specs.IdWords.{identify_view}
 use Rattle.pdbdump_cli.specs.LaidOut.{IsLayoutDone}
-use Rattle.pdbdump_cli.specs.LayoutWords.{layouts_view}
 use Rattle.pdbdump_cli.specs.Listed.{Does}
 use Rattle.pdbdump_cli.specs.Served.{IsEnded}
 use Rattle.pdbdump_cli.specs.Validated.{IsValidated}
@@ -27,8 +26,7 @@ abbrev pub IsDone : Form → Request → List ℕ → OutputState → OutputStat
 IsDone form (requests.List command) file out out' err err' status =
     IsCommandDone form command file out out' err err' status
 IsDone form (requests.Identify asked) file out out' err err' status =
-    IsIdDone form (identify_view asked) file out out' err err' status
+    IsIdDone (option_map (λ word. word.now) asked.expected) file out out' err err' status
 IsDone form (requests.Validate options path) file out out' err err' status =
-    IsValidated options form path.now file out out' err err' status
-IsDone form (requests.Layout asked) file out out' err err' status =
-    IsLayoutDone form (layouts_view asked) file out out' err err' status
+    IsValidated options form file out out' err err' status
+IsDone form (requests.Layout asked) file out out' err err' status = IsLayoutDone file out out' err err' status

@@ -1,14 +1,15 @@
 -- What `validate` does with a file, and how the program ends.
-use Rattle.std.specs.Prelude.{◌≡◌, ◌↔◌, ℕ, Bool, IsTrue, List, Result}
+use Rattle.std.specs.Prelude.{◌≡◌, ◌↔◌, ⊤, ℕ, Bool, true, false, IsTrue, List, [], Result}
 use Rattle.pdb_base.specs.declared.error.Error.{Error}
 use Rattle.pdb_base.specs.declared.error.Error.TheVariants.{OutOfMemory}
 use Rattle.pdb_cli.specs.Channels.{IsFaultReported}
 use Rattle.pdb_output.specs.Output.{OutputState, Writes}
 use Rattle.pdbdump_rows.specs.declared.form.Form.{Form}
+use Rattle.pdbdump_rows.specs.declared.form.Form.TheVariants as forms
+use Rattle.pdbdump_rows.specs.Rows.{AreLines}
 use Rattle.pdb_validation.specs.Finding.{FaultPlace, error_count, warning_count}
 use Rattle.pdb_validation.specs.IsWhole.{IsWhole}
 use Rattle.pdb_validation.specs.Whole.{faults_of}
-use Rattle.pdbdump_cli.specs.FindingLines.{lines_unless}
 use Rattle.pdbdump_cli.specs.declared.command.ValidateOptions.{ValidateOptions}
 use Rattle.pdbdump_cli.specs.Served.{IsEnded}
 
@@ -22,13 +23,34 @@ pub record IsJudged (is_strict : Bool) (faults : List FaultPlace) (ended status 
   pub passed : HasPassed is_strict faults → status ≡ ended
   pub other : ¬ HasPassed is_strict faults → status ≡ 1
 
+-- in JSON a text is lines of rows
+abbrev pub AreRowsIn : Form → List ℕ → Type 0
+AreRowsIn forms.Text text = ⊤
+AreRowsIn forms.Json text = AreLines forms.Json text
+
+-- it is so with what was appended to it, if it was so before
+abbrev pub StayRows : Form → List ℕ → List ℕ → Type 0
+StayRows form old new = AreRowsIn form old → AreRowsIn form new
+
+-- what is written of a file: nothing, if only the status is wanted, and in JSON lines of rows
+abbrev pub AreFindingLines : Bool → Form → List ℕ → Type 0
+AreFindingLines true form text = text ≡ []
+AreFindingLines false form text = AreRowsIn form text
+
+-- It was written, or cut short.
+pub record AreFindingsWritten (is_quiet : Bool) (form : Form) (old new : OutputState) (result : Result (Unit {0}) Error)
+    : Type 0 where
+  pub text : List ℕ
+  pub lines : AreFindingLines is_quiet form text
+  pub writes : Writes text old new result
+
 -- What was found in a file was written, or cut short; the output was flushed, and the program ended with a status
 -- that tells whether the file has passed. It has no error exactly if it is whole.
-pub record IsConcluded (options : ValidateOptions) (form : Form) (path file : List ℕ) (out out' err err' : OutputState)
+pub record IsConcluded (options : ValidateOptions) (form : Form) (file : List ℕ) (out out' err err' : OutputState)
     (status : ℕ) : Type 0 where
   pub written : OutputState
   pub result : Result (Unit {0}) Error
-  pub writes : Writes (lines_unless options.is_quiet form path (faults_of options.extent file)) out written result
+  pub writes : AreFindingsWritten options.is_quiet form out written result
   pub ended : ℕ
   pub ends : IsEnded result written out' err err' ended
   pub judged : IsJudged options.is_strict (faults_of options.extent file) ended status
@@ -36,9 +58,9 @@ pub record IsConcluded (options : ValidateOptions) (form : Form) (path file : Li
 
 -- What `validate` does with a file: faults are looked for, and the program ends as above; or an allocation fails,
 -- which is reported, and no output is written.
-pub data IsValidated (options : ValidateOptions) (form : Form) (path file : List ℕ) (out out' err err' : OutputState)
+pub data IsValidated (options : ValidateOptions) (form : Form) (file : List ℕ) (out out' err err' : OutputState)
     (status : ℕ) : Type 0 where
-  concluded : IsConcluded options form path file out out' err err' status
-      → IsValidated options form path file out out' err err' status
+  concluded : IsConcluded options form file out out' err err' status
+      → IsValidated options form file out out' err err' status
   lacking : out' ≡ out → IsFaultReported OutOfMemory err err' status
-      → IsValidated options form path file out out' err err' status
+      → IsValidated options form file out out' err err' status

@@ -1,15 +1,11 @@
 //! Answers as lines.
-#![tactic(auto, using(pdb_output::proofs::lemmas::Written::writing, pdbdump_rows::proofs::lemmas::Line::showing))]
+#![tactic(auto, using(pdbdump_rows::proofs::lemmas::Line::adding, pdbdump_rows::proofs::lemmas::Rows::listing))]
 
-ghost use Rattle.std.specs.Prelude.{◌≡◌, ◌∷◌, [], codes};
-ghost use Rattle.std.specs.List.{flat_map};
-ghost use Rattle.std.specs.Option.{option_copied, option_map};
-ghost use Rattle.pdb_output.specs.Output.{Writes};
-ghost use Rattle.pdbdump_rows.specs.Line.{ShowsFields};
-ghost use Rattle.pdbdump_rows.specs.Lines.{row_text};
-ghost use Rattle.pdbdump_rows.specs.Row.{text as shown_text};
-ghost use Rattle.pdbdump_cli.specs.Answers.{answer_text, answered_text, bytes_shown, is_answer, name_field};
-ghost use Rattle.pdbdump_cli.specs.Answers.{range_shown, record_shown, reply_shown, reply_text};
+ghost use Rattle.std.specs.Prelude.{◌≡◌, []};
+ghost use Rattle.std.specs.Option.{option_copied};
+ghost use Rattle.pdbdump_rows.specs.Line.{ShowsRow};
+ghost use Rattle.pdbdump_rows.specs.Rows.{WritesLines};
+ghost use Rattle.pdbdump_cli.specs.Asked.{is_answer};
 
 use pdb_base::RawString;
 use pdb_container::{Reply, Result};
@@ -23,6 +19,14 @@ use std::ops::Range;
 const NO_QUERY: &[u8] =
     b"no question: stream N [LIMIT] | type S I | id S I | name S O | ranges S A B | fields S I";
 
+/// Adds a text.
+fn show_text(line: &mut Line, name: &'static str, text: &[u8]) -> LineResult
+    ensures { ShowsRow [] line.old line.new result }
+{
+    line.field(name, Value::Text(RawString::from(text)))?;
+    Ok(())
+}
+
 /// Writes a text as a line.
 fn write_text<W: Write>(
     form: Form,
@@ -31,37 +35,37 @@ fn write_text<W: Write>(
     line: &mut Line,
     out: &mut Output<W>,
 ) -> Result<()>
-    ensures { Writes (row_text form ((name.now, shown_text text.now) ∷ [])) out.old out.new result }
+    ensures { WritesLines form out.old out.new result }
 {
     line.begin(form);
-    let added = line.field(name, Value::Text(RawString::from(text)));
+    let added = show_text(line, name, text);
     write_line(added, line, out)
 }
 
 /// Adds the index of a record, its kind and its name, if it has one.
 fn show_record(line: &mut Line, index: u32, leaf: u16, name: Option<&[u8]>) -> LineResult
-    ensures { ShowsFields (record_shown index leaf (option_map
-        (λ name. name.now) name.entry)) line.old line.new result }
+    ensures { ShowsRow [] line.old line.new result }
 {
     line.field("index", Value::Hexadecimal(index))?;
     line.field("kind", Value::Kind(leaf))?;
-    line.field("name", optional_text(name.map(RawString::from)))
+    line.field("name", optional_text(name.map(RawString::from)))?;
+    Ok(())
 }
 
 /// Adds the bytes of a stream, in hexadecimal digits.
 fn show_bytes(alloc: Global, line: &mut Line, stream: &[u8]) -> LineResult
-    ensures { ShowsFields (bytes_shown stream.now) line.old line.new result }
+    ensures { ShowsRow [] line.old line.new result }
 {
     let digits = hex::encode(alloc, stream)?;
-    line.field("bytes", Value::Text(RawString::from(digits.as_bytes())))
+    show_text(line, "bytes", digits.as_bytes())
 }
 
 /// Adds the name of a field.
 fn show_name(line: &mut Line, name: Option<&[u8]>) -> LineResult
-    ensures { ShowsFields (name_field (codes "field") (option_map (λ name. name.now) name.entry) ∷ [])
-        line.old line.new result }
+    ensures { ShowsRow [] line.old line.new result }
 {
-    line.field("field", optional_text(name.map(RawString::from)))
+    line.field("field", optional_text(name.map(RawString::from)))?;
+    Ok(())
 }
 
 /// Writes the names of fields, each as a line.
@@ -71,9 +75,7 @@ fn write_names<W: Write>(
     line: &mut Line,
     out: &mut Output<W>,
 ) -> Result<()>
-    ensures { Writes (flat_map (λ name.
-        row_text form (name_field (codes "field") (option_map (λ copy. copy.items) name) ∷ [])) names.now)
-        out.old out.new result }
+    ensures { WritesLines form out.old out.new result }
 {
     for name in names {
         line.begin(form);
@@ -85,10 +87,11 @@ fn write_names<W: Write>(
 
 /// Adds the start of a range and its end.
 fn show_range(line: &mut Line, range: &Range<u32>) -> LineResult
-    ensures { ShowsFields (range_shown range.now) line.old line.new result }
+    ensures { ShowsRow [] line.old line.new result }
 {
     line.field("start", Value::Hexadecimal(range.start))?;
-    line.field("end", Value::Hexadecimal(range.end))
+    line.field("end", Value::Hexadecimal(range.end))?;
+    Ok(())
 }
 
 /// Writes ranges, each as a line.
@@ -98,8 +101,7 @@ fn write_ranges<W: Write>(
     line: &mut Line,
     out: &mut Output<W>,
 ) -> Result<()>
-    ensures { Writes (flat_map (λ range. row_text form (range_shown range)) ranges.now)
-        out.old out.new result }
+    ensures { WritesLines form out.old out.new result }
 {
     for range in ranges {
         line.begin(form);
@@ -111,12 +113,12 @@ fn write_ranges<W: Write>(
 
 /// Adds the fields of a reply that has one line.
 fn show_reply(alloc: Global, line: &mut Line, reply: &Reply) -> LineResult
-    ensures { ShowsFields (reply_shown reply.now) line.old line.new result }
+    ensures { ShowsRow [] line.old line.new result }
 {
     match reply {
         Reply::Bytes(stream) => show_bytes(alloc, line, stream),
         Reply::Record { index, kind, name } => show_record(line, *index, *kind, name.as_deref()),
-        Reply::Name(name) => line.field("string", Value::Text(RawString::from(name.as_slice()))),
+        Reply::Name(name) => show_text(line, "string", name),
         Reply::Refused(error) => show_error(alloc, line, error),
         Reply::Fields(_) | Reply::Ranges(_) => Ok(()),
     }
@@ -130,7 +132,7 @@ fn write_reply<W: Write>(
     line: &mut Line,
     out: &mut Output<W>,
 ) -> Result<()>
-    ensures { Writes (reply_text form reply.now) out.old out.new result }
+    ensures { WritesLines form out.old out.new result }
 {
     match reply {
         Reply::Fields(names) => write_names(form, names, line, out),
@@ -152,7 +154,7 @@ fn write_answer<W: Write>(
     line: &mut Line,
     out: &mut Output<W>,
 ) -> Result<()>
-    ensures { Writes (answer_text form (option_copied reply.entry)) out.old out.new result }
+    ensures { WritesLines form out.old out.new result }
 {
     match reply {
         Some(reply) => write_reply(alloc, form, reply, line, out),
@@ -168,7 +170,6 @@ pub(crate) fn is_answer(reply: Option<&Reply>) -> bool
 }
 
 /// Writes a question, and its answer after it.
-#[tactic(auto, unfolding(crate::specs::Answers::answered_text), using(pdb_output::proofs::lemmas::Written::writing))]
 pub(crate) fn write_answered<W: Write>(
     alloc: Global,
     form: Form,
@@ -177,8 +178,7 @@ pub(crate) fn write_answered<W: Write>(
     line: &mut Line,
     out: &mut Output<W>,
 ) -> Result<()>
-    ensures { Writes (answered_text form question.now (option_copied reply.entry))
-        out.old out.new result }
+    ensures { WritesLines form out.old out.new result }
 {
     write_text(form, "question", question, line, out)?;
     write_answer(alloc, form, reply, line, out)

@@ -1,8 +1,7 @@
 //! What `extract` writes of a file.
 ghost use Rattle.pdb_msf.specs.File.{ReadsFile};
-ghost use Rattle.pdbdump_tables.specs.Listing.{IsListed};
+ghost use Rattle.pdbdump_tables.specs.Extracted.{IsExtracted};
 ghost use Rattle.pdbdump_cli.specs.Extracted.{extraction_in, number_meant};
-ghost use Rattle.pdbdump_cli.specs.Words.{extract_view};
 
 use crate::command::Extract;
 use pdb_cli::number;
@@ -33,8 +32,7 @@ pub(crate) fn extract_opened<W: Write>(
     asked: &Extract<'_>,
     out: &mut Output<W>,
 ) -> Result<()>
-    ensures { IsListed (extraction_in file.old.source.items file.old.head (extract_view asked.now))
-        out.old out.new result }
+    ensures { IsExtracted (extraction_in file.old.source.items file.old.head asked.now) out.old out.new result }
 {
     let number = number_meant(alloc, file, asked.stream)?;
     extract(alloc, file, number, asked.skip, asked.limit, out)

@@ -1,19 +1,12 @@
 //! What `validate` writes of a file.
 
-ghost use Rattle.std.specs.Prelude.{◌≡◌, ◌≤◌, length, map, string_bytes, IfOk};
-ghost use Rattle.std.specs.List.{flat_map};
+#![tactic(auto, using(pdbdump_rows::proofs::lemmas::Line::adding, pdbdump_rows::proofs::lemmas::Line::showing))]
+
+ghost use Rattle.std.specs.Prelude.{◌≡◌, ◌≤◌, [], length, map, IfOk, OnOk};
 ghost use Rattle.pdb_base.specs.Memory.{FailsOnlyForMemory};
-ghost use Rattle.pdbdump_rows.specs.Fields.{optional_number};
-ghost use Rattle.pdbdump_rows.specs.Line.{Adds, ShowsFields};
-ghost use Rattle.pdbdump_rows.specs.Row.{value_shown};
-ghost use Rattle.pdb_validation.specs.Finding.{fault_code, finding_view, warning_count};
-ghost use Rattle.pdb_validation.specs.Problem.{is_tolerated, problem_view};
-ghost use Rattle.pdbdump_cli.specs.FindingLines.{count_of_things, counts_if_any, counts_of, counts_text, fault_in};
-ghost use Rattle.pdbdump_cli.specs.FindingLines.{fault_line};
-ghost use Rattle.pdbdump_cli.specs.FindingLines.{fault_shown, finding_text, file_in, file_line, file_shown};
-ghost use Rattle.pdbdump_cli.specs.FindingLines.{label_and_number, labelled_number, lines_unless, finding_place};
-ghost use Rattle.pdbdump_cli.specs.FindingLines.{place_text};
-ghost use Rattle.pdbdump_cli.specs.FindingLines.{problem_words, severity, tally_view, validate_lines, whole_text};
+ghost use Rattle.pdb_validation.specs.Finding.{error_count, finding_view, warning_count};
+ghost use Rattle.pdbdump_rows.specs.Line.{ShowsRow};
+ghost use Rattle.pdbdump_cli.specs.Validated.{AreFindingLines, StayRows};
 
 use crate::names::{
     BYTE, CODE, ERRORS, FILE, FILE_BYTE, PART, PROBLEM, SEVERITY, STREAM, WARNINGS, WHOLE,
@@ -26,19 +19,14 @@ use std::alloc::{AllocError, Global};
 use std::result;
 
 /// Appends a label and a number behind it in hexadecimal digits.
-#[tactic(auto, unfolding(crate::specs::FindingLines::label_and_number))]
-fn push_number(alloc: Global, label: &str, number: u64, out: &mut Vec<u8>) -> Result<()>
-    ensures { Adds (label_and_number label.now number) out.old.items out.new.items result }
-{
+fn push_number(alloc: Global, label: &str, number: u64, out: &mut Vec<u8>) -> LineResult {
     let text = format!(in alloc; "{label}0x{number:x}")?;
     out.extend_from_slice(text.as_bytes())?;
     Ok(())
 }
 
 /// Appends a label and a number behind it, if there is one.
-fn push_labelled(alloc: Global, label: &str, number: Option<u64>, out: &mut Vec<u8>) -> Result<()>
-    ensures { Adds (labelled_number label.now number) out.old.items out.new.items result }
-{
+fn push_labelled(alloc: Global, label: &str, number: Option<u64>, out: &mut Vec<u8>) -> LineResult {
     match number {
         Some(number) => push_number(alloc, label, number, out),
         None => Ok(()),
@@ -46,11 +34,7 @@ fn push_labelled(alloc: Global, label: &str, number: Option<u64>, out: &mut Vec<
 }
 
 /// Appends where a fault in a stream is, as far as it has a place there.
-#[tactic(auto, unfolding(crate::specs::FindingLines::finding_place))]
-fn push_place_in(alloc: Global, stream: u32, finding: &Finding, out: &mut Vec<u8>) -> Result<()>
-    ensures { Adds (finding_place stream finding.now.index finding.now.byte finding.now.file_byte)
-        out.old.items out.new.items result }
-{
+fn push_place_in(alloc: Global, stream: u32, finding: &Finding, out: &mut Vec<u8>) -> LineResult {
     let text = format!(in alloc; " [stream {stream}")?;
     out.extend_from_slice(text.as_bytes())?;
     push_labelled(alloc, " index ", finding.index, out)?;
@@ -61,9 +45,7 @@ fn push_place_in(alloc: Global, stream: u32, finding: &Finding, out: &mut Vec<u8
 }
 
 /// Appends where a fault is, as far as it has a place.
-fn push_place(alloc: Global, finding: &Finding, out: &mut Vec<u8>) -> Result<()>
-    ensures { Adds (place_text (finding_view finding.now)) out.old.items out.new.items result }
-{
+fn push_place(alloc: Global, finding: &Finding, out: &mut Vec<u8>) -> LineResult {
     match finding.stream {
         Some(stream) => push_place_in(alloc, stream, finding, out),
         None => Ok(()),
@@ -71,9 +53,7 @@ fn push_place(alloc: Global, finding: &Finding, out: &mut Vec<u8>) -> Result<()>
 }
 
 /// Returns what is wrong, in words.
-fn problem_text(alloc: Global, problem: &Problem) -> result::Result<Vec<u8>, AllocError>
-    ensures { IfOk result (λ text. text.items ≡ problem_words (problem_view problem.now)) }
-{
+fn problem_text(alloc: Global, problem: &Problem) -> result::Result<Vec<u8>, AllocError> {
     match problem {
         Problem::Error(error) => error_text(alloc, error),
         Problem::Inconsistent(_) => Ok(format!(in alloc; "{problem}")?.into_bytes()),
@@ -81,17 +61,13 @@ fn problem_text(alloc: Global, problem: &Problem) -> result::Result<Vec<u8>, All
 }
 
 /// Returns the code of a finding as text.
-fn code_text(alloc: Global, finding: &Finding) -> result::Result<String, AllocError>
-    ensures { IfOk result (λ text. string_bytes text ≡ fault_code (finding_view finding.now)) }
-{
+fn code_text(alloc: Global, finding: &Finding) -> result::Result<String, AllocError> {
     let code = finding.code();
     Ok(format!(in alloc; "{code}")?)
 }
 
 /// Returns the word for how severe a problem is.
-fn severity(problem: &Problem) -> &'static str
-    ensures { result.now ≡ severity (is_tolerated (problem_view problem.now)) }
-{
+fn severity(problem: &Problem) -> &'static str {
     if problem.is_warning() {
         return "warning";
     }
@@ -99,10 +75,7 @@ fn severity(problem: &Problem) -> &'static str
 }
 
 /// Appends what is said of a finding before its place.
-#[tactic(auto, unfolding(crate::specs::FindingLines::finding_text))]
-fn push_words(severity: &str, code: &str, words: &[u8], out: &mut Vec<u8>) -> Result<()>
-    ensures { Adds (finding_text severity.now code.now words.now) out.old.items out.new.items result }
-{
+fn push_words(severity: &str, code: &str, words: &[u8], out: &mut Vec<u8>) -> LineResult {
     out.extend_from_slice(b": ")?;
     out.extend_from_slice(severity.as_bytes())?;
     out.extend_from_slice(b" ")?;
@@ -113,10 +86,7 @@ fn push_words(severity: &str, code: &str, words: &[u8], out: &mut Vec<u8>) -> Re
 }
 
 /// Appends the line of a finding as text.
-#[tactic(auto, unfolding(crate::specs::FindingLines::fault_line))]
-fn push_text(alloc: Global, path: &str, finding: &Finding, out: &mut Vec<u8>) -> Result<()>
-    ensures { Adds (fault_line path.now (finding_view finding.now)) out.old.items out.new.items result }
-{
+fn push_text(alloc: Global, path: &str, finding: &Finding, out: &mut Vec<u8>) -> LineResult {
     let words = problem_text(alloc, &finding.problem)?;
     let code = code_text(alloc, finding)?;
     out.extend_from_slice(path.as_bytes())?;
@@ -127,9 +97,7 @@ fn push_text(alloc: Global, path: &str, finding: &Finding, out: &mut Vec<u8>) ->
 }
 
 /// Returns the value of the index or the byte of a record, or `Absent` if there is none.
-fn number_value<'t>(number: Option<u64>) -> Value<'t>
-    ensures { value_shown result ≡ optional_number number }
-{
+fn number_value<'t>(number: Option<u64>) -> Value<'t> {
     match number {
         Some(number) => Value::Number(number),
         None => Value::Absent,
@@ -137,9 +105,8 @@ fn number_value<'t>(number: Option<u64>) -> Value<'t>
 }
 
 /// Adds what is told of a finding in the file at a path.
-#[tactic(auto, unfolding(crate::specs::FindingLines::fault_shown))]
 fn show_finding(alloc: Global, line: &mut Line, path: &str, finding: &Finding) -> LineResult
-    ensures { ShowsFields (fault_shown path.now (finding_view finding.now)) line.old line.new result }
+    ensures { ShowsRow [] line.old line.new result }
 {
     let words = problem_text(alloc, &finding.problem)?;
     let code = code_text(alloc, finding)?;
@@ -156,7 +123,6 @@ fn show_finding(alloc: Global, line: &mut Line, path: &str, finding: &Finding) -
 }
 
 /// Appends the line of a finding, which is an object in JSON.
-#[tactic(auto, using(pdbdump_rows::proofs::lemmas::Line::showing))]
 fn push_finding(
     alloc: Global,
     form: Form,
@@ -164,10 +130,11 @@ fn push_finding(
     finding: &Finding,
     out: &mut Vec<u8>,
 ) -> Result<()>
-    ensures { Adds (fault_in form path.now (finding_view finding.now)) out.old.items out.new.items result }
+    ensures rows { OnOk result (StayRows form out.old.items out.new.items) }
+    ensures memory { FailsOnlyForMemory result }
 {
     match form {
-        Form::Text => push_text(alloc, path, finding, out),
+        Form::Text => Ok(push_text(alloc, path, finding, out)?),
         Form::Json => {
             let mut line = Line::new(alloc);
             line.begin(Form::Json);
@@ -178,7 +145,6 @@ fn push_finding(
 }
 
 /// Appends the lines of findings.
-#[tactic(auto, using(crate::proofs::ValidateLemmas::lines_more))]
 fn push_findings(
     alloc: Global,
     form: Form,
@@ -186,8 +152,8 @@ fn push_findings(
     findings: &[Finding],
     out: &mut Vec<u8>,
 ) -> Result<()>
-    ensures { Adds (flat_map (fault_in form path.now) (map finding_view findings.now))
-        out.old.items out.new.items result }
+    ensures rows { OnOk result (StayRows form out.old.items out.new.items) }
+    ensures memory { FailsOnlyForMemory result }
 {
     for finding in findings {
         push_finding(alloc, form, path, finding, out)?;
@@ -219,7 +185,8 @@ fn warning_count(findings: &[Finding]) -> usize
 
 /// Returns how many errors and warnings there are among some findings.
 pub(crate) fn counts_of(findings: &[Finding]) -> Tally
-    ensures { tally_view result ≡ counts_of (map finding_view findings.now) }
+    ensures errors { result.errors ≡ error_count (map finding_view findings.now) }
+    ensures warnings { result.warnings ≡ warning_count (map finding_view findings.now) }
 {
     let warnings = warning_count(findings);
     Tally {
@@ -229,10 +196,7 @@ pub(crate) fn counts_of(findings: &[Finding]) -> Tally
 }
 
 /// Appends a number of things.
-#[tactic(auto, unfolding(crate::specs::FindingLines::count_of_things))]
-fn push_counted(alloc: Global, count: usize, thing: &str, out: &mut Vec<u8>) -> Result<()>
-    ensures { Adds (count_of_things count thing.now) out.old.items out.new.items result }
-{
+fn push_counted(alloc: Global, count: usize, thing: &str, out: &mut Vec<u8>) -> LineResult {
     let ending = if count == 1 { "" } else { "s" };
     let text = format!(in alloc; "{count} {thing}{ending}")?;
     out.extend_from_slice(text.as_bytes())?;
@@ -240,19 +204,14 @@ fn push_counted(alloc: Global, count: usize, thing: &str, out: &mut Vec<u8>) -> 
 }
 
 /// Appends how many errors and warnings there are.
-#[tactic(auto, unfolding(crate::specs::FindingLines::counts_text))]
-fn push_counts(alloc: Global, tally: Tally, out: &mut Vec<u8>) -> Result<()>
-    ensures { Adds (counts_text (tally_view tally)) out.old.items out.new.items result }
-{
+fn push_counts(alloc: Global, tally: Tally, out: &mut Vec<u8>) -> LineResult {
     push_counted(alloc, tally.errors, "error", out)?;
     out.extend_from_slice(b", ")?;
     push_counted(alloc, tally.warnings, "warning", out)
 }
 
 /// Appends how many errors and warnings there are behind a colon, if there are any.
-fn push_counts_if_any(alloc: Global, tally: Tally, out: &mut Vec<u8>) -> Result<()>
-    ensures { Adds (counts_if_any (tally_view tally)) out.old.items out.new.items result }
-{
+fn push_counts_if_any(alloc: Global, tally: Tally, out: &mut Vec<u8>) -> LineResult {
     if tally.errors == 0 && tally.warnings == 0 {
         return Ok(());
     }
@@ -261,9 +220,7 @@ fn push_counts_if_any(alloc: Global, tally: Tally, out: &mut Vec<u8>) -> Result<
 }
 
 /// Returns whether a file in which so much was found is whole, in words.
-fn whole_text(tally: Tally) -> &'static str
-    ensures { result.now ≡ whole_text (tally_view tally) }
-{
+fn whole_text(tally: Tally) -> &'static str {
     if tally.errors == 0 {
         return "whole";
     }
@@ -271,10 +228,7 @@ fn whole_text(tally: Tally) -> &'static str
 }
 
 /// Appends the line of a file in which so much was found, as text.
-#[tactic(auto, unfolding(crate::specs::FindingLines::file_line))]
-fn push_file_line(alloc: Global, path: &str, tally: Tally, out: &mut Vec<u8>) -> Result<()>
-    ensures { Adds (file_line path.now (tally_view tally)) out.old.items out.new.items result }
-{
+fn push_file_line(alloc: Global, path: &str, tally: Tally, out: &mut Vec<u8>) -> LineResult {
     out.extend_from_slice(path.as_bytes())?;
     out.extend_from_slice(b": ")?;
     out.extend_from_slice(whole_text(tally).as_bytes())?;
@@ -284,9 +238,8 @@ fn push_file_line(alloc: Global, path: &str, tally: Tally, out: &mut Vec<u8>) ->
 }
 
 /// Adds what is told of a file in which so much was found.
-#[tactic(auto, unfolding(crate::specs::FindingLines::file_shown))]
 fn show_file(line: &mut Line, path: &str, tally: Tally) -> LineResult
-    ensures { ShowsFields (file_shown path.now (tally_view tally)) line.old line.new result }
+    ensures { ShowsRow [] line.old line.new result }
 {
     line.field(FILE, Value::Text(RawString::from(path)))?;
     line.field(WHOLE, Value::Flag(tally.errors == 0))?;
@@ -296,12 +249,12 @@ fn show_file(line: &mut Line, path: &str, tally: Tally) -> LineResult
 }
 
 /// Appends the line of a file in which so much was found, which is an object in JSON.
-#[tactic(auto, using(pdbdump_rows::proofs::lemmas::Line::showing))]
 fn push_file(alloc: Global, form: Form, path: &str, tally: Tally, out: &mut Vec<u8>) -> Result<()>
-    ensures { Adds (file_in form path.now (tally_view tally)) out.old.items out.new.items result }
+    ensures rows { OnOk result (StayRows form out.old.items out.new.items) }
+    ensures memory { FailsOnlyForMemory result }
 {
     match form {
-        Form::Text => push_file_line(alloc, path, tally, out),
+        Form::Text => Ok(push_file_line(alloc, path, tally, out)?),
         Form::Json => {
             let mut line = Line::new(alloc);
             line.begin(Form::Json);
@@ -312,7 +265,6 @@ fn push_file(alloc: Global, form: Form, path: &str, tally: Tally, out: &mut Vec<
 }
 
 /// Appends the lines of what was found in a file, and that of the file behind them.
-#[tactic(auto, unfolding(crate::specs::FindingLines::validate_lines))]
 fn push_lines(
     alloc: Global,
     form: Form,
@@ -320,7 +272,8 @@ fn push_lines(
     findings: &[Finding],
     out: &mut Vec<u8>,
 ) -> Result<()>
-    ensures { Adds (validate_lines form path.now (map finding_view findings.now)) out.old.items out.new.items result }
+    ensures rows { OnOk result (StayRows form out.old.items out.new.items) }
+    ensures memory { FailsOnlyForMemory result }
 {
     push_findings(alloc, form, path, findings, out)?;
     push_file(alloc, form, path, counts_of(findings), out)?;
@@ -336,8 +289,7 @@ pub(crate) fn validate_lines(
     path: &str,
     findings: &[Finding],
 ) -> Result<Vec<u8>>
-    ensures ok { IfOk result (λ lines. lines.items ≡
-        lines_unless is_quiet form path.now (map finding_view findings.now)) }
+    ensures lines { IfOk result (λ lines. AreFindingLines is_quiet form lines.items) }
     ensures memory { FailsOnlyForMemory result }
 {
     let mut lines = Vec::new(alloc);

@@ -1,9 +1,5 @@
 //! The options of `id`.
 
-ghost use Rattle.std.specs.Prelude.{◌≡◌};
-ghost use Rattle.std.specs.Option.{option_map};
-ghost use Rattle.pdbdump_cli.specs.IdOptions.{id_view, style_of, with_id_option};
-
 use pdbdump_tables::KeyStyle;
 
 /// What the options of `id` say, each of which has a word behind it.
@@ -18,9 +14,7 @@ pub(crate) struct IdOptions<'w> {
 }
 
 /// Returns the style of a name, if there is one.
-fn style_named(word: &str) -> Option<KeyStyle>
-    ensures { result ≡ style_of word.now }
-{
+fn style_named(word: &str) -> Option<KeyStyle> {
     match word {
         "key" => Some(KeyStyle::Key),
         "ssqp" => Some(KeyStyle::Ssqp),
@@ -31,10 +25,7 @@ fn style_named(word: &str) -> Option<KeyStyle>
 }
 
 /// Returns the options with a style, if its name is one.
-fn with_style<'w>(options: IdOptions<'w>, value: &str) -> Option<IdOptions<'w>>
-    ensures { option_map id_view result ≡
-        option_map (λ style. record (id_view options.entry) { style = Some style }) (style_of value.now) }
-{
+fn with_style<'w>(options: IdOptions<'w>, value: &str) -> Option<IdOptions<'w>> {
     let style = style_named(value)?;
     Some(IdOptions {
         style: Some(style),
@@ -48,9 +39,7 @@ pub(crate) fn with_id_option<'w>(
     options: IdOptions<'w>,
     option: &str,
     value: &'w str,
-) -> Option<IdOptions<'w>>
-    ensures { option_map id_view result ≡ with_id_option (id_view options.entry) option.now value.now }
-{
+) -> Option<IdOptions<'w>> {
     match option {
         "--format" if options.style.is_none() => with_style(options, value),
         "--name" if options.name.is_none() => Some(IdOptions {

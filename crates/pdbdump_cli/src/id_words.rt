@@ -1,9 +1,5 @@
 //! The words that `id` takes.
 
-ghost use Rattle.std.specs.Prelude.{◌≡◌, map};
-ghost use Rattle.std.specs.Option.{option_map};
-ghost use Rattle.pdbdump_cli.specs.IdWords.{identify_of, identify_view, own_name};
-
 use crate::command::{Identify, Verb};
 use crate::words::{arguments_with, is_option, none_given};
 use pdb_container::Result;
@@ -37,9 +33,7 @@ pub(crate) fn words_apart<'w>(alloc: Global, words: &[&'w str]) -> Result<WordsA
 }
 
 /// Returns the name of a file by its path, which is the last part of the path.
-fn own_name(path: &str) -> &str
-    ensures { result.now ≡ own_name path.now }
-{
+fn own_name(path: &str) -> &str {
     match Path::new(path).file_name() {
         Some(name) => name,
         None => path,
@@ -47,10 +41,7 @@ fn own_name(path: &str) -> &str
 }
 
 /// Returns the arguments of `id` from the words behind its name, if it takes them.
-#[tactic(auto, unfolding(crate::specs::IdWords::identify_of))]
-pub fn identify_of<'w>(words: &[&'w str]) -> Option<Identify<'w>>
-    ensures { option_map identify_view result ≡ identify_of (map (λ word. word.now) words.now) }
-{
+pub fn identify_of<'w>(words: &[&'w str]) -> Option<Identify<'w>> {
     let arguments = arguments_with(Verb::Id, none_given(), words)?;
     let path = arguments.path?;
     if arguments.operand.is_some() {

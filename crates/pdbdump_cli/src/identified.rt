@@ -1,11 +1,11 @@
 //! What `id` does with a file.
 
-ghost use Rattle.std.specs.Prelude.{◌≡◌, ◌↔◌, IsTrue, IfOk};
+ghost use Rattle.std.specs.Prelude.{◌≡◌, ◌≢◌, ◌↔◌, IsTrue, IfOk, MatchOption};
 ghost use Rattle.std.specs.Option.{option_map};
 ghost use Rattle.pdb_base.specs.Answer.{Answers};
-ghost use Rattle.pdbdump_cli.specs.IdWords.{identify_view};
+ghost use Rattle.pdb_identity.specs.declared.format.Format.TheVariants.{Msf7};
 ghost use Rattle.pdbdump_cli.specs.Identified.{IsConcluded, IsExpected, IsIdDone, IsIdentified, IsIdentityShown};
-ghost use Rattle.pdbdump_cli.specs.Identified.{identity_in, other_format};
+ghost use Rattle.pdbdump_cli.specs.Identified.{identity_in};
 
 use crate::command::Identify;
 use crate::served::end;
@@ -22,7 +22,7 @@ const UNEXPECTED: &[u8] = b"the file has another key than the expected one\n";
 
 /// Returns what is written of a file of another format than the one that is read.
 fn other_format(format: Format) -> Option<&'static str>
-    ensures { option_map (λ text. text.now) result ≡ other_format format }
+    ensures { MatchOption result (format ≡ Msf7) (λ text. format ≢ Msf7) }
 {
     match format {
         Format::Msf7 => None,
@@ -63,7 +63,6 @@ fn is_expected(
 }
 
 /// Writes what identifies a file, and returns whether it is the expected one.
-#[tactic(auto, using(pdb_output::proofs::lemmas::Written::writing))]
 fn write_found<W: Write>(
     alloc: Global,
     asked: &Identify<'_>,
@@ -71,7 +70,7 @@ fn write_found<W: Write>(
     form: Form,
     out: &mut Output<W>,
 ) -> Result<bool, Error>
-    ensures { IsIdentityShown form (identify_view asked.now) identity.now out.old out.new result }
+    ensures { IsIdentityShown (option_map (λ word. word.now) asked.now.expected) identity.now out.old out.new result }
 {
     let is_expected = is_expected(alloc, asked.expected, identity)?;
     write_identity(alloc, asked.style, asked.name, identity, form, out)?;
@@ -86,7 +85,7 @@ fn identify<W: Write>(
     form: Form,
     out: &mut Output<W>,
 ) -> Result<bool, Error>
-    ensures { IsIdentified form (identify_view asked.now) file.items out.old out.new result }
+    ensures { IsIdentified (option_map (λ word. word.now) asked.now.expected) file.items out.old out.new result }
 {
     match identity_in(alloc, file) {
         Ok(identity) => write_found(alloc, asked, &identity, form, out),
@@ -125,7 +124,8 @@ pub(crate) fn serve_id<O: Write, E: Write>(
     out: &mut Output<O>,
     err: &mut Output<E>,
 ) -> u8
-    ensures { IsIdDone form (identify_view asked.now) file.items out.old out.new err.old err.new result }
+    ensures { IsIdDone (option_map (λ word. word.now) asked.now.expected) file.items
+        out.old out.new err.old err.new result }
 {
     if let Some(text) = other_format(Format::of(&file)) {
         err.report(text.as_bytes());

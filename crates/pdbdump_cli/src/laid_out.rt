@@ -1,9 +1,7 @@
 //! What `layout` does with a file.
 
 ghost use Rattle.pdb_base.specs.Answer.{Answers};
-ghost use Rattle.pdbdump_layouts.specs.Shown.{IsCallAnswered};
 ghost use Rattle.pdbdump_cli.specs.LaidOut.{AreLaidOut, type_bytes};
-ghost use Rattle.pdbdump_cli.specs.LayoutWords.{layouts_view};
 
 use crate::command::Layouts;
 use pdb_base::Stream;
@@ -35,8 +33,7 @@ pub(crate) fn show_in<O: Write, E: Write>(
     out: &mut Output<O>,
     err: &mut Output<E>,
 ) -> Result<bool>
-    ensures shown { AreLaidOut form (layouts_view asked.now) file.items out.old out.new err.old err.new result }
-    ensures answered { IsCallAnswered result err.old err.new }
+    ensures { AreLaidOut file.items out.old out.new err.old err.new result }
 {
     let stream = type_stream(alloc, file)?;
     show_layouts(alloc, stream, asked.names, &asked.options, form, out, err)

@@ -1,13 +1,5 @@
 //! The words that `layout` takes.
 
-ghost use Rattle.std.specs.Prelude.{◌≡◌, map, false};
-ghost use Rattle.std.specs.List.{list_any};
-ghost use Rattle.std.specs.Option.{option_map};
-ghost use Rattle.pdbdump_cli.specs.LayoutWords.{layout_options, layouts_of, layouts_view, options_view, order_of};
-ghost use Rattle.pdbdump_cli.specs.LayoutWords.{shown_with, style_of, with_depth, with_flag, with_order, with_path};
-ghost use Rattle.pdbdump_cli.specs.LayoutWords.{with_style, with_value};
-ghost use Rattle.pdbdump_cli.specs.Words.{is_option};
-
 use crate::command::Layouts;
 use crate::words::is_option;
 use pdb_cli::number;
@@ -29,9 +21,7 @@ struct LayoutOptions {
 }
 
 /// Returns the style of a name, if there is one.
-fn style_named(word: &str) -> Option<Style>
-    ensures { result ≡ style_of word.now }
-{
+fn style_named(word: &str) -> Option<Style> {
     match word {
         "c" => Some(Style::C),
         "dt" => Some(Style::Dt),
@@ -40,9 +30,7 @@ fn style_named(word: &str) -> Option<Style>
 }
 
 /// Returns the order of a name, if there is one.
-fn order_named(word: &str) -> Option<Order>
-    ensures { result ≡ order_of word.now }
-{
+fn order_named(word: &str) -> Option<Order> {
     match word {
         "size" => Some(Order::Size),
         "holes" => Some(Order::Holes),
@@ -53,9 +41,7 @@ fn order_named(word: &str) -> Option<Order>
 
 /// Returns the options with one that has no word behind it, if there is such an option and it isn't
 /// given yet.
-fn with_flag(options: LayoutOptions, option: &str) -> Option<LayoutOptions>
-    ensures { result ≡ with_flag options option.now }
-{
+fn with_flag(options: LayoutOptions, option: &str) -> Option<LayoutOptions> {
     match option {
         "--holes" if !options.has_holes => Some(LayoutOptions {
             has_holes: true,
@@ -70,9 +56,7 @@ fn with_flag(options: LayoutOptions, option: &str) -> Option<LayoutOptions>
 }
 
 /// Returns the options with a style, if its name is one.
-fn with_style(options: LayoutOptions, value: &str) -> Option<LayoutOptions>
-    ensures { result ≡ with_style options value.now }
-{
+fn with_style(options: LayoutOptions, value: &str) -> Option<LayoutOptions> {
     let style = style_named(value)?;
     Some(LayoutOptions {
         style: Some(style),
@@ -81,9 +65,7 @@ fn with_style(options: LayoutOptions, value: &str) -> Option<LayoutOptions>
 }
 
 /// Returns the options with an order, if its name is one.
-fn with_order(options: LayoutOptions, value: &str) -> Option<LayoutOptions>
-    ensures { result ≡ with_order options value.now }
-{
+fn with_order(options: LayoutOptions, value: &str) -> Option<LayoutOptions> {
     let order = order_named(value)?;
     Some(LayoutOptions {
         order: Some(order),
@@ -92,9 +74,7 @@ fn with_order(options: LayoutOptions, value: &str) -> Option<LayoutOptions>
 }
 
 /// Returns the options with a depth, if the word spells a number.
-fn with_depth(options: LayoutOptions, value: &str) -> Option<LayoutOptions>
-    ensures { result ≡ with_depth options value.now }
-{
+fn with_depth(options: LayoutOptions, value: &str) -> Option<LayoutOptions> {
     let depth = number(value)?;
     Some(LayoutOptions {
         depth: Some(depth),
@@ -104,9 +84,7 @@ fn with_depth(options: LayoutOptions, value: &str) -> Option<LayoutOptions>
 
 /// Returns the options with one and the word behind it, if there is such an option and it isn't
 /// given yet.
-fn with_value(options: LayoutOptions, option: &str, value: &str) -> Option<LayoutOptions>
-    ensures { result ≡ with_value options option.now value.now }
-{
+fn with_value(options: LayoutOptions, option: &str, value: &str) -> Option<LayoutOptions> {
     match option {
         "--style" if options.style.is_none() => with_style(options, value),
         "--sort" if options.order.is_none() => with_order(options, value),
@@ -117,13 +95,10 @@ fn with_value(options: LayoutOptions, option: &str, value: &str) -> Option<Layou
 
 /// Returns the options that words begin with, and the words behind them. Since none may be given
 /// twice, there is a call for each of six options at most.
-#[tactic(auto, unfolding(crate::specs::LayoutWords::layout_options))]
 fn options_in<'w>(
     options: LayoutOptions,
     words: &'w [&'w str],
-) -> Option<(LayoutOptions, &'w [&'w str])>
-    ensures { option_map options_view result ≡ layout_options options (map (λ word. word.now) words.now) }
-{
+) -> Option<(LayoutOptions, &'w [&'w str])> {
     let Some((word, behind)) = words.split_first() else {
         return Some((options, words));
     };
@@ -139,16 +114,12 @@ fn options_in<'w>(
 }
 
 /// Returns whether one of the words is the name of an option.
-fn has_option(words: &[&str]) -> bool
-    ensures { result ≡ list_any (λ word. is_option word.now) words.now }
-{
+fn has_option(words: &[&str]) -> bool {
     words.iter().any(|word| is_option(word))
 }
 
 /// Returns how layouts are shown with options.
-fn show_options(options: LayoutOptions) -> Options
-    ensures { result ≡ shown_with options }
-{
+fn show_options(options: LayoutOptions) -> Options {
     Options {
         style: options.style.unwrap_or(Style::C),
         order: options.order,
@@ -160,9 +131,7 @@ fn show_options(options: LayoutOptions) -> Options
 
 /// Returns the arguments of `layout` from its options and the words behind them: the path of the
 /// file, and then names, of which there is none exactly if all layouts are requested.
-fn with_path<'w>(options: LayoutOptions, words: &'w [&'w str]) -> Option<Layouts<'w>>
-    ensures { option_map layouts_view result ≡ with_path options (map (λ word. word.now) words.now) }
-{
+fn with_path<'w>(options: LayoutOptions, words: &'w [&'w str]) -> Option<Layouts<'w>> {
     let (path, names) = words.split_first()?;
     if has_option(names) {
         return None;
@@ -179,10 +148,7 @@ fn with_path<'w>(options: LayoutOptions, words: &'w [&'w str]) -> Option<Layouts
 
 /// Returns the arguments of `layout` from the words behind its name, if it takes them: options, the
 /// path of the file, and then names, unless all layouts are requested.
-#[tactic(auto, unfolding(crate::specs::LayoutWords::layouts_of))]
-pub fn layouts_of<'w>(words: &'w [&'w str]) -> Option<Layouts<'w>>
-    ensures { option_map layouts_view result ≡ layouts_of (map (λ word. word.now) words.now) }
-{
+pub fn layouts_of<'w>(words: &'w [&'w str]) -> Option<Layouts<'w>> {
     let none = LayoutOptions {
         style: None,
         order: None,

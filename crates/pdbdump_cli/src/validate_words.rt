@@ -1,34 +1,22 @@
 //! The words that `validate` takes.
 
-ghost use Rattle.std.specs.Prelude.{◌≡◌, map, IfOk};
-ghost use Rattle.std.specs.Option.{option_map};
-ghost use Rattle.std.specs.List.{list_any};
-ghost use Rattle.pdbdump_cli.specs.ValidateWords.{is_unknown, options_in, paths_in, validate_of, validate_view};
-
 use crate::command::{Validate, ValidateOptions};
 use crate::words::{any_is, is_option};
 use pdb_consistency::Extent;
 use std::alloc::{AllocError, Global};
 
 /// Returns whether a word is an option that `validate` doesn't take.
-fn is_unknown(word: &str) -> bool
-    ensures { result ≡ is_unknown word.now }
-{
+fn is_unknown(word: &str) -> bool {
     is_option(word) && word != "--all" && word != "--strict" && word != "--quiet"
 }
 
 /// Returns whether one of the words is an option that `validate` doesn't take.
-fn any_unknown(words: &[&str]) -> bool
-    ensures { result ≡ list_any (λ word. is_unknown word.now) words.now }
-{
+fn any_unknown(words: &[&str]) -> bool {
     words.iter().any(|word| is_unknown(word))
 }
 
 /// Returns the words that are no options, which are paths.
-fn paths_in<'w>(alloc: Global, words: &[&'w str]) -> Result<Vec<&'w str>, AllocError>
-    ensures { IfOk result (λ paths. map (λ path. path.now) paths.items ≡
-        paths_in (map (λ word. word.now) words.now)) }
-{
+fn paths_in<'w>(alloc: Global, words: &[&'w str]) -> Result<Vec<&'w str>, AllocError> {
     let mut paths = Vec::new(alloc);
     for word in words {
         if !is_option(word) {
@@ -39,10 +27,7 @@ fn paths_in<'w>(alloc: Global, words: &[&'w str]) -> Result<Vec<&'w str>, AllocE
 }
 
 /// Returns how the words say that files are checked.
-#[tactic(auto, unfolding(crate::specs::ValidateWords::options_in), using(crate::proofs::ValidateLemmas::any_said))]
-fn options_in(words: &[&str]) -> ValidateOptions
-    ensures { result ≡ options_in (map (λ word. word.now) words.now) }
-{
+fn options_in(words: &[&str]) -> ValidateOptions {
     let extent = if any_is(words, "--all") {
         Extent::All
     } else {
@@ -60,11 +45,10 @@ fn options_in(words: &[&str]) -> ValidateOptions
 ///
 /// # Errors
 /// Fails if an allocation fails.
-#[tactic(auto, unfolding(crate::specs::ValidateWords::validate_of), using(crate::proofs::ValidateLemmas::any_said))]
-pub fn validate_of<'w>(alloc: Global, words: &[&'w str]) -> Result<Option<Validate<'w>>, AllocError>
-    ensures { IfOk result (λ asked. option_map validate_view asked ≡
-        validate_of (map (λ word. word.now) words.now)) }
-{
+pub fn validate_of<'w>(
+    alloc: Global,
+    words: &[&'w str],
+) -> Result<Option<Validate<'w>>, AllocError> {
     if any_unknown(words) {
         return Ok(None);
     }

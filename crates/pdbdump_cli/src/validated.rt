@@ -1,12 +1,10 @@
 //! What `validate` does with a file.
 
 ghost use Rattle.std.specs.Prelude.{◌≡◌, ◌↔◌, map, ℕ, List, IsTrue};
-ghost use Rattle.pdb_output.specs.Output.{Writes};
 ghost use Rattle.pdb_validation.specs.Finding.{error_count, finding_view};
 ghost use Rattle.pdb_validation.specs.IsWhole.{IsWhole};
 ghost use Rattle.pdb_validation.specs.Whole.{faults_of};
-ghost use Rattle.pdbdump_cli.specs.FindingLines.{lines_unless};
-ghost use Rattle.pdbdump_cli.specs.Validated.{HasPassed, IsConcluded, IsValidated};
+ghost use Rattle.pdbdump_cli.specs.Validated.{AreFindingsWritten, HasPassed, IsConcluded, IsValidated};
 
 use crate::command::ValidateOptions;
 use crate::finding_lines::{counts_of, validate_lines};
@@ -20,7 +18,6 @@ use std::alloc::Global;
 use std::io::Write;
 
 /// Writes what was found in the file at a path.
-#[tactic(auto, using(pdb_output::proofs::lemmas::Written::writing))]
 fn write_findings<W: Write>(
     alloc: Global,
     is_quiet: bool,
@@ -29,7 +26,7 @@ fn write_findings<W: Write>(
     findings: &[Finding],
     out: &mut Output<W>,
 ) -> Result<()>
-    ensures { Writes (lines_unless is_quiet form path.now (map finding_view findings.now)) out.old out.new result }
+    ensures { AreFindingsWritten is_quiet form out.old out.new result }
 {
     let lines = validate_lines(alloc, is_quiet, form, path, findings)?;
     out.write(&lines)
@@ -57,7 +54,7 @@ fn conclude<O: Write, E: Write>(
 ) -> u8
     ensures { (file : List ℕ) → faults_of options.extent file ≡ map finding_view findings.now
         → ((error_count (map finding_view findings.now) ≡ 0) ↔ IsWhole file)
-        → IsConcluded options form path.now file out.old out.new err.old err.new result }
+        → IsConcluded options form file out.old out.new err.old err.new result }
 {
     let written = write_findings(alloc, options.is_quiet, form, path, findings, out);
     let status = end(alloc, written, out, err);
@@ -80,7 +77,7 @@ pub(crate) fn judge<O: Write, E: Write>(
     out: &mut Output<O>,
     err: &mut Output<E>,
 ) -> u8
-    ensures { IsValidated options form path.now file.now out.old out.new err.old err.new result }
+    ensures { IsValidated options form file.now out.old out.new err.old err.new result }
 {
     match validate(alloc, file, options.extent) {
         Ok(findings) => conclude(alloc, options, form, path, &findings, out, err),

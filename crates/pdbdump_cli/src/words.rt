@@ -1,15 +1,5 @@
 //! The words that the program takes.
 
-ghost use Rattle.std.specs.Prelude.{◌≡◌, map, IfOk};
-ghost use Rattle.std.specs.Option.{option_map};
-ghost use Rattle.std.specs.List.{list_any};
-ghost use Rattle.pdb_cli.specs.Words.{same};
-ghost use Rattle.pdbdump_cli.specs.Words.{arguments_view, arguments_with, call_of, call_view, call_with, command_with};
-ghost use Rattle.pdbdump_cli.specs.Words.{extract_of, extract_view, first_verb, frame_option, is_option};
-ghost use Rattle.pdbdump_cli.specs.Words.{none_given, option_given, part_option, plain_words, record_option};
-ghost use Rattle.pdbdump_cli.specs.Words.{result_view, stream_option, task_with, unless_twice, verb_of, with_operand};
-ghost use Rattle.pdbdump_cli.specs.Words.{with_option, with_stream};
-
 use crate::command::{Call, Command, Extract, Misuse, Task, Verb};
 use crate::id_options::{IdOptions, with_id_option};
 use pdb_cli::number;
@@ -17,17 +7,12 @@ use pdbdump_tables::MapStreams;
 use std::alloc::{AllocError, Global};
 
 /// Returns whether one of the words is the wanted one.
-pub fn any_is(words: &[&str], wanted: &str) -> bool
-    ensures { result ≡ list_any (λ word. same word.now wanted.now) words.now }
-{
+pub fn any_is(words: &[&str], wanted: &str) -> bool {
     words.iter().any(|word| *word == wanted)
 }
 
 /// Returns the words without `--json`, which may be anywhere among them.
-pub fn plain_words<'w>(alloc: Global, words: &[&'w str]) -> Result<Vec<&'w str>, AllocError>
-    ensures { IfOk result (λ plain. map (λ word. word.now) plain.items ≡
-        plain_words (map (λ word. word.now) words.now)) }
-{
+pub fn plain_words<'w>(alloc: Global, words: &[&'w str]) -> Result<Vec<&'w str>, AllocError> {
     let mut plain = Vec::new(alloc);
     for word in words {
         if *word != "--json" {
@@ -38,9 +23,7 @@ pub fn plain_words<'w>(alloc: Global, words: &[&'w str]) -> Result<Vec<&'w str>,
 }
 
 /// Returns the command of a name, if there is one.
-pub fn verb_named(word: &str) -> Option<Verb>
-    ensures { result ≡ verb_of word.now }
-{
+pub fn verb_named(word: &str) -> Option<Verb> {
     match word {
         "summary" => Some(Verb::Summary),
         "types" => Some(Verb::Types),
@@ -60,9 +43,7 @@ pub fn verb_named(word: &str) -> Option<Verb>
 }
 
 /// Returns the command that the first word names, if it names one.
-pub fn first_verb(words: &[&str]) -> Option<Verb>
-    ensures { result ≡ first_verb (map (λ word. word.now) words.now) }
-{
+pub fn first_verb(words: &[&str]) -> Option<Verb> {
     match words {
         [word, ..] => verb_named(word),
         [] => None,
@@ -102,9 +83,7 @@ pub(crate) struct Arguments<'w> {
 }
 
 /// Returns the arguments of a command with no word behind its name.
-pub(crate) fn none_given<'w>() -> Arguments<'w>
-    ensures { arguments_view result ≡ none_given }
-{
+pub(crate) fn none_given<'w>() -> Arguments<'w> {
     let map = MapStreams {
         sections: None,
         transformed: None,
@@ -135,9 +114,7 @@ pub(crate) fn none_given<'w>() -> Arguments<'w>
 
 /// Returns the streams of an address map with the one that an option gives, if there is such an
 /// option and it isn't given yet.
-fn with_stream(streams: MapStreams, option: &str, stream: u32) -> Option<MapStreams>
-    ensures { result ≡ with_stream streams option.now stream }
-{
+fn with_stream(streams: MapStreams, option: &str, stream: u32) -> Option<MapStreams> {
     let stream = Some(stream);
     match option {
         "--sections" if streams.sections.is_none() => Some(MapStreams {
@@ -161,9 +138,7 @@ fn with_stream(streams: MapStreams, option: &str, stream: u32) -> Option<MapStre
 }
 
 /// Returns the options of `types` and `ids` with one more, if they take it.
-fn record_option(options: Options, option: &str, value: u32) -> Option<Options>
-    ensures { result ≡ record_option options option.now value }
-{
+fn record_option(options: Options, option: &str, value: u32) -> Option<Options> {
     let value = Some(value);
     match option {
         "--stream" if options.stream.is_none() => Some(Options {
@@ -179,9 +154,7 @@ fn record_option(options: Options, option: &str, value: u32) -> Option<Options>
 }
 
 /// Returns the options of `names`, `sections` and `omap` with one more, if they take it.
-fn stream_option(options: Options, option: &str, value: u32) -> Option<Options>
-    ensures { result ≡ stream_option options option.now value }
-{
+fn stream_option(options: Options, option: &str, value: u32) -> Option<Options> {
     match option {
         "--stream" if options.stream.is_none() => Some(Options {
             stream: Some(value),
@@ -192,9 +165,7 @@ fn stream_option(options: Options, option: &str, value: u32) -> Option<Options>
 }
 
 /// Returns the options of `frames` with one more, if it takes it.
-fn frame_option(options: Options, option: &str, value: u32) -> Option<Options>
-    ensures { result ≡ frame_option options option.now value }
-{
+fn frame_option(options: Options, option: &str, value: u32) -> Option<Options> {
     let value = Some(value);
     match option {
         "--old" if options.old.is_none() => Some(Options {
@@ -210,9 +181,7 @@ fn frame_option(options: Options, option: &str, value: u32) -> Option<Options>
 }
 
 /// Returns the options of `extract` with one more, if it takes it.
-fn part_option(options: Options, option: &str, value: u32) -> Option<Options>
-    ensures { result ≡ part_option options option.now value }
-{
+fn part_option(options: Options, option: &str, value: u32) -> Option<Options> {
     let value = Some(value);
     match option {
         "--skip" if options.skip.is_none() => Some(Options {
@@ -228,9 +197,7 @@ fn part_option(options: Options, option: &str, value: u32) -> Option<Options>
 }
 
 /// Returns the options of a command with one more, if the command takes it.
-fn with_option(verb: Verb, options: Options, option: &str, value: u32) -> Option<Options>
-    ensures { result ≡ with_option verb options option.now value }
-{
+fn with_option(verb: Verb, options: Options, option: &str, value: u32) -> Option<Options> {
     match verb {
         Verb::Types | Verb::Ids => record_option(options, option, value),
         Verb::Names | Verb::Sections | Verb::Omap => stream_option(options, option, value),
@@ -245,16 +212,12 @@ fn with_option(verb: Verb, options: Options, option: &str, value: u32) -> Option
 }
 
 /// Returns the arguments with the one that an option's name and the word after it give.
-#[tactic(auto, unfolding(crate::specs::Words::option_given))]
 fn option_given<'w>(
     verb: Verb,
     arguments: Arguments<'w>,
     option: &str,
     value: &'w str,
-) -> Option<Arguments<'w>>
-    ensures { option_map arguments_view result ≡
-        option_given verb (arguments_view arguments.entry) option.now value.now }
-{
+) -> Option<Arguments<'w>> {
     if let Verb::Id = verb {
         let id = with_id_option(arguments.id, option, value)?;
         return Some(Arguments { id, ..arguments });
@@ -268,9 +231,7 @@ fn option_given<'w>(
 }
 
 /// Returns the arguments with one more word that is no option: first the path, then the operand.
-fn with_operand<'w>(arguments: Arguments<'w>, word: &'w str) -> Option<Arguments<'w>>
-    ensures { option_map arguments_view result ≡ with_operand (arguments_view arguments.entry) word.now }
-{
+fn with_operand<'w>(arguments: Arguments<'w>, word: &'w str) -> Option<Arguments<'w>> {
     let word = Some(word);
     match (arguments.path, arguments.operand) {
         (None, _) => Some(Arguments {
@@ -286,23 +247,17 @@ fn with_operand<'w>(arguments: Arguments<'w>, word: &'w str) -> Option<Arguments
 }
 
 /// Returns whether a word is the name of an option.
-pub(crate) fn is_option(word: &str) -> bool
-    ensures { result ≡ is_option word.now }
-{
+pub(crate) fn is_option(word: &str) -> bool {
     word.as_bytes().starts_with(b"--")
 }
 
 /// Returns the arguments with all these words, in any order: options, each with a word behind it,
 /// and the others. Since none may be given twice, there is a call for each of ten words at most.
-#[tactic(auto, unfolding(crate::specs::Words::arguments_with))]
 pub(crate) fn arguments_with<'w>(
     verb: Verb,
     arguments: Arguments<'w>,
     words: &[&'w str],
-) -> Option<Arguments<'w>>
-    ensures { option_map arguments_view result ≡
-        arguments_with verb (arguments_view arguments.entry) (map (λ word. word.now) words.now) }
-{
+) -> Option<Arguments<'w>> {
     let Some((word, words)) = words.split_first() else {
         return Some(arguments);
     };
@@ -316,9 +271,7 @@ pub(crate) fn arguments_with<'w>(
 }
 
 /// Returns what a command lists with these options and this operand, if it takes them.
-fn command_with<'w>(verb: Verb, options: Options, operand: Option<&'w str>) -> Option<Command<'w>>
-    ensures { result ≡ command_with verb options (option_map (λ word. word.now) operand.entry) }
-{
+fn command_with<'w>(verb: Verb, options: Options, operand: Option<&'w str>) -> Option<Command<'w>> {
     let Options {
         stream,
         index,
@@ -348,9 +301,7 @@ fn command_with<'w>(verb: Verb, options: Options, operand: Option<&'w str>) -> O
 }
 
 /// Returns what a command does with these options and this operand, if it takes them.
-fn task_with<'w>(verb: Verb, options: Options, operand: Option<&'w str>) -> Option<Task<'w>>
-    ensures { result ≡ task_with verb options (option_map (λ word. word.now) operand.entry) }
-{
+fn task_with<'w>(verb: Verb, options: Options, operand: Option<&'w str>) -> Option<Task<'w>> {
     match (verb, operand) {
         (Verb::Ask, None) => Some(Task::Answer),
         (verb, operand) => {
@@ -362,10 +313,7 @@ fn task_with<'w>(verb: Verb, options: Options, operand: Option<&'w str>) -> Opti
 
 /// Returns the request that a command makes with the words behind its name, and the path of its
 /// file, if it takes them.
-#[tactic(auto, unfolding(crate::specs::Words::call_with))]
-fn call_with<'w>(verb: Verb, words: &[&'w str]) -> Option<Call<'w>>
-    ensures { option_map call_view result ≡ call_with verb (map (λ word. word.now) words.now) }
-{
+fn call_with<'w>(verb: Verb, words: &[&'w str]) -> Option<Call<'w>> {
     let arguments = arguments_with(verb, none_given(), words)?;
     let path = arguments.path?;
     let task = task_with(verb, arguments.options, arguments.operand)?;
@@ -373,10 +321,7 @@ fn call_with<'w>(verb: Verb, words: &[&'w str]) -> Option<Call<'w>>
 }
 
 /// Returns the arguments of `extract` from the words behind its name, if it takes them.
-#[tactic(auto, unfolding(crate::specs::Words::extract_of))]
-pub fn extract_of<'w>(words: &[&'w str]) -> Option<Extract<'w>>
-    ensures { option_map extract_view result ≡ extract_of (map (λ word. word.now) words.now) }
-{
+pub fn extract_of<'w>(words: &[&'w str]) -> Option<Extract<'w>> {
     let arguments = arguments_with(Verb::Extract, none_given(), words)?;
     let path = arguments.path?;
     let stream = arguments.operand?;
@@ -390,9 +335,7 @@ pub fn extract_of<'w>(words: &[&'w str]) -> Option<Extract<'w>>
 }
 
 /// Returns a call, unless both the file and the questions would be read from standard input.
-fn unless_twice(call: Call<'_>) -> Result<Call<'_>, Misuse>
-    ensures { result_view result ≡ unless_twice (call_view call.entry) }
-{
+fn unless_twice(call: Call<'_>) -> Result<Call<'_>, Misuse> {
     match call.task {
         Task::Answer if call.path == "-" => Err(Misuse::InputTwice),
         _ => Ok(call),
@@ -406,10 +349,7 @@ fn unless_twice(call: Call<'_>) -> Result<Call<'_>, Misuse>
 /// Fails with `NoCommand` if the first of several words names no command, with `Arguments` if the
 /// command doesn't take the words after it, and with `InputTwice` if the path is `-`, for standard
 /// input, and the questions are to be read from there too.
-#[tactic(auto, unfolding(crate::specs::Words::call_of))]
-pub fn call_of<'w>(words: &[&'w str]) -> Result<Call<'w>, Misuse>
-    ensures { result_view result ≡ call_of (map (λ word. word.now) words.now) }
-{
+pub fn call_of<'w>(words: &[&'w str]) -> Result<Call<'w>, Misuse> {
     let Some((name, words)) = words.split_first() else {
         return Err(Misuse::NoCommand);
     };

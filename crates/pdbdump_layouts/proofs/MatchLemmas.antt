@@ -8,8 +8,7 @@ use Rattle.std.proofs.lemmas.Bool.{cases_lt, or_cases}
 use Rattle.std.proofs.lemmas.Bool.Decides.{Decides-eqb}
 use Rattle.std.proofs.lemmas.List.{drop-drop, drop_at, length-append, length-drop, nil_from_length, take-append-drop}
 use Rattle.std.proofs.lemmas.List.Elements.{All-head, All-tail}
-use Rattle.pdbdump_layouts.specs.Cut.{LacksByte}
-use Rattle.pdbdump_layouts.specs.Pattern.{IsFirst, IsNowhere, Means, StandsFor, behind_signs}
+use Rattle.pdbdump_layouts.specs.Pattern.{LacksByte, IsFirst, IsNowhere, Means, StandsFor, behind_signs}
 
 -- what a pattern means and then what another does is what both mean together
 joined : (p q a b : List ℕ) → Means p a → Means q b → Means (p ++ q) (a ++ b)

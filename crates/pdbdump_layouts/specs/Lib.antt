@@ -1,9 +1,2 @@
-pub mod Classes
-pub mod Cut
-pub mod Expanded
-pub mod GapPlace
-pub mod LayoutRow
-pub mod Object
 pub mod Pattern
 pub mod Shown
-pub mod Totals

@@ -1,10 +1,15 @@
 -- Names with `*`, which stands for any bytes, and `?`, which stands for one byte.
-use Rattle.std.specs.Prelude.{◌≡◌, ◌⊎◌, ℕ, ◌==◌, ◌<◌, ◌≤◌, Bool, ◌||◌, if◌then◌else◌}
+use Rattle.std.specs.Prelude.{◌≡◌, ◌≢◌, ◌⊎◌, ℕ, ◌==◌, ◌<◌, ◌≤◌, Bool, ◌||◌, if◌then◌else◌}
 use Rattle.std.specs.Prelude.{List, [], ◌∷◌, ◌++◌, drop, length, Option, Some, None}
+use Rattle.std.specs.List.{All}
 
 -- whether a byte makes a name a pattern: `*`, which is 42, or `?`, which is 63
 abbrev pub is_sign : ℕ → Bool
 is_sign byte = byte == 42 || byte == 63
+
+-- a byte is nowhere in a text
+abbrev pub LacksByte : ℕ → List ℕ → Type 0
+LacksByte byte text = All (λ other. other ≢ byte) text
 
 -- A sign of a pattern stands for bytes: `*` for any, `?` for one, and another sign for itself.
 abbrev pub StandsFor : ℕ → List ℕ → Type 0

@@ -1,17 +1,5 @@
 //! The classes of a table.
 
-ghost use Rattle.std.specs.Prelude.{◌≡◌, ◌↔◌, map, Ok, IfOk, IfSome, IsTrue};
-ghost use Rattle.std.specs.Option.{option_map};
-ghost use Rattle.pdb_base.specs.Answer.{Answers};
-ghost use Rattle.pdb_tpi.specs.Item.{item_bytes, index_of};
-ghost use Rattle.pdb_tpi.specs.Record.{type_of};
-ghost use Rattle.pdb_types.specs.Layout.{HasGaps, layout_value};
-ghost use Rattle.pdb_types.specs.TypeAt.{type_at};
-ghost use Rattle.pdb_values.specs.Text.{text_bytes};
-ghost use Rattle.pdb_values.specs.TypeView.{type_value};
-ghost use Rattle.pdbdump_layouts.specs.Classes.{AreClasses, IsClassIn, IsNameWanted, class_defined};
-ghost use Rattle.pdbdump_layouts.specs.Classes.{class_layout, class_of, named_class, modified_type};
-
 use crate::pattern::matches;
 use pdb_base::{Error, RawString, TypeIndex};
 use pdb_tpi::{OpenTable, Type};
@@ -45,9 +33,7 @@ fn class_word(kind: ClassKind) -> &'static str {
 }
 
 /// Returns what a record says of a class or a union, or None if it is of neither.
-pub(crate) fn class_of<'t>(value: &TypeData<'t>) -> Option<Class<'t>>
-    ensures { option_map named_class result ≡ class_of (type_value value.now) }
-{
+pub(crate) fn class_of<'t>(value: &TypeData<'t>) -> Option<Class<'t>> {
     match value {
         TypeData::Class(class) => Some(Class {
             word: class_word(class.kind),
@@ -64,9 +50,7 @@ pub(crate) fn class_of<'t>(value: &TypeData<'t>) -> Option<Class<'t>>
 }
 
 /// Returns the class or union that a record defines, or None if it defines none.
-fn defined_class<'t>(value: &TypeData<'t>) -> Option<Class<'t>>
-    ensures { option_map named_class result ≡ class_defined (Ok (type_value value.now)) }
-{
+fn defined_class<'t>(value: &TypeData<'t>) -> Option<Class<'t>> {
     let class = class_of(value)?;
     if class.is_forward {
         return None;
@@ -76,10 +60,7 @@ fn defined_class<'t>(value: &TypeData<'t>) -> Option<Class<'t>>
 
 /// Returns the class or union that a record defines, or None if it defines none. A record that can't
 /// be read defines none.
-fn class_defined<'t>(alloc: Global, item: &Type<'t>) -> Result<Option<Class<'t>>, AllocError>
-    ensures { IfOk result (λ class. option_map named_class class
-        ≡ class_defined (type_of (index_of item.now).0 (item_bytes item.now))) }
-{
+fn class_defined<'t>(alloc: Global, item: &Type<'t>) -> Result<Option<Class<'t>>, AllocError> {
     match item.parse(alloc) {
         Ok(value) => Ok(defined_class(&value)),
         Err(Error::OutOfMemory) => Err(AllocError),
@@ -88,9 +69,7 @@ fn class_defined<'t>(alloc: Global, item: &Type<'t>) -> Result<Option<Class<'t>>
 }
 
 /// Returns whether a name is wanted: any is if there is no pattern.
-fn is_name_wanted(pattern: Option<&[u8]>, name: RawString<'_>) -> bool
-    ensures { IsTrue result ↔ IsNameWanted (option_map (λ signs. signs.now) pattern.entry) (text_bytes name.entry) }
-{
+fn is_name_wanted(pattern: Option<&[u8]>, name: RawString<'_>) -> bool {
     match pattern {
         Some(pattern) => matches(pattern, name.as_bytes()),
         None => true,
@@ -98,10 +77,7 @@ fn is_name_wanted(pattern: Option<&[u8]>, name: RawString<'_>) -> bool
 }
 
 /// Returns whether a record is that of a class or a union that is defined and whose name is wanted.
-fn is_class(alloc: Global, item: &Type<'_>, pattern: Option<&[u8]>) -> Result<bool, AllocError>
-    ensures { IfOk result (λ is. IsTrue is ↔ IsClassIn (option_map (λ signs. signs.now) pattern.entry)
-        (type_of (index_of item.now).0 (item_bytes item.now))) }
-{
+fn is_class(alloc: Global, item: &Type<'_>, pattern: Option<&[u8]>) -> Result<bool, AllocError> {
     match class_defined(alloc, item)? {
         Some(class) => Ok(is_name_wanted(pattern, class.name)),
         None => Ok(false),
@@ -117,10 +93,7 @@ pub(crate) fn classes_in(
     alloc: Global,
     types: &OpenTable<TypeIndex>,
     pattern: Option<&[u8]>,
-) -> Result<Vec<TypeIndex>, AllocError>
-    ensures { IfOk result (λ found. AreClasses types.now.table (option_map (λ signs. signs.now) pattern.entry)
-        (map (λ index. index.0) found.items)) }
-{
+) -> Result<Vec<TypeIndex>, AllocError> {
     let header = types.items().header();
     let mut found = Vec::new(alloc);
     for number in header.minimum_index..header.maximum_index {
@@ -140,21 +113,16 @@ pub(crate) fn classes_in(
 ///
 /// # Errors
 /// Fails as `OpenTable::item` and `Type::parse` do.
-#[tactic(auto, unfolding(pdb_types::specs::TypeAt::type_at))]
 pub(crate) fn type_at<'t>(
     alloc: Global,
     types: &'t OpenTable<TypeIndex>,
     index: TypeIndex,
-) -> Result<TypeData<'t>, Error>
-    ensures { Answers type_value result (type_at types.now.table index.0) }
-{
+) -> Result<TypeData<'t>, Error> {
     types.item(index)?.parse(alloc)
 }
 
 /// Returns the type that a type with a modifier is without it, or None for another type.
-fn modified_type(value: &TypeData<'_>) -> Option<TypeIndex>
-    ensures { option_map (λ index. index.0) result ≡ modified_type (type_value value.now) }
-{
+fn modified_type(value: &TypeData<'_>) -> Option<TypeIndex> {
     match value {
         TypeData::Modifier(modifier) => Some(modifier.underlying_type),
         _ => None,
@@ -170,10 +138,7 @@ pub(crate) fn class_layout<'t>(
     alloc: Global,
     definitions: &Definitions<'t>,
     index: TypeIndex,
-) -> Result<Option<Layout<'t>>, Error>
-    ensures fields { Answers (option_map layout_value) result (class_layout definitions.now index.0) }
-    ensures gaps { IfOk result (λ layout. IfSome layout HasGaps) }
-{
+) -> Result<Option<Layout<'t>>, Error> {
     let mut index = index;
     for _ in 0..MOST_TYPES {
         let value = type_at(alloc, definitions.types(), index)?;

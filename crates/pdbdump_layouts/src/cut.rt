@@ -1,7 +1,7 @@
 //! Texts that are cut in two.
 
 ghost use Rattle.std.specs.Prelude.{◌≡◌, ◌≤◌, ◌++◌, ◌∷◌, MatchOption, drop, length};
-ghost use Rattle.pdbdump_layouts.specs.Cut.{LacksByte};
+ghost use Rattle.pdbdump_layouts.specs.Pattern.{LacksByte};
 
 /// Cuts a text at the first place of a byte: returns what is before it, and what is behind it if it
 /// is there.

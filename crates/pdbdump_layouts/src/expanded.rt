@@ -1,10 +1,6 @@
 //! The fields and gaps of a class with those of the classes within it.
 
-ghost use Rattle.std.specs.Prelude.{◌≡◌, [], ◌+◌, ◌<◌, ◌≤◌, min, true, if◌then◌else◌, IfOk};
-ghost use Rattle.std.specs.Prelude.{IsTrue, OnOk};
-ghost use Rattle.std.specs.Option.{option_map};
-ghost use Rattle.pdbdump_layouts.specs.Expanded.{AreExpanded, AreExpandedRows, AreRowsShown, FollowsRow};
-ghost use Rattle.pdbdump_layouts.specs.Expanded.{inner_start, inner_type};
+ghost use Rattle.std.specs.Prelude.{◌<◌, ◌≤◌, IsTrue};
 
 use crate::classes::class_layout;
 use crate::layout_row::{LayoutRow, rows_of};
@@ -64,19 +60,14 @@ struct Budget {
 impl Budget {
     /// Returns whether a class within a field that is so deep is left out, whatever it is, since
     /// another one was already.
-    fn is_spent(&self, depth: u32) -> bool
-        ensures { IsTrue result → self.now.is_cut ≡ true }
-    {
+    fn is_spent(&self, depth: u32) -> bool {
         self.is_cut && (self.most == 0 || depth >= MOST_DEPTH)
     }
 
     /// Takes the fields and gaps of a class within a field that is so deep from those that may yet be
     /// shown, and returns whether it is shown. If there aren't as many, none may be shown any more.
     fn take(&mut self, depth: u32, count: usize, records: usize) -> bool
-        ensures asked { self.new.asked ≡ self.old.asked }
-        ensures few { (if result then count else 0) + self.new.most ≤ self.old.most }
-        ensures cut { self.new.is_cut ≡ (if result then self.old.is_cut else true) }
-        ensures deep { IsTrue result → depth < MOST_DEPTH }
+        ensures { IsTrue result → depth < MOST_DEPTH }
     {
         if depth >= MOST_DEPTH {
             self.is_cut = true;
@@ -94,9 +85,7 @@ impl Budget {
 }
 
 /// Returns the type of a field whose own fields may be shown: that of a base class or a member.
-fn inner_type(row: &LayoutRow<'_>) -> Option<TypeIndex>
-    ensures { option_map (λ index. index.0) result ≡ inner_type row.now }
-{
+fn inner_type(row: &LayoutRow<'_>) -> Option<TypeIndex> {
     match row {
         LayoutRow::Field(field) => match field.place.kind {
             FieldKind::Base | FieldKind::Member(_) => Some(field.place.field_type),
@@ -107,9 +96,7 @@ fn inner_type(row: &LayoutRow<'_>) -> Option<TypeIndex>
 }
 
 /// Returns where the class within a field begins, in bytes from the start of the class that is shown.
-fn inner_start(start: u64, row: &LayoutRow<'_>) -> u64
-    ensures { result ≡ inner_start start row.now }
-{
+fn inner_start(start: u64, row: &LayoutRow<'_>) -> u64 {
     match row {
         LayoutRow::Field(field) => start.saturating_add(field.place.offset),
         LayoutRow::Gap(_) => start,
@@ -125,12 +112,7 @@ fn push_inner<'t>(
     budget: &mut Budget,
     shown: &mut Vec<ShownRow<'t>>,
 ) -> Result<()>
-    requires { outer.depth ≤ min budget.old.asked MOST_DEPTH }
-    ensures asked { budget.new.asked ≡ budget.old.asked }
-    ensures rows { OnOk result (AreRowsShown outer.entry.depth budget.old.asked [] budget.old.most budget.new.most
-        shown.old.items shown.new.items) }
-    ensures follows { OnOk result (FollowsRow definitions.now budget.old.asked outer.entry
-        budget.old.is_cut budget.new.is_cut shown.old.items shown.new.items) }
+    requires { outer.depth ≤ MOST_DEPTH }
 {
     if outer.depth >= budget.asked {
         return Ok(());
@@ -170,12 +152,7 @@ fn push_rows<'t>(
     budget: &mut Budget,
     shown: &mut Vec<ShownRow<'t>>,
 ) -> Result<()>
-    requires { depth ≤ min budget.old.asked MOST_DEPTH }
-    ensures asked { budget.new.asked ≡ budget.old.asked }
-    ensures rows { OnOk result (AreRowsShown depth budget.old.asked rows.now budget.old.most budget.new.most
-        shown.old.items shown.new.items) }
-    ensures expanded { OnOk result (AreExpandedRows definitions.now budget.old.asked depth start
-        budget.old.is_cut budget.new.is_cut rows.now shown.old.items shown.new.items) }
+    requires { depth ≤ MOST_DEPTH }
 {
     for row in rows {
         let outer = ShownRow {
@@ -204,9 +181,7 @@ pub(crate) fn expand<'t>(
     definitions: &Definitions<'t>,
     layout: &Layout<'t>,
     depth: u32,
-) -> Result<Expansion<'t>>
-    ensures { IfOk result (AreExpanded definitions.now layout.now depth) }
-{
+) -> Result<Expansion<'t>> {
     let own = rows_of(alloc, layout)?;
     let mut rows = Vec::new(alloc);
     let mut budget = Budget {

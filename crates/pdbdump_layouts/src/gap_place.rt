@@ -1,8 +1,5 @@
 //! Where gaps are in what is shown.
 
-ghost use Rattle.std.specs.Prelude.{◌≡◌};
-ghost use Rattle.pdbdump_layouts.specs.GapPlace.{cap_at_64_bits, gap_place};
-
 use pdb_types::Gap;
 
 /// Where a gap begins in what is shown, and how large it is. Each number is at most 2^64 - 1.
@@ -22,16 +19,12 @@ pub(crate) struct GapPlace {
 }
 
 /// Returns a number, or 2^64 - 1 if that is less.
-fn cap_at_64_bits(number: u128) -> u64
-    ensures { result ≡ cap_at_64_bits number }
-{
+fn cap_at_64_bits(number: u128) -> u64 {
     u64::try_from(number).unwrap_or(u64::MAX)
 }
 
 /// Returns where a gap is in what is shown, of which its class begins at an offset.
-pub(crate) fn gap_place(start: u64, gap: &Gap) -> GapPlace
-    ensures { result ≡ gap_place start gap.now }
-{
+pub(crate) fn gap_place(start: u64, gap: &Gap) -> GapPlace {
     let width = gap.bits.end.saturating_sub(gap.bits.start);
     GapPlace {
         offset: start.saturating_add(cap_at_64_bits(gap.bits.start / 8)),

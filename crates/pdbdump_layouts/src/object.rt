@@ -1,14 +1,5 @@
 //! The fields and gaps of a layout as objects of JSON.
 
-ghost use Rattle.std.specs.Prelude.{◌≡◌};
-ghost use Rattle.std.specs.Option.{option_map};
-ghost use Rattle.pdb_values.specs.Text.{text_bytes};
-ghost use Rattle.pdbdump_rows.specs.Line.{ShowsFields};
-ghost use Rattle.pdb_types.specs.FieldPlace.{field_role};
-ghost use Rattle.pdb_types.specs.Layout.{field_value};
-ghost use Rattle.pdbdump_layouts.specs.Object.{extent_fields, field_object, gap_object, gap_word};
-ghost use Rattle.pdbdump_layouts.specs.Object.{member_name, role_word, virtual_base_object};
-
 use crate::gap_place::gap_place;
 use crate::names::{BIT, BITS, DECLARATION, DEPTH, TYPE, TYPE_INDEX, VIRTUAL_BASE};
 use pdb_base::RawString;
@@ -17,9 +8,7 @@ use pdbdump_rows::names::{DIRECT, KIND, NAME, OFFSET, POSITION, SIZE};
 use pdbdump_rows::{Line, LineResult, Value, optional_text};
 
 /// Returns the word for what a field is.
-fn role_word(kind: &FieldKind<'_>) -> &'static str
-    ensures { result.now ≡ role_word (field_role kind.now) }
-{
+fn role_word(kind: &FieldKind<'_>) -> &'static str {
     match kind {
         FieldKind::Base => "base",
         FieldKind::VirtualBasePointer(_) => "vbptr",
@@ -29,9 +18,7 @@ fn role_word(kind: &FieldKind<'_>) -> &'static str
 }
 
 /// Returns the name of a field, which only a data member has.
-fn role_name<'t>(kind: &FieldKind<'t>) -> Option<RawString<'t>>
-    ensures { option_map text_bytes result ≡ member_name (field_role kind.now) }
-{
+fn role_name<'t>(kind: &FieldKind<'t>) -> Option<RawString<'t>> {
     match kind {
         FieldKind::Member(name) => Some(*name),
         _ => None,
@@ -40,9 +27,7 @@ fn role_name<'t>(kind: &FieldKind<'t>) -> Option<RawString<'t>>
 
 /// Adds the size of a field in bytes, if something says it; or the bit at which a bit field begins,
 /// and how many it has.
-fn show_extent(line: &mut Line, extent: &Extent) -> LineResult
-    ensures { ShowsFields (extent_fields extent.now) line.old line.new result }
-{
+fn show_extent(line: &mut Line, extent: &Extent) -> LineResult {
     match extent {
         Extent::Bytes(size) => line.field(SIZE, Value::Number(*size)),
         Extent::Bits(bits) => {
@@ -55,9 +40,7 @@ fn show_extent(line: &mut Line, extent: &Extent) -> LineResult
 
 /// Adds which virtual base class a field leads to, if it leads to one: whether the class itself
 /// names it, and its position in the table of virtual bases.
-fn show_virtual_base(line: &mut Line, kind: &FieldKind<'_>) -> LineResult
-    ensures { ShowsFields (virtual_base_object (field_role kind.now)) line.old line.new result }
-{
+fn show_virtual_base(line: &mut Line, kind: &FieldKind<'_>) -> LineResult {
     match kind {
         FieldKind::VirtualBasePointer(base) => {
             line.field(VIRTUAL_BASE, Value::Hexadecimal(base.base_class.0))?;
@@ -74,7 +57,6 @@ fn show_virtual_base(line: &mut Line, kind: &FieldKind<'_>) -> LineResult
 ///
 /// # Errors
 /// Fails if an allocation fails.
-#[tactic(auto, unfolding(crate::specs::Object::field_object), using(crate::proofs::ObjectLemmas::fields_both))]
 pub(crate) fn show_field(
     line: &mut Line,
     depth: u32,
@@ -82,10 +64,7 @@ pub(crate) fn show_field(
     part: &LayoutField<'_>,
     type_text: &[u8],
     declaration: &[u8],
-) -> LineResult
-    ensures { ShowsFields (field_object depth offset (field_value part.now) type_text.now declaration.now)
-        line.old line.new result }
-{
+) -> LineResult {
     let kind = &part.place.kind;
     line.field(KIND, Value::Word(role_word(kind)))?;
     line.field(DEPTH, Value::Number(depth as u64))?;
@@ -100,9 +79,7 @@ pub(crate) fn show_field(
 }
 
 /// Returns the word for why no field takes bits.
-fn gap_word(kind: GapKind) -> &'static str
-    ensures { result.now ≡ gap_word kind }
-{
+fn gap_word(kind: GapKind) -> &'static str {
     match kind {
         GapKind::Hole => "hole",
         GapKind::UnusedBits => "unused_bits",
@@ -115,10 +92,7 @@ fn gap_word(kind: GapKind) -> &'static str
 ///
 /// # Errors
 /// Fails if an allocation fails.
-#[tactic(auto, unfolding(crate::specs::Object::gap_object))]
-pub(crate) fn show_gap(line: &mut Line, depth: u32, start: u64, gap: &Gap) -> LineResult
-    ensures { ShowsFields (gap_object depth start gap.now) line.old line.new result }
-{
+pub(crate) fn show_gap(line: &mut Line, depth: u32, start: u64, gap: &Gap) -> LineResult {
     let place = gap_place(start, gap);
     line.field(KIND, Value::Word(gap_word(gap.kind)))?;
     line.field(DEPTH, Value::Number(depth as u64))?;

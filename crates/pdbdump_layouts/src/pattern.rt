@@ -3,8 +3,7 @@
 ghost use Rattle.std.specs.Prelude.{◌≡◌, ◌↔◌, ◌∷◌, ℕ, IsTrue, MatchOption};
 ghost use Rattle.std.specs.List.{list_any};
 ghost use Rattle.std.specs.Option.{option_map};
-ghost use Rattle.pdbdump_layouts.specs.Cut.{LacksByte};
-ghost use Rattle.pdbdump_layouts.specs.Pattern.{IsFirst, IsNowhere, Means, behind_signs, is_sign};
+ghost use Rattle.pdbdump_layouts.specs.Pattern.{IsFirst, IsNowhere, LacksByte, Means, behind_signs, is_sign};
 
 use crate::cut::{cut_at, text_from};
 

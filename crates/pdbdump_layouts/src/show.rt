@@ -1,15 +1,10 @@
 //! The layouts that a call shows: of all classes, or of those that names mean.
 
-ghost use Rattle.std.specs.Prelude.{◌≡◌, ◌≢◌, ◌++◌, map, true, IfOk, OnOk};
+ghost use Rattle.std.specs.Prelude.{◌≡◌, OnOk};
 ghost use Rattle.pdb_base.specs.Answer.{Answers};
 ghost use Rattle.pdb_base.specs.Memory.{FailsOnlyForMemory};
-ghost use Rattle.pdb_base.specs.declared.error.Error.TheVariants.{OutOfMemory};
-ghost use Rattle.pdb_output.specs.Output.{Gets, OutputState};
 ghost use Rattle.pdb_tpi.specs.Table.{table_of};
-ghost use Rattle.pdbdump_layouts.specs.Shown.{AreFirst, AreLayoutsShown, AreNamesMeant, AreOrdered};
-ghost use Rattle.pdbdump_layouts.specs.Shown.{AreTypesShown, HasLayout, IsCallAnswered};
-ghost use Rattle.pdbdump_layouts.specs.Shown.{IsNameMeant, IsShowResult, IsStopped, IsMessageTold};
-ghost use Rattle.pdbdump_layouts.specs.Shown.{IsTypeShown, is_wanted, layout_separator};
+ghost use Rattle.pdbdump_layouts.specs.Shown.{IsShowResult, IsStopped, StaysAccounted};
 
 use crate::c_style::c_text;
 use crate::classes::{class_layout, class_of, classes_in, type_at};
@@ -77,9 +72,7 @@ fn tell<E: Write>(
     progress: &mut Progress,
     err: &mut Output<E>,
 ) -> Result<(), Error>
-    ensures told { OnOk result ((out : OutputState) → IsMessageTold
-        (record { progress = progress.old; out = out; err = err.old })
-        (record { progress = progress.new; out = out; err = err.new })) }
+    ensures accounted { OnOk result (StaysAccounted progress.old progress.new err.old err.new) }
     ensures memory { FailsOnlyForMemory result }
 {
     let mut line = escape_text(alloc, what)?;
@@ -99,9 +92,7 @@ fn tell_index<E: Write>(
     progress: &mut Progress,
     err: &mut Output<E>,
 ) -> Result<(), Error>
-    ensures told { OnOk result ((out : OutputState) → IsMessageTold
-        (record { progress = progress.old; out = out; err = err.old })
-        (record { progress = progress.new; out = out; err = err.new })) }
+    ensures accounted { OnOk result (StaysAccounted progress.old progress.new err.old err.new) }
     ensures memory { FailsOnlyForMemory result }
 {
     let number = index.0;
@@ -117,10 +108,7 @@ fn tell_fault<E: Write>(
     progress: &mut Progress,
     err: &mut Output<E>,
 ) -> Result<(), Error>
-    ensures told { OnOk result ((out : OutputState) → IsMessageTold
-        (record { progress = progress.old; out = out; err = err.old })
-        (record { progress = progress.new; out = out; err = err.new })) }
-    ensures other { OnOk result (fault.now ≢ OutOfMemory) }
+    ensures accounted { OnOk result (StaysAccounted progress.old progress.new err.old err.new) }
     ensures memory { FailsOnlyForMemory result }
 {
     match fault {
@@ -133,16 +121,12 @@ fn tell_fault<E: Write>(
 }
 
 /// Returns whether a layout is among those that are wanted.
-fn is_wanted(layout: &Layout<'_>, options: &Options) -> bool
-    ensures { result ≡ is_wanted options.now layout.now }
-{
+fn is_wanted(layout: &Layout<'_>, options: &Options) -> bool {
     !options.has_holes || totals_of(&layout.gaps).holes > 0
 }
 
 /// Returns what is written between two layouts: a line feed, if they are texts.
-fn separator(form: Form, has_shown: bool) -> &'static [u8]
-    ensures { result.now ≡ layout_separator form has_shown }
-{
+fn separator(form: Form, has_shown: bool) -> &'static [u8] {
     match form {
         Form::Text if has_shown => b"\n",
         _ => b"",
@@ -156,9 +140,6 @@ fn write_layout<O: Write>(
     progress: &mut Progress,
     out: &mut Output<O>,
 ) -> Result<(), Error>
-    ensures written { OnOk result
-        (Gets out.old out.new (layout_separator form progress.old.has_shown ++ text.now)) }
-    ensures shown { OnOk result (progress.new.has_shown ≡ true) }
     ensures whole { progress.new.is_whole ≡ progress.old.is_whole }
     ensures stopped { IsStopped out.new result }
 {
@@ -179,11 +160,7 @@ fn show_layout<O: Write, E: Write>(
     out: &mut Output<O>,
     err: &mut Output<E>,
 ) -> Result<(), Error>
-    requires layout { HasLayout definitions.now index.0 layout.now }
-    requires wanted { is_wanted options.now layout.now ≡ true }
-    ensures shown { OnOk result (IsTypeShown definitions.now options.now form index.0
-        (record { progress = progress.old; out = out.old; err = err.old })
-        (record { progress = progress.new; out = out.new; err = err.new })) }
+    ensures accounted { OnOk result (StaysAccounted progress.old progress.new err.old err.new) }
     ensures stopped { IsStopped out.new result }
 {
     match layout_text(alloc, definitions, layout, options, form) {
@@ -203,9 +180,7 @@ fn show_type<O: Write, E: Write>(
     out: &mut Output<O>,
     err: &mut Output<E>,
 ) -> Result<(), Error>
-    ensures shown { OnOk result (IsTypeShown definitions.now options.now form index.0
-        (record { progress = progress.old; out = out.old; err = err.old })
-        (record { progress = progress.new; out = out.new; err = err.new })) }
+    ensures accounted { OnOk result (StaysAccounted progress.old progress.new err.old err.new) }
     ensures stopped { IsStopped out.new result }
 {
     match class_layout(alloc, definitions, index) {
@@ -241,9 +216,7 @@ fn show_types<O: Write, E: Write>(
     out: &mut Output<O>,
     err: &mut Output<E>,
 ) -> Result<(), Error>
-    ensures shown { OnOk result (AreTypesShown definitions.now options.now form (map (λ index. index.0) indexes.now)
-        (record { progress = progress.old; out = out.old; err = err.old })
-        (record { progress = progress.new; out = out.new; err = err.new })) }
+    ensures accounted { OnOk result (StaysAccounted progress.old progress.new err.old err.new) }
     ensures stopped { IsStopped out.new result }
 {
     for index in indexes {
@@ -310,10 +283,7 @@ fn ranks_of<'t>(
     definitions: &Definitions<'t>,
     indexes: &[TypeIndex],
     order: Order,
-) -> Result<Vec<Rank<'t>>, AllocError>
-    ensures { IfOk result
-        (λ ranks. map (λ rank. rank.index.0) ranks.items ≡ map (λ index. index.0) indexes.now) }
-{
+) -> Result<Vec<Rank<'t>>, AllocError> {
     let mut ranks = Vec::new(alloc);
     for index in indexes {
         ranks.push(Rank {
@@ -326,9 +296,7 @@ fn ranks_of<'t>(
 }
 
 /// Returns the types of ranks.
-fn types_of(alloc: Global, ranks: &[Rank<'_>]) -> Result<Vec<TypeIndex>, AllocError>
-    ensures { IfOk result (λ types. map (λ index. index.0) types.items ≡ map (λ rank. rank.index.0) ranks.now) }
-{
+fn types_of(alloc: Global, ranks: &[Rank<'_>]) -> Result<Vec<TypeIndex>, AllocError> {
     let mut types = Vec::new(alloc);
     for rank in ranks {
         types.push(rank.index)?;
@@ -342,10 +310,7 @@ fn sort_types(
     definitions: &Definitions<'_>,
     indexes: Vec<TypeIndex>,
     order: Option<Order>,
-) -> Result<Vec<TypeIndex>, AllocError>
-    ensures { IfOk result (λ sorted. AreOrdered order (map (λ index. index.0) indexes.items)
-        (map (λ index. index.0) sorted.items)) }
-{
+) -> Result<Vec<TypeIndex>, AllocError> {
     let Some(order) = order else {
         return Ok(indexes);
     };
@@ -371,9 +336,7 @@ fn find_name<O: Write, E: Write>(
     out: &mut Output<O>,
     err: &mut Output<E>,
 ) -> Result<(), Error>
-    ensures meant { OnOk result (IsNameMeant definitions.now name.now (map (λ index. index.0) found.old.items)
-        (record { progress = progress.old; out = out.old; err = err.old })
-        (record { progress = progress.new; out = out.new; err = err.new }) (map (λ index. index.0) found.new.items)) }
+    ensures accounted { OnOk result (StaysAccounted progress.old progress.new err.old err.new) }
     ensures stopped { IsStopped out.new result }
 {
     let types = types_named(alloc, definitions, name)?;
@@ -403,10 +366,7 @@ fn find_names<O: Write, E: Write>(
     out: &mut Output<O>,
     err: &mut Output<E>,
 ) -> Result<(), Error>
-    ensures meant { OnOk result (AreNamesMeant definitions.now (map (λ name. name.now) names.now)
-        (map (λ index. index.0) found.old.items) (map (λ index. index.0) found.new.items)
-        (record { progress = progress.old; out = out.old; err = err.old })
-        (record { progress = progress.new; out = out.new; err = err.new })) }
+    ensures accounted { OnOk result (StaysAccounted progress.old progress.new err.old err.new) }
     ensures stopped { IsStopped out.new result }
 {
     for name in names {
@@ -420,9 +380,7 @@ fn first_types(
     alloc: Global,
     types: &OpenTable<TypeIndex>,
     has_all: bool,
-) -> Result<Vec<TypeIndex>, AllocError>
-    ensures { IfOk result (λ found. AreFirst types.now.table has_all (map (λ index. index.0) found.items)) }
-{
+) -> Result<Vec<TypeIndex>, AllocError> {
     if has_all {
         classes_in(alloc, types, None)
     } else {
@@ -442,9 +400,7 @@ fn show_asked<O: Write, E: Write>(
     out: &mut Output<O>,
     err: &mut Output<E>,
 ) -> Result<(), Error>
-    ensures shown { OnOk result (AreLayoutsShown definitions.now (map (λ name. name.now) names.now) options.now form
-        (record { progress = progress.old; out = out.old; err = err.old })
-        (record { progress = progress.new; out = out.new; err = err.new })) }
+    ensures accounted { OnOk result (StaysAccounted progress.old progress.new err.old err.new) }
     ensures stopped { IsStopped out.new result }
 {
     let mut found = first_types(alloc, definitions.types(), options.all)?;
@@ -500,9 +456,7 @@ pub fn show_layouts<O: Write, E: Write>(
     out: &mut Output<O>,
     err: &mut Output<E>,
 ) -> Result<bool, Error>
-    ensures shown { IsShowResult stream (map (λ name. name.now) names.now) options.now form
-        out.old out.new err.old err.new result }
-    ensures answered { IsCallAnswered result err.old err.new }
+    ensures { IsShowResult stream out.old out.new err.old err.new result }
 {
     let types = learn_table(alloc, stream)?;
     let definitions = Definitions::new(alloc, &types)?;

@@ -1,8 +1,5 @@
 //! What the gaps of a layout add up to.
 
-ghost use Rattle.std.specs.Prelude.{◌≡◌};
-ghost use Rattle.pdbdump_layouts.specs.Totals.{totals_of};
-
 use crate::gap_place::gap_place;
 use pdb_types::{Gap, GapKind};
 
@@ -21,9 +18,7 @@ pub(crate) struct Totals {
 }
 
 /// Returns what gaps add up to.
-pub(crate) fn totals_of(gaps: &[Gap]) -> Totals
-    ensures { result ≡ totals_of gaps.now }
-{
+pub(crate) fn totals_of(gaps: &[Gap]) -> Totals {
     let mut totals = Totals {
         holes: 0,
         hole_bytes: 0,

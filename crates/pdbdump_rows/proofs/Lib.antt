@@ -1,7 +1,6 @@
 pub mod Digits
 pub mod LineLaws
 pub mod PlainText
-pub mod RowLemmas
 pub mod Separated
 pub mod StringLaws
 pub mod WordLemmas

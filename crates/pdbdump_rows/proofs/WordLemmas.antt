@@ -5,7 +5,7 @@ use Rattle.std.proofs.lemmas.Bool.{false≢true}
 use Rattle.std.proofs.lemmas.List.{append-nil, map-append, take_more}
 use Rattle.pdbdump_rows.specs.Lines.{is_none, separate}
 use Rattle.pdbdump_rows.proofs.Separated.{before, separated_more}
-use Rattle.pdbdump_rows.specs.Words.{words_beside_true}
+use Rattle.pdbdump_rows.specs.Row.{words_beside_true}
 
 -- a flag and its word, as the code has them
 abbrev pub Flag : Type 0

@@ -2,11 +2,5 @@ pub mod Row
 pub mod Text
 pub mod Lines
 pub mod Line
-pub mod Words
-pub mod Fields
-pub mod TypeRows
-pub mod EntryRows
-pub mod IdRows
-pub mod TableRows
-pub mod Refused
+pub mod Rows
 pub mod Laws

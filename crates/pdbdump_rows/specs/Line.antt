@@ -7,7 +7,8 @@ use Rattle.pdb_output.specs.Output.{OutputState, Writes}
 use Rattle.pdbdump_rows.specs.declared.form.Form.{Form}
 use Rattle.pdbdump_rows.specs.declared.form.Form.TheVariants.{Text, Json}
 use Rattle.pdbdump_rows.specs.Lines.{field_line, field_text, full_text, is_shown, line_feed, row_text, separator}
-use Rattle.pdbdump_rows.specs.Row.{ShownField, ShownRow}
+use Rattle.pdbdump_rows.specs.Row.{ShownField, ShownRow, hexadecimal, number}
+use Rattle.pdbdump_rows.specs.declared.names.TheConstants.{INDEX, NUMBER, SOURCE_ADDRESS}
 
 -- A line so far: its form, whether each field has a line of its own, the bytes, and whether it shows no field yet.
 pub record LineState : Type 0 where
@@ -67,38 +68,82 @@ end_bytes line = if line.is_full then [] else (if line.is_empty then line_openin
 unfoldable pub line_bytes : LineState → List ℕ
 line_bytes line = line.bytes ++ end_bytes line
 
--- Fields were added to a line; or memory ran out.
-abbrev pub ShowsFields : ShownRow → LineState → LineState → Result (Unit {0}) AllocError → Type 0
-ShowsFields row old new (Ok done) = new ≡ all_shown old row
-ShowsFields row old new (Err e) = ⊤
+-- A field was added to a line; or memory ran out.
+abbrev pub ShowsField : ShownField → LineState → LineState → Result (Unit {0}) AllocError → Type 0
+ShowsField field old new (Ok done) = new ≡ add_field old field
+ShowsField field old new (Err e) = ⊤
+
+-- the field that a row of an index begins with, and that of a number
+abbrev pub indexed : ℕ → ShownRow
+indexed index = (INDEX.now, hexadecimal index) ∷ []
+
+abbrev pub numbered : ℕ → ShownRow
+numbered n = (NUMBER.now, number n) ∷ []
+
+-- the field that an OMAP record begins with
+abbrev pub moved_from : ℕ → ShownRow
+moved_from address = (SOURCE_ADDRESS.now, hexadecimal address) ∷ []
+
+-- A row was added to a line that begins with these fields.
+pub record HasRow (front : ShownRow) (old new : LineState) : Type 0 where
+  pub rest : ShownRow
+  pub shown : new ≡ all_shown (all_shown old front) rest
+
+-- The same; or memory ran out.
+abbrev pub ShowsRow : ShownRow → LineState → LineState → Result (Unit {0}) AllocError → Type 0
+ShowsRow front old new (Ok done) = HasRow front old new
+ShowsRow front old new (Err e) = ⊤
 
 -- A line has ended with this text; or memory ran out.
 abbrev pub EndsLine : List ℕ → LineState → Result (Unit {0}) AllocError → Type 0
 EndsLine text new (Ok done) = new.bytes ≡ text
 EndsLine text new (Err e) = ⊤
 
--- Bytes were added to others; or memory ran out.
-abbrev pub Adds : List ℕ → List ℕ → List ℕ → Result (Unit {0}) Error → Type 0
-Adds text old new (Ok done) = new ≡ old ++ text
-Adds text old new (Err e) = e ≡ OutOfMemory
+-- A text is a row that begins with these fields, in the way in which rows are shown.
+pub record IsRow (show : ShownRow → List ℕ) (front : ShownRow) (text : List ℕ) : Type 0 where
+  pub rest : ShownRow
+  pub shown : text ≡ show (front ++ rest)
 
--- The line of the fields that were added has ended, as one line or in full, whichever they are; or memory ran out.
+-- A line has ended as such a row; or memory ran out.
+abbrev pub EndsRow : (ShownRow → List ℕ) → ShownRow → LineState → Result (Unit {0}) AllocError → Type 0
+EndsRow show front new (Ok done) = IsRow show front new.bytes
+EndsRow show front new (Err e) = ⊤
+
+-- A text of which this holds was written, or cut short.
+pub record WritesWhat (Holds : List ℕ → Type 0) (old new : OutputState) (result : Result (Unit {0}) Error)
+    : Type 0 where
+  pub text : List ℕ
+  pub holds : Holds text
+  pub written : Writes text old new result
+
+-- A text of which this holds was added to others.
+pub record HasText (Holds : List ℕ → Type 0) (old new : List ℕ) : Type 0 where
+  pub text : List ℕ
+  pub holds : Holds text
+  pub added : new ≡ old ++ text
+
+-- The same; or memory ran out.
+abbrev pub AddsText : (List ℕ → Type 0) → List ℕ → List ℕ → Result (Unit {0}) Error → Type 0
+AddsText Holds old new (Ok done) = HasText Holds old new
+AddsText Holds old new (Err e) = e ≡ OutOfMemory
+
+-- The row that was added to a line has ended, as one line or in full; or memory ran out.
 pub record IsLineEnded (old : LineState) (added : Result (Unit {0}) AllocError) (new : LineState)
     (result : Result (Unit {0}) AllocError) : Type 0 where
-  pub row : (form : Form) (start : LineState) (row : ShownRow) → ShowsFields row start old added → start ≡ begun form
-      → EndsLine (row_text form row) new result
-  pub full : (form : Form) (start : LineState) (row : ShownRow) → ShowsFields row start old added → start
+  pub row : (form : Form) (start : LineState) (front : ShownRow) → ShowsRow front start old added → start ≡ begun form
+      → EndsRow (row_text form) front new result
+  pub full : (form : Form) (start : LineState) (front : ShownRow) → ShowsRow front start old added → start
       ≡ begun_full form
-      → EndsLine (full_text form row) new result
+      → EndsRow (full_text form) front new result
 
--- The line of the fields that were added was written, whichever they are; or it was cut short.
+-- The line of the row that was added to it was written; or it was cut short.
 pub record IsLineWritten (line : LineState) (added : Result (Unit {0}) AllocError) (old new : OutputState)
     (result : Result (Unit {0}) Error) : Type 0 where
-  pub row : (form : Form) (start : LineState) (row : ShownRow) → ShowsFields row start line added → start ≡ begun form
-      → Writes (row_text form row) old new result
+  pub row : (form : Form) (start : LineState) (front : ShownRow) → ShowsRow front start line added → start ≡ begun form
+      → WritesWhat (IsRow (row_text form) front) old new result
 
--- The line of the fields that were added was appended to a text, whichever they are; or memory ran out.
+-- The line of the row that was added to it was appended to a text; or memory ran out.
 pub record IsLineAppended (line : LineState) (added : Result (Unit {0}) AllocError) (old new : List ℕ)
     (result : Result (Unit {0}) Error) : Type 0 where
-  pub row : (form : Form) (start : LineState) (row : ShownRow) → ShowsFields row start line added → start ≡ begun form
-      → Adds (row_text form row) old new result
+  pub row : (form : Form) (start : LineState) (front : ShownRow) → ShowsRow front start line added → start ≡ begun form
+      → AddsText (IsRow (row_text form) front) old new result

@@ -1,9 +1,9 @@
 -- A row as a value, independent of where its bytes are stored: a name, a word or another text is the list
 -- of its bytes.
 use Rattle.std.specs.Prelude.{ℕ, ℤ, Bool, List, map}
+use Rattle.std.specs.List.{filter}
 use Rattle.pdbdump_rows.specs.declared.value.Value.{Value}
 use Rattle.pdbdump_rows.specs.declared.value.Value.TheVariants as values
-use Rattle.pdbdump_rows.specs.Words.{words_beside_true}
 
 -- the value that a field shows
 pub data ShownValue : Type 0 where
@@ -25,6 +25,10 @@ ShownField = List ℕ × ShownValue
 -- the fields of a row, in order
 abbrev pub ShownRow : Type 0
 ShownRow = List ShownField
+
+-- the words of the flags that are set, in order
+unfoldable pub words_beside_true : List (Bool × List ℕ) → List (List ℕ)
+words_beside_true flags = map (λ flag. flag.1) (filter (λ flag. flag.0) flags)
 
 -- the shown value of a `Value`
 abbrev pub value_shown : Value → ShownValue

@@ -1,12 +1,12 @@
 //! The entries of lists, field by field. They have no index.
 
-ghost use Rattle.std.specs.Prelude.{◌≡◌};
-ghost use Rattle.pdb_values.specs.TypeView.{type_value};
-ghost use Rattle.pdbdump_rows.specs.EntryRows.{base_class_leaf, class_leaf, field_row, shown_leaf, virtual_base_leaf};
-ghost use Rattle.pdbdump_rows.specs.Line.{ShowsFields};
+#![tactic(auto, using(crate::proofs::lemmas::Line::adding))]
+
+ghost use Rattle.std.specs.Prelude.{[]};
+ghost use Rattle.pdbdump_rows.specs.Line.{ShowsRow};
 
 use crate::line::{Line, LineResult};
-use crate::type_rows::{show_fields, show_head};
+use crate::type_rows::show_fields;
 use pdb_values::constants::{
     LF_ARGLIST, LF_ARRAY, LF_BCLASS, LF_BINTERFACE, LF_BITFIELD, LF_CLASS, LF_ENUM, LF_ENUMERATE,
     LF_FIELDLIST, LF_INTERFACE, LF_IVBCLASS, LF_MEMBER, LF_METHOD, LF_METHODLIST, LF_MFUNCTION,
@@ -17,9 +17,7 @@ use pdb_values::{BaseClassType, ClassKind, TypeData, VirtualBaseClassType};
 use std::alloc::Global;
 
 /// Returns the record kind of a class of this kind.
-fn class_leaf(kind: ClassKind) -> u16
-    ensures { result ≡ class_leaf kind }
-{
+fn class_leaf(kind: ClassKind) -> u16 {
     match kind {
         ClassKind::Class => LF_CLASS,
         ClassKind::Struct => LF_STRUCTURE,
@@ -28,9 +26,7 @@ fn class_leaf(kind: ClassKind) -> u16
 }
 
 /// Returns the record kind of a base class.
-fn base_class_leaf(base: BaseClassType) -> u16
-    ensures { result ≡ base_class_leaf base.kind }
-{
+fn base_class_leaf(base: BaseClassType) -> u16 {
     match base.kind {
         ClassKind::Interface => LF_BINTERFACE,
         _ => LF_BCLASS,
@@ -38,16 +34,12 @@ fn base_class_leaf(base: BaseClassType) -> u16
 }
 
 /// Returns the record kind of a virtual base class.
-fn virtual_base_leaf(base: VirtualBaseClassType) -> u16
-    ensures { result ≡ virtual_base_leaf base.direct }
-{
+fn virtual_base_leaf(base: VirtualBaseClassType) -> u16 {
     if base.direct { LF_VBCLASS } else { LF_IVBCLASS }
 }
 
 /// Returns the record kind that today's compilers write for a type like this.
-fn leaf_of(data: &TypeData<'_>) -> u16
-    ensures { result ≡ shown_leaf (type_value «data».now) }
-{
+fn leaf_of(data: &TypeData<'_>) -> u16 {
     match data {
         TypeData::Primitive(_) => LF_NULL,
         TypeData::Class(class) => class_leaf(class.kind),
@@ -80,10 +72,8 @@ fn leaf_of(data: &TypeData<'_>) -> u16
 ///
 /// # Errors
 /// Fails if an allocation fails.
-#[tactic(auto, unfolding(crate::specs::EntryRows::field_row))]
 pub fn show_entry(alloc: Global, line: &mut Line, data: &TypeData<'_>) -> LineResult
-    ensures { ShowsFields (field_row (type_value «data».now)) line.old line.new result }
+    ensures { ShowsRow [] line.old line.new result }
 {
-    show_head(line, None, leaf_of(data))?;
-    show_fields(alloc, line, data)
+    show_fields(alloc, line, leaf_of(data), data)
 }

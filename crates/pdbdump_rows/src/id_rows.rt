@@ -1,20 +1,16 @@
 //! Ids, field by field.
 
-ghost use Rattle.std.specs.Prelude.{◌≡◌};
-ghost use Rattle.pdb_values.specs.IdValue.{build_arguments, function_value, id_value, member_function_value};
-ghost use Rattle.pdb_values.specs.IdValue.{string_value, text_parts};
-ghost use Rattle.pdbdump_rows.specs.Line.{ShowsFields};
-ghost use Rattle.pdbdump_rows.specs.IdRows.{build_info_fields, function_fields, id_fields, id_row};
-ghost use Rattle.pdbdump_rows.specs.IdRows.{member_function_fields, source_fields, source_file, source_module};
-ghost use Rattle.pdbdump_rows.specs.IdRows.{string_fields, string_list_fields};
-ghost use Rattle.pdbdump_rows.specs.Row.{value_shown};
+#![tactic(auto, using(crate::proofs::lemmas::Line::adding))]
+
+ghost use Rattle.std.specs.Prelude.{[]};
+ghost use Rattle.pdbdump_rows.specs.Line.{ShowsRow, indexed};
 
 use crate::line::{Line, LineResult};
 use crate::lists::{id_numbers, type_numbers};
 use crate::names::{
-    ARGUMENTS, FUNCTION_TYPE, LINE, MODULE, NAME, PARENT, SCOPE, SOURCE_FILE, SUBSTRINGS, UDT,
+    ARGUMENTS, FUNCTION_TYPE, INDEX, KIND, LINE, MODULE, NAME, PARENT, SCOPE, SOURCE_FILE,
+    SUBSTRINGS, UDT,
 };
-use crate::type_rows::show_head;
 use crate::value::{Value, optional_id, type_index};
 use pdb_values::{
     BuildInfoId, FunctionId, IdData, MemberFunctionId, StringId, StringListId,
@@ -23,9 +19,8 @@ use pdb_values::{
 use std::alloc::Global;
 
 /// Adds the fields of a function.
-#[tactic(auto, unfolding(crate::specs::IdRows::function_fields))]
 fn show_function(line: &mut Line, id: &FunctionId<'_>) -> LineResult
-    ensures { ShowsFields (function_fields (function_value id.now)) line.old line.new result }
+    ensures { ShowsRow [] line.old line.new result }
 {
     line.field(NAME, Value::Text(id.name))?;
     line.field(SCOPE, optional_id(id.scope))?;
@@ -34,9 +29,8 @@ fn show_function(line: &mut Line, id: &FunctionId<'_>) -> LineResult
 }
 
 /// Adds the fields of a method.
-#[tactic(auto, unfolding(crate::specs::IdRows::member_function_fields))]
 fn show_member_function(line: &mut Line, id: &MemberFunctionId<'_>) -> LineResult
-    ensures { ShowsFields (member_function_fields (member_function_value id.now)) line.old line.new result }
+    ensures { ShowsRow [] line.old line.new result }
 {
     line.field(NAME, Value::Text(id.name))?;
     line.field(PARENT, type_index(id.parent))?;
@@ -45,9 +39,8 @@ fn show_member_function(line: &mut Line, id: &MemberFunctionId<'_>) -> LineResul
 }
 
 /// Adds the fields of what a module was built with.
-#[tactic(auto, unfolding(crate::specs::IdRows::build_info_fields))]
 fn show_build_info(alloc: Global, line: &mut Line, id: &BuildInfoId) -> LineResult
-    ensures { ShowsFields (build_info_fields (build_arguments id.now)) line.old line.new result }
+    ensures { ShowsRow [] line.old line.new result }
 {
     let arguments = id_numbers(alloc, &id.arguments)?;
     line.field(ARGUMENTS, Value::Indexes(&arguments))?;
@@ -55,9 +48,8 @@ fn show_build_info(alloc: Global, line: &mut Line, id: &BuildInfoId) -> LineResu
 }
 
 /// Adds the fields of the parts of a text.
-#[tactic(auto, unfolding(crate::specs::IdRows::string_list_fields))]
 fn show_string_list(alloc: Global, line: &mut Line, id: &StringListId) -> LineResult
-    ensures { ShowsFields (string_list_fields (text_parts id.now)) line.old line.new result }
+    ensures { ShowsRow [] line.old line.new result }
 {
     let substrings = type_numbers(alloc, &id.substrings)?;
     line.field(SUBSTRINGS, Value::Indexes(&substrings))?;
@@ -65,9 +57,8 @@ fn show_string_list(alloc: Global, line: &mut Line, id: &StringListId) -> LineRe
 }
 
 /// Adds the fields of a text.
-#[tactic(auto, unfolding(crate::specs::IdRows::string_fields))]
 fn show_string(line: &mut Line, id: &StringId<'_>) -> LineResult
-    ensures { ShowsFields (string_fields (string_value id.now)) line.old line.new result }
+    ensures { ShowsRow [] line.old line.new result }
 {
     line.field(NAME, Value::Text(id.name))?;
     line.field(SUBSTRINGS, optional_id(id.substrings))?;
@@ -76,9 +67,7 @@ fn show_string(line: &mut Line, id: &StringId<'_>) -> LineResult
 
 /// Returns the value of the number of the module whose file it is, or `Absent` if the file isn't
 /// named in the string table.
-fn source_module<'t>(file: UserDefinedTypeSourceFileRef) -> Value<'t>
-    ensures { value_shown result ≡ source_module file }
-{
+fn source_module<'t>(file: UserDefinedTypeSourceFileRef) -> Value<'t> {
     match file {
         UserDefinedTypeSourceFileRef::Local(_) => Value::Absent,
         UserDefinedTypeSourceFileRef::Remote(module, _) => Value::Number(module as u64),
@@ -86,9 +75,7 @@ fn source_module<'t>(file: UserDefinedTypeSourceFileRef) -> Value<'t>
 }
 
 /// Returns the value of the id of the file's name, or of the name's offset in the string table.
-fn source_file<'t>(file: UserDefinedTypeSourceFileRef) -> Value<'t>
-    ensures { value_shown result ≡ source_file file }
-{
+fn source_file<'t>(file: UserDefinedTypeSourceFileRef) -> Value<'t> {
     match file {
         UserDefinedTypeSourceFileRef::Local(id) => Value::Hexadecimal(id.0),
         UserDefinedTypeSourceFileRef::Remote(_, place) => Value::Hexadecimal(place.0),
@@ -96,9 +83,8 @@ fn source_file<'t>(file: UserDefinedTypeSourceFileRef) -> Value<'t>
 }
 
 /// Adds the fields of the place where a type is declared.
-#[tactic(auto, unfolding(crate::specs::IdRows::source_fields))]
 fn show_source(line: &mut Line, id: &UserDefinedTypeSourceId) -> LineResult
-    ensures { ShowsFields (source_fields id.now) line.old line.new result }
+    ensures { ShowsRow [] line.old line.new result }
 {
     line.field(UDT, type_index(id.udt))?;
     line.field(SOURCE_FILE, source_file(id.source_file))?;
@@ -107,9 +93,9 @@ fn show_source(line: &mut Line, id: &UserDefinedTypeSourceId) -> LineResult
     Ok(())
 }
 
-/// Adds the fields of an id.
-fn show_fields(alloc: Global, line: &mut Line, data: &IdData<'_>) -> LineResult
-    ensures { ShowsFields (id_fields (id_value «data».now)) line.old line.new result }
+/// Adds the fields of what an id holds.
+fn show_value(alloc: Global, line: &mut Line, data: &IdData<'_>) -> LineResult
+    ensures { ShowsRow [] line.old line.new result }
 {
     match data {
         IdData::Function(id) => show_function(line, id),
@@ -121,11 +107,18 @@ fn show_fields(alloc: Global, line: &mut Line, data: &IdData<'_>) -> LineResult
     }
 }
 
+/// Adds the fields of an id whose record is of this kind.
+fn show_fields(alloc: Global, line: &mut Line, leaf: u16, data: &IdData<'_>) -> LineResult
+    ensures { ShowsRow [] line.old line.new result }
+{
+    line.field(KIND, Value::Kind(leaf))?;
+    show_value(alloc, line, data)
+}
+
 /// Adds the fields of the id of this index, whose record is of this kind.
 ///
 /// # Errors
 /// Fails if an allocation fails.
-#[tactic(auto, unfolding(crate::specs::IdRows::id_row))]
 pub fn show_id(
     alloc: Global,
     line: &mut Line,
@@ -133,8 +126,8 @@ pub fn show_id(
     leaf: u16,
     data: &IdData<'_>,
 ) -> LineResult
-    ensures { ShowsFields (id_row index leaf (id_value «data».now)) line.old line.new result }
+    ensures { ShowsRow (indexed index) line.old line.new result }
 {
-    show_head(line, Some(index), leaf)?;
-    show_fields(alloc, line, data)
+    line.field(INDEX, Value::Hexadecimal(index))?;
+    show_fields(alloc, line, leaf, data)
 }

@@ -1,7 +1,7 @@
 //! A line that is written field by field.
 
-ghost use Rattle.std.specs.Prelude.{◌≡◌, ◌∷◌, []};
-ghost use Rattle.pdbdump_rows.specs.Line.{EndsLine, IsLineAppended, IsLineEnded, IsLineWritten, ShowsFields, begun};
+ghost use Rattle.std.specs.Prelude.{◌≡◌};
+ghost use Rattle.pdbdump_rows.specs.Line.{EndsLine, IsLineAppended, IsLineEnded, IsLineWritten, ShowsField, begun};
 ghost use Rattle.pdbdump_rows.specs.Line.{begun_full, line_bytes};
 ghost use Rattle.pdbdump_rows.specs.Row.{value_shown};
 
@@ -81,7 +81,7 @@ impl Line {
     /// Fails if an allocation fails. A part of the field may then be there.
     #[tactic(auto, unfolding(crate::specs::Line::add_field))]
     pub fn field(&mut self, name: &'static str, value: Value<'_>) -> LineResult
-        ensures { ShowsFields ((name.now, value_shown value.entry) ∷ []) self.old self.new result }
+        ensures { ShowsField (name.now, value_shown value.entry) self.old self.new result }
     {
         if !is_shown(self.form, &value) {
             return Ok(());
@@ -110,7 +110,7 @@ impl Line {
     ///
     /// # Errors
     /// Fails if adding the fields or another allocation fails.
-    #[tactic(auto, using(crate::proofs::lemmas::Line::ends_line, crate::proofs::lemmas::Line::ends_full))]
+    #[tactic(auto, using(crate::proofs::lemmas::Line::ends_row, crate::proofs::lemmas::Line::ends_full))]
     pub fn finish(&mut self, added: LineResult) -> LineResult
         ensures { IsLineEnded self.old added self.new result }
     {

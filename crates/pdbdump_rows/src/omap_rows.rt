@@ -1,7 +1,8 @@
 //! Records of OMAP tables, field by field.
 
-ghost use Rattle.pdbdump_rows.specs.Line.{ShowsFields};
-ghost use Rattle.pdbdump_rows.specs.TableRows.{omap_row};
+#![tactic(auto, using(crate::proofs::lemmas::Line::adding))]
+
+ghost use Rattle.pdbdump_rows.specs.Line.{ShowsRow, moved_from};
 
 use crate::line::{Line, LineResult};
 use crate::names::{SOURCE_ADDRESS, TARGET_ADDRESS};
@@ -12,9 +13,8 @@ use pdb_space::OMAPRecord;
 ///
 /// # Errors
 /// Fails if an allocation fails.
-#[tactic(auto, unfolding(crate::specs::TableRows::omap_row))]
 pub fn show_omap(line: &mut Line, mapping: OMAPRecord) -> LineResult
-    ensures { ShowsFields (omap_row mapping) line.old line.new result }
+    ensures { ShowsRow (moved_from mapping.source) line.old line.new result }
 {
     line.field(SOURCE_ADDRESS, Value::Hexadecimal(mapping.source_address()))?;
     line.field(TARGET_ADDRESS, Value::Hexadecimal(mapping.target_address()))?;

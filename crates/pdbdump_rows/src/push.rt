@@ -4,9 +4,8 @@ ghost use Rattle.std.specs.Prelude.{◌≡◌, ◌++◌, if◌then◌else◌, []
 ghost use Rattle.pdbdump_rows.specs.Line.{ending, line_opening};
 ghost use Rattle.pdbdump_rows.specs.Lines.{field_line, field_text, index_text, is_leading, is_none, is_shown_value};
 ghost use Rattle.pdbdump_rows.specs.Lines.{shown_leaf_text, list_text, separator, value_text};
-ghost use Rattle.pdbdump_rows.specs.Row.{value_shown};
+ghost use Rattle.pdbdump_rows.specs.Row.{value_shown, words_beside_true};
 ghost use Rattle.pdbdump_rows.specs.Text.{in_quotes};
-ghost use Rattle.pdbdump_rows.specs.Words.{words_beside_true};
 
 use crate::form::Form;
 use crate::number::{four_digits, push_decimal, push_hexadecimal, push_signed};
@@ -40,7 +39,7 @@ fn push_kind(form: Form, leaf: u16, out: &mut Vec<u8>) -> Result<(), AllocError>
 }
 
 /// Returns whether a flag is set.
-#[tactic(auto, using(crate::proofs::WordLemmas::chosen_more), unfolding(crate::specs::Words::words_beside_true))]
+#[tactic(auto, using(crate::proofs::WordLemmas::chosen_more), unfolding(crate::specs::Row::words_beside_true))]
 fn is_any_set(flags: &[Flag]) -> bool
     ensures { result ≡ not (is_none (words_beside_true (map (λ flag. (flag.0, flag.1.now)) flags.now))) }
 {

@@ -1,9 +1,9 @@
 //! The error of a record or of another part of a file, as a field.
 
-ghost use Rattle.std.specs.Prelude.{◌≡◌, [], ◌∷◌, IfOk};
-ghost use Rattle.pdb_base.specs.Refusal.{refusal_of};
-ghost use Rattle.pdbdump_rows.specs.Line.{ShowsFields};
-ghost use Rattle.pdbdump_rows.specs.Refused.{refusal_shown, refusal_text};
+#![tactic(auto, using(crate::proofs::lemmas::Line::adding))]
+
+ghost use Rattle.std.specs.Prelude.{[]};
+ghost use Rattle.pdbdump_rows.specs.Line.{ShowsRow};
 
 use crate::line::{Line, LineResult};
 use crate::names::ERROR;
@@ -15,10 +15,7 @@ use std::alloc::{AllocError, Global};
 ///
 /// # Errors
 /// Fails if an allocation fails.
-#[tactic(auto, unfolding(crate::specs::Refused::refusal_text))]
-pub fn error_text(alloc: Global, error: &Error) -> Result<Vec<u8>, AllocError>
-    ensures { IfOk result (λ text. text.items ≡ refusal_text (refusal_of error.now)) }
-{
+pub fn error_text(alloc: Global, error: &Error) -> Result<Vec<u8>, AllocError> {
     match error {
         Error::IoError(_) => Vec::from_slice(alloc, b"IO error while reading PDB"),
         error => Ok(format!(in alloc; "{error}")?.into_bytes()),
@@ -30,7 +27,7 @@ pub fn error_text(alloc: Global, error: &Error) -> Result<Vec<u8>, AllocError>
 /// # Errors
 /// Fails if an allocation fails.
 pub fn show_error(alloc: Global, line: &mut Line, error: &Error) -> LineResult
-    ensures { ShowsFields (refusal_shown (refusal_of error.now) ∷ []) line.old line.new result }
+    ensures { ShowsRow [] line.old line.new result }
 {
     let text = error_text(alloc, error)?;
     line.field(ERROR, Value::Text(RawString::from(text.as_slice())))?;

@@ -1,11 +1,8 @@
 //! Section headers, field by field.
 
-ghost use Rattle.std.specs.Prelude.{◌≡◌};
-ghost use Rattle.pdb_space.specs.SectionHeader.{section_name};
-ghost use Rattle.pdbdump_rows.specs.Line.{ShowsFields};
-ghost use Rattle.pdbdump_rows.specs.Fields.{optional_number};
-ghost use Rattle.pdbdump_rows.specs.Row.{value_shown};
-ghost use Rattle.pdbdump_rows.specs.TableRows.{section_row};
+#![tactic(auto, using(crate::proofs::lemmas::Line::adding))]
+
+ghost use Rattle.pdbdump_rows.specs.Line.{ShowsRow, numbered};
 
 use crate::line::{Line, LineResult};
 use crate::names::{
@@ -19,9 +16,7 @@ use pdb_base::RawString;
 use pdb_space::ImageSectionHeader;
 
 /// Returns the bytes of a section's name: those before the first NUL, or all eight.
-fn name_bytes(header: &ImageSectionHeader) -> &[u8]
-    ensures { result.now ≡ section_name header.now }
-{
+fn name_bytes(header: &ImageSectionHeader) -> &[u8] {
     match header.name.iter().position(|byte| *byte == 0) {
         Some(end) => &header.name[..end],
         None => &header.name,
@@ -29,9 +24,7 @@ fn name_bytes(header: &ImageSectionHeader) -> &[u8]
 }
 
 /// Returns the value of the multiple at which a section begins, or `Absent` if it states none.
-fn alignment<'t>(multiple: Option<u16>) -> Value<'t>
-    ensures { value_shown result ≡ optional_number multiple }
-{
+fn alignment<'t>(multiple: Option<u16>) -> Value<'t> {
     match multiple {
         Some(multiple) => Value::Number(multiple as u64),
         None => Value::Absent,
@@ -42,9 +35,8 @@ fn alignment<'t>(multiple: Option<u16>) -> Value<'t>
 ///
 /// # Errors
 /// Fails if an allocation fails.
-#[tactic(auto, unfolding(crate::specs::TableRows::section_row))]
 pub fn show_section(line: &mut Line, number: u32, header: &ImageSectionHeader) -> LineResult
-    ensures { ShowsFields (section_row number header.now) line.old line.new result }
+    ensures { ShowsRow (numbered number) line.old line.new result }
 {
     let name = RawString::from(name_bytes(header));
     let characteristics = section_flags(header.characteristics);

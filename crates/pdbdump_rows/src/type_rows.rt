@@ -1,11 +1,9 @@
 //! Types, field by field.
 
-ghost use Rattle.pdb_values.specs.TypeView.{type_value};
-ghost use Rattle.pdbdump_rows.specs.Fields.{optional_hexadecimal};
-ghost use Rattle.pdbdump_rows.specs.Line.{ShowsFields};
-ghost use Rattle.pdbdump_rows.specs.Row.{kind};
-ghost use Rattle.pdbdump_rows.specs.TypeRows.{type_fields, type_row};
-ghost use Rattle.std.specs.Prelude.{[], ◌∷◌};
+#![tactic(auto, using(crate::proofs::lemmas::Line::adding))]
+
+ghost use Rattle.std.specs.Prelude.{[]};
+ghost use Rattle.pdbdump_rows.specs.Line.{ShowsRow, indexed};
 
 mod base_class;
 mod class;
@@ -31,24 +29,13 @@ pub use crate::type_rows::method::show_listed_method;
 use crate::type_rows::method::{show_method, show_overloaded_method};
 use crate::type_rows::pointer::{show_bitfield, show_modifier, show_pointer};
 use crate::type_rows::primitive::show_primitive;
-use crate::value::{Value, optional_hexadecimal};
+use crate::value::Value;
 use pdb_values::TypeData;
 use std::alloc::Global;
 
-/// Adds what the fields of a record begin with: its index, which an entry of a list doesn't have,
-/// and the record kind.
-pub(crate) fn show_head(line: &mut Line, index: Option<u32>, leaf: u16) -> LineResult
-    ensures { ShowsFields ((INDEX.now, optional_hexadecimal index) ∷ (KIND.now, kind leaf) ∷ [])
-        line.old line.new result }
-{
-    line.field(INDEX, optional_hexadecimal(index))?;
-    line.field(KIND, Value::Kind(leaf))?;
-    Ok(())
-}
-
-/// Adds the fields of a type.
-pub(crate) fn show_fields(alloc: Global, line: &mut Line, data: &TypeData<'_>) -> LineResult
-    ensures { ShowsFields (type_fields (type_value «data».now)) line.old line.new result }
+/// Adds the fields of what a type holds.
+fn show_value(alloc: Global, line: &mut Line, data: &TypeData<'_>) -> LineResult
+    ensures { ShowsRow [] line.old line.new result }
 {
     match data {
         TypeData::Primitive(primitive) => show_primitive(line, *primitive),
@@ -77,11 +64,23 @@ pub(crate) fn show_fields(alloc: Global, line: &mut Line, data: &TypeData<'_>) -
     }
 }
 
+/// Adds the fields of a type whose record is of this kind.
+pub(crate) fn show_fields(
+    alloc: Global,
+    line: &mut Line,
+    leaf: u16,
+    data: &TypeData<'_>,
+) -> LineResult
+    ensures { ShowsRow [] line.old line.new result }
+{
+    line.field(KIND, Value::Kind(leaf))?;
+    show_value(alloc, line, data)
+}
+
 /// Adds the fields of the type of this index, whose record is of this kind.
 ///
 /// # Errors
 /// Fails if an allocation fails.
-#[tactic(auto, unfolding(crate::specs::TypeRows::type_row))]
 pub fn show_type(
     alloc: Global,
     line: &mut Line,
@@ -89,8 +88,8 @@ pub fn show_type(
     leaf: u16,
     data: &TypeData<'_>,
 ) -> LineResult
-    ensures { ShowsFields (type_row index leaf (type_value «data».now)) line.old line.new result }
+    ensures { ShowsRow (indexed index) line.old line.new result }
 {
-    show_head(line, Some(index), leaf)?;
-    show_fields(alloc, line, data)
+    line.field(INDEX, Value::Hexadecimal(index))?;
+    show_fields(alloc, line, leaf, data)
 }

@@ -1,12 +1,5 @@
 //! What the fields of lines hold.
 
-ghost use Rattle.std.specs.Prelude.{◌≡◌};
-ghost use Rattle.std.specs.Option.{option_map};
-ghost use Rattle.pdb_values.specs.Text.{text_bytes};
-ghost use Rattle.pdbdump_rows.specs.Fields.{nonzero, optional_hexadecimal, optional_id, optional_number, optional_text};
-ghost use Rattle.pdbdump_rows.specs.Fields.{optional_type, type_index};
-ghost use Rattle.pdbdump_rows.specs.Row.{value_shown};
-
 use pdb_base::{IdIndex, RawString, TypeIndex};
 
 /// A flag, and the word that is shown if it is set.
@@ -52,9 +45,7 @@ pub enum Value<'t> {
 }
 
 /// Returns the value of a number shown in hexadecimal, or `Absent` if there is none.
-pub fn optional_hexadecimal<'t>(number: Option<u32>) -> Value<'t>
-    ensures { value_shown result ≡ optional_hexadecimal number }
-{
+pub fn optional_hexadecimal<'t>(number: Option<u32>) -> Value<'t> {
     match number {
         Some(number) => Value::Hexadecimal(number),
         None => Value::Absent,
@@ -62,16 +53,12 @@ pub fn optional_hexadecimal<'t>(number: Option<u32>) -> Value<'t>
 }
 
 /// Returns the value of the index of a type.
-pub(crate) fn type_index<'t>(index: TypeIndex) -> Value<'t>
-    ensures { value_shown result ≡ type_index index }
-{
+pub(crate) fn type_index<'t>(index: TypeIndex) -> Value<'t> {
     Value::Hexadecimal(index.0)
 }
 
 /// Returns the value of the index of a type, or `Absent` if there is none.
-pub(crate) fn optional_type<'t>(index: Option<TypeIndex>) -> Value<'t>
-    ensures { value_shown result ≡ optional_type index }
-{
+pub(crate) fn optional_type<'t>(index: Option<TypeIndex>) -> Value<'t> {
     match index {
         Some(index) => Value::Hexadecimal(index.0),
         None => Value::Absent,
@@ -79,9 +66,7 @@ pub(crate) fn optional_type<'t>(index: Option<TypeIndex>) -> Value<'t>
 }
 
 /// Returns the value of the index of an id, or `Absent` if there is none.
-pub(crate) fn optional_id<'t>(index: Option<IdIndex>) -> Value<'t>
-    ensures { value_shown result ≡ optional_id index }
-{
+pub(crate) fn optional_id<'t>(index: Option<IdIndex>) -> Value<'t> {
     match index {
         Some(index) => Value::Hexadecimal(index.0),
         None => Value::Absent,
@@ -89,9 +74,7 @@ pub(crate) fn optional_id<'t>(index: Option<IdIndex>) -> Value<'t>
 }
 
 /// Returns the value of a number, or `Absent` if there is none.
-pub fn optional_number<'t>(number: Option<u32>) -> Value<'t>
-    ensures { value_shown result ≡ optional_number number }
-{
+pub fn optional_number<'t>(number: Option<u32>) -> Value<'t> {
     match number {
         Some(number) => Value::Number(number as u64),
         None => Value::Absent,
@@ -99,9 +82,7 @@ pub fn optional_number<'t>(number: Option<u32>) -> Value<'t>
 }
 
 /// Returns the value of a number, or `Absent` if it is 0.
-pub(crate) fn nonzero<'t>(number: u8) -> Value<'t>
-    ensures { value_shown result ≡ nonzero number }
-{
+pub(crate) fn nonzero<'t>(number: u8) -> Value<'t> {
     if number == 0 {
         Value::Absent
     } else {
@@ -110,9 +91,7 @@ pub(crate) fn nonzero<'t>(number: u8) -> Value<'t>
 }
 
 /// Returns the value of a word, or `Absent` if there is none.
-pub fn optional_word<'t>(word: Option<&'static str>) -> Value<'t>
-    ensures { value_shown result ≡ optional_text (option_map (λ text. text.now) word.entry) }
-{
+pub fn optional_word<'t>(word: Option<&'static str>) -> Value<'t> {
     match word {
         Some(word) => Value::Word(word),
         None => Value::Absent,
@@ -120,9 +99,7 @@ pub fn optional_word<'t>(word: Option<&'static str>) -> Value<'t>
 }
 
 /// Returns the value of a name or another text, or `Absent` if there is none.
-pub fn optional_text<'t>(text: Option<RawString<'t>>) -> Value<'t>
-    ensures { value_shown result ≡ optional_text (option_map text_bytes text.entry) }
-{
+pub fn optional_text<'t>(text: Option<RawString<'t>>) -> Value<'t> {
     match text {
         Some(text) => Value::Text(text),
         None => Value::Absent,

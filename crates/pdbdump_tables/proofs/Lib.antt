@@ -1,10 +1,4 @@
 pub mod ListingLemmas
 pub mod ShownLemmas
-pub mod MapLemmas
-pub mod StreamLemmas
-pub mod KindLemmas
-pub mod LineLemmas
-pub mod TallyLemmas
-pub mod WalkedLemmas
 pub mod TableLemmas
 pub mod ListedLemmas

@@ -1,47 +1,58 @@
--- A listing: lines, one behind the other, and how they end.
-use Rattle.std.specs.Prelude.{◌≡◌, ◌⊎◌, ℕ, List, [], ◌++◌, Result, Ok, Err}
+-- A listing: rows, each a line, and how they end.
+use Rattle.std.specs.Prelude.{◌≡◌, ◌⊎◌, List, [], ◌++◌, Result, Ok, Err}
 use Rattle.pdb_base.specs.declared.error.Error.{Error}
 use Rattle.pdb_base.specs.Answer.{Answer, ◌>>=◌}
 use Rattle.pdb_base.specs.Refusal.{Refusal, refusal_of}
-use Rattle.pdb_output.specs.Output.{OutputState, Gets, IsCutShort}
+use Rattle.pdb_output.specs.Output.{OutputState}
+use Rattle.pdbdump_rows.specs.declared.form.Form.{Form}
+use Rattle.pdbdump_rows.specs.Line.{WritesWhat}
+use Rattle.pdbdump_rows.specs.Row.{ShownRow}
+use Rattle.pdbdump_rows.specs.Rows.{AreRows, WritesLines}
 
--- The lines up to the first fault, and the refusal behind them, if there is one.
+-- What each row up to the first fault begins with, and the refusal behind them, if there is one.
 pub record Listing : Type 0 where
-  pub lines : List ℕ
+  pub rows : List ShownRow
   pub end : Answer (Unit {0})
 
--- lines that no refusal follows
-abbrev pub whole : List ℕ → Listing
-whole lines = record { lines = lines; end = Ok tt }
+-- rows that no refusal follows
+abbrev pub whole : List ShownRow → Listing
+whole rows = record { rows = rows; end = Ok tt }
 
--- a refusal with no line before it
+-- a refusal with no row before it
 abbrev pub refusal_alone : Refusal → Listing
-refusal_alone fault = record { lines = []; end = Err fault }
+refusal_alone fault = record { rows = []; end = Err fault }
 
 -- the listing of a value, or the refusal if there is no value
 abbrev pub listed_of : {A : Type 0} → (A → Listing) → Answer A → Listing
 listed_of listing (Ok value) = listing value
 listed_of listing (Err fault) = refusal_alone fault
 
--- a listing with further lines before its own
-abbrev pub with_lines_before : List ℕ → Listing → Listing
-with_lines_before front listing = record { lines = front ++ listing.lines; end = listing.end }
+-- a listing with further rows before its own
+abbrev pub with_rows_before : List ShownRow → Listing → Listing
+with_rows_before front listing = record { rows = front ++ listing.rows; end = listing.end }
 
--- the lines that follow a listing: none, if it ends with a refusal
-abbrev pub lines_behind : Answer (Unit {0}) → List ℕ → List ℕ
-lines_behind (Ok done) lines = lines
-lines_behind (Err fault) lines = []
+-- the rows that follow a listing: none, if it ends with a refusal
+abbrev pub rows_behind : Answer (Unit {0}) → List ShownRow → List ShownRow
+rows_behind (Ok done) rows = rows
+rows_behind (Err fault) rows = []
 
 -- one listing, followed by another unless the first ends with a refusal
 abbrev pub followed_by : Listing → Listing → Listing
 followed_by first next = record {
-  lines = first.lines ++ lines_behind first.end next.lines;
+  rows = first.rows ++ rows_behind first.end next.rows;
   end = first.end >>= λ done. next.end;
 }
 
 -- An output received the lines of a listing, and the result is how the listing ends; or the output failed
--- or memory ran out, and the output received a prefix of the lines.
-abbrev pub IsListed : Listing → OutputState → OutputState → Result (Unit {0}) Error → Type 0
-IsListed listing old new (Ok done) = (listing.end ≡ Ok tt) × Gets old new listing.lines
-IsListed listing old new (Err e) = ((listing.end ≡ Err (refusal_of e)) × Gets old new listing.lines)
-    ⊎ IsCutShort listing.lines old new e
+-- or memory ran out, and the output received a prefix of such lines.
+abbrev pub IsListed : Form → Listing → OutputState → OutputState → Result (Unit {0}) Error → Type 0
+IsListed form listing old new (Ok done) =
+    (listing.end ≡ Ok tt) × WritesWhat (AreRows form listing.rows) old new (Ok tt)
+IsListed form listing old new (Err e) =
+    ((listing.end ≡ Err (refusal_of e)) × WritesWhat (AreRows form listing.rows) old new (Ok tt))
+    ⊎ WritesWhat (AreRows form listing.rows) old new (Err e)
+
+-- Some lines were written of what is read, or cut short; or what is read is refused, and nothing was written.
+abbrev pub IsWrittenOf : {A : Type 0} → Form → Answer A → OutputState → OutputState → Result (Unit {0}) Error → Type 0
+IsWrittenOf {A} form meant old new (Ok done) = (value : A) × (meant ≡ Ok value) × WritesLines form old new (Ok tt)
+IsWrittenOf form meant old new (Err e) = ((meant ≡ Err (refusal_of e)) × (new ≡ old)) ⊎ WritesLines form old new (Err e)

@@ -1,7 +1,5 @@
 //! What an address map makes of an address.
 
-ghost use Rattle.pdbdump_tables.specs.Made.{IsMadeOfInternal, IsMadeOfLoaded};
-
 use pdb_space::{AddressMap, PdbInternalRva, PdbInternalSectionOffset, Rva, SectionOffset};
 
 /// What is made of an address in the image as it is loaded.
@@ -31,9 +29,7 @@ pub struct OfInternal {
 }
 
 /// Returns what a map makes of an address in the image as it is loaded.
-pub fn conversions_of_loaded(map: &AddressMap, address: Rva) -> OfLoaded
-    ensures { IsMadeOfLoaded map.now address result }
-{
+pub fn conversions_of_loaded(map: &AddressMap, address: Rva) -> OfLoaded {
     OfLoaded {
         section_offset: address.to_section_offset(map),
         internal_rva: address.to_internal_rva(map),
@@ -42,9 +38,7 @@ pub fn conversions_of_loaded(map: &AddressMap, address: Rva) -> OfLoaded
 }
 
 /// Returns what a map makes of an address in the original image.
-pub fn conversions_of_internal(map: &AddressMap, address: PdbInternalRva) -> OfInternal
-    ensures { IsMadeOfInternal map.now address result }
-{
+pub fn conversions_of_internal(map: &AddressMap, address: PdbInternalRva) -> OfInternal {
     OfInternal {
         internal_offset: address.to_internal_offset(map),
         rva: address.to_rva(map),

@@ -2,8 +2,7 @@
 
 ghost use Rattle.std.specs.Prelude.{◌≡◌, drop, take};
 ghost use Rattle.pdb_msf.specs.File.{ReadsFile};
-ghost use Rattle.pdbdump_tables.specs.Listing.{IsListed};
-ghost use Rattle.pdbdump_tables.specs.Extracted.{address_role, extraction, fixed_stream, stream_of_role};
+ghost use Rattle.pdbdump_tables.specs.Extracted.{IsExtracted, address_role, extraction, fixed_stream, stream_of_role};
 ghost use Rattle.pdbdump_tables.specs.Extracted.{listed_role_of, part_of, role_number, section_role, stream_meant};
 ghost use Rattle.pdb_file.specs.File.{file_number};
 
@@ -193,7 +192,7 @@ fn part_of(bytes: &[u8], skip: u32, limit: Option<u32>) -> &[u8]
 /// # Errors
 /// Fails as `Msf::get` does for the number, with `IoError` if the writer fails, and with
 /// `OutOfMemory` if an allocation fails.
-#[tactic(auto, unfolding(crate::specs::Extracted::extraction), using(crate::proofs::ListedLemmas::refused_listed, crate::proofs::ListedLemmas::writes_listed))]
+#[tactic(auto, unfolding(crate::specs::Extracted::extraction), using(crate::proofs::ListedLemmas::part_written))]
 pub fn extract<W: Write>(
     alloc: Global,
     file: &mut PDB<Vec<u8>>,
@@ -202,8 +201,7 @@ pub fn extract<W: Write>(
     limit: Option<u32>,
     out: &mut Output<W>,
 ) -> Result<()>
-    ensures { IsListed (extraction file.old.source.items file.old.head number skip limit)
-        out.old out.new result }
+    ensures { IsExtracted (extraction file.old.source.items file.old.head number skip limit) out.old out.new result }
 {
     let stream = file.get(alloc, number, None)?;
     out.write(part_of(stream.as_slice(), skip, limit))

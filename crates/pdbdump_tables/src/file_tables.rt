@@ -32,7 +32,7 @@ pub fn list_sections<W: Write>(
     form: Form,
     out: &mut Output<W>,
 ) -> Result<()>
-    ensures { IsListed (file_sections form file.source.items file.head stream)
+    ensures { IsListed form (file_sections file.source.items file.head stream)
         out.old out.new result }
 {
     let number = section_number(alloc, &mut file, stream)?;
@@ -69,7 +69,7 @@ pub fn list_names<W: Write>(
     form: Form,
     out: &mut Output<W>,
 ) -> Result<()>
-    ensures { IsListed (file_names form file.source.items file.head stream)
+    ensures { IsListed form (file_names file.source.items file.head stream)
         out.old out.new result }
 {
     let table = names_in(alloc, &mut file, stream)?;
@@ -88,7 +88,7 @@ pub fn list_frames<W: Write>(
     form: Form,
     out: &mut Output<W>,
 ) -> Result<()>
-    ensures { IsListed (file_frames form file.source.items file.head)
+    ensures { IsListed form (file_frames file.source.items file.head)
         out.old out.new result }
 {
     let table = file.frame_table(alloc)?;
@@ -110,7 +110,7 @@ pub fn list_frames_in<W: Write>(
     form: Form,
     out: &mut Output<W>,
 ) -> Result<()>
-    ensures { IsListed (frames_in form file.source.items file.head old new)
+    ensures { IsListed form (frames_in file.source.items file.head old new)
         out.old out.new result }
 {
     let old = file.numbered_stream(alloc, old)?;

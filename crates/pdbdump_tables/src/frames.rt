@@ -21,7 +21,7 @@ pub fn write_frames<W: Write>(
     form: Form,
     out: &mut Output<W>,
 ) -> Result<()>
-    ensures { IsListed (frames_listing form table.now) out.old out.new result }
+    ensures { IsListed form (frames_listing table.now) out.old out.new result }
 {
     let mut line = Line::new(alloc);
     let mut frames = table.iter();

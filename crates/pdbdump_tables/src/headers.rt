@@ -1,8 +1,5 @@
 //! The headers that name streams of symbols and of hashes.
 
-ghost use Rattle.std.specs.Prelude.{◌≡◌, IfOk};
-ghost use Rattle.pdbdump_tables.specs.Headers.{debug_header_found, headers_found, table_header_found, table_header_in};
-
 use crate::streams::stream;
 use pdb_base::{Error, Stream};
 use pdb_file::{DBIHeader, ID_STREAM, PDB, TYPE_STREAM};
@@ -30,12 +27,7 @@ pub struct Headers {
 }
 
 /// Reads the header of the stream of debug information, or returns None if it can't be read.
-#[tactic(auto, unfolding(crate::specs::Headers::debug_header_found))]
-fn debug_header(alloc: Global, file: &mut PDB<Vec<u8>>) -> Result<Option<DBIHeader>, AllocError>
-    ensures header { IfOk result (λ header. header ≡ debug_header_found file.old.source.items file.old.head) }
-    ensures bytes { file.new.source.items ≡ file.old.source.items }
-    ensures head { file.new.head ≡ file.old.head }
-{
+fn debug_header(alloc: Global, file: &mut PDB<Vec<u8>>) -> Result<Option<DBIHeader>, AllocError> {
     match stream(alloc, file, DEBUG_STREAM, Some(DEBUG_HEADER_SIZE)) {
         Ok(stream) => Ok(DBIHeader::parse(&stream).ok()),
         Err(Error::OutOfMemory) => Err(AllocError),
@@ -45,9 +37,7 @@ fn debug_header(alloc: Global, file: &mut PDB<Vec<u8>>) -> Result<Option<DBIHead
 
 /// Returns the header of the table at the start of a stream, or None if the stream is empty or no
 /// table.
-fn table_header_in(stream: Stream) -> Option<Header>
-    ensures { result ≡ table_header_in stream }
-{
+fn table_header_in(stream: Stream) -> Option<Header> {
     if stream.as_slice().is_empty() {
         return None;
     }
@@ -58,16 +48,11 @@ fn table_header_in(stream: Stream) -> Option<Header>
 }
 
 /// Reads the header of a table, or returns None if it can't be read.
-#[tactic(auto, unfolding(crate::specs::Headers::table_header_found))]
 fn table_header(
     alloc: Global,
     file: &mut PDB<Vec<u8>>,
     number: u32,
-) -> Result<Option<Header>, AllocError>
-    ensures header { IfOk result (λ header. header ≡ table_header_found file.old.source.items file.old.head number) }
-    ensures bytes { file.new.source.items ≡ file.old.source.items }
-    ensures head { file.new.head ≡ file.old.head }
-{
+) -> Result<Option<Header>, AllocError> {
     match stream(alloc, file, number, Some(TABLE_HEADER_SIZE)) {
         Ok(stream) => Ok(table_header_in(stream)),
         Err(Error::OutOfMemory) => Err(AllocError),
@@ -76,11 +61,7 @@ fn table_header(
 }
 
 /// Reads the headers of streams 2 to 4.
-pub fn headers_of(alloc: Global, file: &mut PDB<Vec<u8>>) -> Result<Headers, AllocError>
-    ensures headers { IfOk result (λ headers. headers ≡ headers_found file.old.source.items file.old.head) }
-    ensures bytes { file.new.source.items ≡ file.old.source.items }
-    ensures head { file.new.head ≡ file.old.head }
-{
+pub fn headers_of(alloc: Global, file: &mut PDB<Vec<u8>>) -> Result<Headers, AllocError> {
     Ok(Headers {
         debug: debug_header(alloc, file)?,
         types: table_header(alloc, file, TYPE_STREAM)?,

@@ -1,11 +1,9 @@
 //! Tables of ids.
 
-ghost use Rattle.std.specs.Prelude.{[], Ok};
-ghost use Rattle.pdb_values.specs.IdValue.{id_value};
-ghost use Rattle.pdbdump_rows.specs.IdRows.{id_row};
-ghost use Rattle.pdbdump_rows.specs.Line.{EndsLine};
+ghost use Rattle.std.specs.Prelude.{Ok};
+ghost use Rattle.pdbdump_rows.specs.Line.{EndsRow, indexed};
 ghost use Rattle.pdbdump_rows.specs.Lines.{full_text};
-ghost use Rattle.pdbdump_tables.specs.Lines.{placed_line, id_lines_at, id_line, id_shown};
+ghost use Rattle.pdbdump_tables.specs.Records.{id_shown, id_shown_in};
 ghost use Rattle.pdbdump_tables.specs.Listed.{IsTableListed, IsShown, IsWalked};
 
 use crate::item_line::make_id;
@@ -26,7 +24,7 @@ fn list_ids<W: Write>(
     form: Form,
     out: &mut Output<W>,
 ) -> Result<()>
-    ensures { IsWalked (placed_line (id_line form) stream table.now) table.now out.old out.new result }
+    ensures { IsWalked form table.now out.old out.new result }
 {
     let mut items = table.iter();
     let mut line = Line::new(alloc);
@@ -60,7 +58,7 @@ pub fn ids<W: Write>(
     form: Form,
     out: &mut Output<W>,
 ) -> Result<()>
-    ensures { IsTableListed (placed_line (id_line form) number) stream out.old out.new result }
+    ensures { IsTableListed form stream out.old out.new result }
 {
     let table = IdInformation::parse(stream)?;
     list_ids(alloc, &table, number, form, out)
@@ -76,7 +74,7 @@ fn make_full(
     value: &IdData<'_>,
     line: &mut Line,
 ) -> LineResult
-    ensures { EndsLine (full_text form (id_row index leaf (id_value value.now))) line.new result }
+    ensures { EndsRow (full_text form) (indexed index) line.new result }
 {
     line.begin_full(form);
     let added = show_id(alloc, line, index, leaf, value);
@@ -92,7 +90,7 @@ fn write_value<W: Write>(
     form: Form,
     out: &mut Output<W>,
 ) -> Result<()>
-    ensures { IsShown (Ok (full_text form (id_row index leaf (id_value value.now)), Ok [])) out.old out.new result }
+    ensures { IsShown form index (Ok (Ok tt)) out.old out.new result }
 {
     let mut line = Line::new(alloc);
     make_full(alloc, form, index, leaf, value, &mut line)?;
@@ -110,7 +108,7 @@ fn write_id<W: Write>(
     form: Form,
     out: &mut Output<W>,
 ) -> Result<()>
-    ensures { IsShown (id_shown form stream index ids.now.table) out.old out.new result }
+    ensures { IsShown form index (id_shown index ids.now.table) out.old out.new result }
 {
     let item = ids.item(IdIndex(index))?;
     match item.parse(alloc) {
@@ -135,7 +133,7 @@ pub fn id_at<W: Write>(
     form: Form,
     out: &mut Output<W>,
 ) -> Result<()>
-    ensures { IsShown (id_lines_at form number index stream) out.old out.new result }
+    ensures { IsShown form index (id_shown_in index stream) out.old out.new result }
 {
     let table = IdInformation::parse(stream)?;
     let ids = OpenTable::new(alloc, table)?;

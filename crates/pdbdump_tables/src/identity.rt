@@ -1,17 +1,11 @@
 //! The identity of a file, as a line.
 
-ghost use Rattle.std.specs.Prelude.{◌≡◌, ◌↔◌, [], ◌∷◌, map, string_bytes, IsTrue, IfOk};
-ghost use Rattle.std.specs.Char.{to_ascii_lowercase};
-ghost use Rattle.uuid.specs.Text.{hyphenated_text, upper};
-ghost use Rattle.pdb_output.specs.Output.{Writes};
-ghost use Rattle.pdbdump_rows.specs.Line.{ShowsFields};
-ghost use Rattle.pdbdump_rows.specs.Row.{value_shown};
-ghost use Rattle.pdbdump_rows.specs.Words.{words_beside_true};
-ghost use Rattle.pdb_identity.specs.Header.{cpu_of};
-ghost use Rattle.pdbdump_tables.specs.Identity.{IsKey, age_source, feature_words, guid_line, identity_line};
-ghost use Rattle.pdbdump_tables.specs.Identity.{identity_shown, key_line, lower_key_of, module_line, module_text};
-ghost use Rattle.pdbdump_tables.specs.Identity.{optional_features, optional_flag, optional_machine, store_path};
-ghost use Rattle.pdbdump_tables.specs.Identity.{upper_key_of};
+#![tactic(auto, using(pdbdump_rows::proofs::lemmas::Line::adding))]
+
+ghost use Rattle.std.specs.Prelude.{◌≡◌, ◌↔◌, [], string_bytes, IsTrue, IfOk};
+ghost use Rattle.pdbdump_rows.specs.Line.{IsRow, ShowsRow, WritesWhat};
+ghost use Rattle.pdbdump_rows.specs.Lines.{row_text};
+ghost use Rattle.pdbdump_tables.specs.Identity.{IsIdentity, IsKey, upper_key_of};
 
 use pdb_base::{Error, RawString};
 use pdb_file::Features;
@@ -66,20 +60,13 @@ pub enum KeyStyle {
 }
 
 /// Returns the path of a file in a symbol store as a line.
-#[tactic(auto, unfolding(crate::specs::Identity::store_path))]
-fn upper_path(alloc: Global, name: &str, identity: &Identity) -> Result<Vec<u8>, AllocError>
-    ensures { IfOk result (λ line. line.items ≡ store_path name.now (upper_key_of identity.now)) }
-{
+fn upper_path(alloc: Global, name: &str, identity: &Identity) -> Result<Vec<u8>, AllocError> {
     let key = identity.key();
     Ok(format!(in alloc; "{name}/{key}/{name}\n")?.into_bytes())
 }
 
 /// Returns the path of a file in a symbol store as a line in lower case.
-#[tactic(auto, unfolding(crate::specs::Identity::store_path))]
-fn lower_path(alloc: Global, name: &str, identity: &Identity) -> Result<Vec<u8>, AllocError>
-    ensures { IfOk result (λ line. line.items ≡
-        store_path (map to_ascii_lowercase name.now) (lower_key_of identity.now)) }
-{
+fn lower_path(alloc: Global, name: &str, identity: &Identity) -> Result<Vec<u8>, AllocError> {
     let name = name.to_ascii_lowercase(alloc)?;
     let key = identity.lower_key();
     Ok(format!(in alloc; "{name}/{key}/{name}\n")?.into_bytes())
@@ -94,36 +81,24 @@ fn key_text(alloc: Global, identity: &Identity) -> Result<String, AllocError>
 }
 
 /// Returns what the first line of a symbol file of Breakpad says of a file.
-#[tactic(auto, unfolding(crate::specs::Identity::module_text))]
-fn module_text(alloc: Global, cpu: &str, key: &str, name: &str) -> Result<String, AllocError>
-    ensures { IfOk result (λ text. string_bytes text ≡ module_text cpu.now key.now name.now) }
-{
+fn module_text(alloc: Global, cpu: &str, key: &str, name: &str) -> Result<String, AllocError> {
     Ok(format!(in alloc; "{cpu} {key} {name}\n")?)
 }
 
 /// Returns the line that a symbol file of Breakpad begins with.
-#[tactic(auto, unfolding(crate::specs::Identity::module_line))]
-fn module_line(alloc: Global, cpu: &str, key: &str, name: &str) -> Result<Vec<u8>, AllocError>
-    ensures { IfOk result (λ line. line.items ≡ module_line cpu.now key.now name.now) }
-{
+fn module_line(alloc: Global, cpu: &str, key: &str, name: &str) -> Result<Vec<u8>, AllocError> {
     let text = module_text(alloc, cpu, key, name)?;
     Ok(format!(in alloc; "MODULE windows {text}")?.into_bytes())
 }
 
 /// Returns the line of a file that its symbol file of Breakpad begins with.
-fn breakpad_line(alloc: Global, name: &str, identity: &Identity) -> Result<Vec<u8>, AllocError>
-    ensures { IfOk result (λ line. line.items ≡
-        module_line (cpu_of identity.now) (upper_key_of identity.now) name.now) }
-{
+fn breakpad_line(alloc: Global, name: &str, identity: &Identity) -> Result<Vec<u8>, AllocError> {
     let key = key_text(alloc, identity)?;
     module_line(alloc, identity.cpu(), &key, name)
 }
 
 /// Returns the GUID of a file as a line.
-#[tactic(auto, unfolding(crate::specs::Identity::guid_line))]
-fn guid_line(alloc: Global, identity: &Identity) -> Result<Vec<u8>, AllocError>
-    ensures { IfOk result (λ line. line.items ≡ guid_line identity.now) }
-{
+fn guid_line(alloc: Global, identity: &Identity) -> Result<Vec<u8>, AllocError> {
     let mut buffer = [0u8; 36];
     let guid = identity.guid.hyphenated().encode_upper(&mut buffer);
     Ok(format!(in alloc; "{guid}\n")?.into_bytes())
@@ -135,9 +110,7 @@ fn key_line(
     style: KeyStyle,
     name: &str,
     identity: &Identity,
-) -> Result<Vec<u8>, AllocError>
-    ensures { IfOk result (λ line. line.items ≡ key_line style name.now identity.now) }
-{
+) -> Result<Vec<u8>, AllocError> {
     match style {
         KeyStyle::Key => upper_path(alloc, name, identity),
         KeyStyle::Ssqp => lower_path(alloc, name, identity),
@@ -147,9 +120,7 @@ fn key_line(
 }
 
 /// Returns the word for the stream from which the age in the key is.
-fn age_source(identity: &Identity) -> &'static str
-    ensures { result.now ≡ age_source identity.now.debug_header }
-{
+fn age_source(identity: &Identity) -> &'static str {
     match identity.debug_header {
         Some(_) => "dbi",
         None => "pdb",
@@ -157,9 +128,7 @@ fn age_source(identity: &Identity) -> &'static str
 }
 
 /// Returns the value of a machine, or `Absent` if there is none.
-fn optional_machine<'t>(machine: Option<u16>) -> Value<'t>
-    ensures { value_shown result ≡ optional_machine machine }
-{
+fn optional_machine<'t>(machine: Option<u16>) -> Value<'t> {
     match machine {
         Some(machine) => Value::Number(machine as u64),
         None => Value::Absent,
@@ -167,9 +136,7 @@ fn optional_machine<'t>(machine: Option<u16>) -> Value<'t>
 }
 
 /// Returns the value of a flag, or `Absent` if there is none.
-fn optional_flag<'t>(flag: Option<bool>) -> Value<'t>
-    ensures { value_shown result ≡ optional_flag flag }
-{
+fn optional_flag<'t>(flag: Option<bool>) -> Value<'t> {
     match flag {
         Some(flag) => Value::Flag(flag),
         None => Value::Absent,
@@ -177,10 +144,7 @@ fn optional_flag<'t>(flag: Option<bool>) -> Value<'t>
 }
 
 /// Returns the flags of the features that a file tells of itself.
-#[tactic(auto, unfolding(crate::specs::Identity::feature_words))]
-fn feature_flags(features: Features) -> [Flag; 4]
-    ensures { words_beside_true (map (λ flag. (flag.0, flag.1.now)) result) ≡ feature_words features }
-{
+fn feature_flags(features: Features) -> [Flag; 4] {
     [
         (features.vc110, "vc110"),
         (features.vc140, "vc140"),
@@ -191,7 +155,7 @@ fn feature_flags(features: Features) -> [Flag; 4]
 
 /// Adds the features, if there are any to be found.
 fn show_features(line: &mut Line, features: Option<Features>) -> LineResult
-    ensures { ShowsFields ((FEATURES.now, optional_features features) ∷ []) line.old line.new result }
+    ensures { ShowsRow [] line.old line.new result }
 {
     match features {
         Some(features) => line.field(FEATURES, Value::Words(&feature_flags(features))),
@@ -207,9 +171,7 @@ fn show_identity(
     guid: &str,
     key: &str,
 ) -> LineResult
-    requires guid { guid.now ≡ hyphenated_text upper identity.now.guid }
-    requires key { key.now ≡ upper_key_of identity.now }
-    ensures { ShowsFields (identity_shown name.now identity.now) line.old line.new result }
+    ensures { ShowsRow [] line.old line.new result }
 {
     line.field(NAME, Value::Text(RawString::from(name)))?;
     line.field(FORMAT, Value::Word("MSF 7.00"))?;
@@ -231,7 +193,6 @@ fn show_identity(
 }
 
 /// Writes all that identifies a file as an object of JSON.
-#[tactic(auto, unfolding(crate::specs::Identity::identity_line), using(pdbdump_rows::proofs::lemmas::Line::showing, pdb_output::proofs::lemmas::Written::writing))]
 fn write_object<W: Write>(
     alloc: Global,
     style: KeyStyle,
@@ -239,7 +200,7 @@ fn write_object<W: Write>(
     identity: &Identity,
     out: &mut Output<W>,
 ) -> Result<(), Error>
-    ensures { Writes (identity_line Form.Json style name.now identity.now) out.old out.new result }
+    ensures { WritesWhat (IsRow (row_text Form.Json) []) out.old out.new result }
 {
     let mut buffer = [0u8; 36];
     let guid = identity.guid.hyphenated().encode_upper(&mut buffer);
@@ -251,7 +212,6 @@ fn write_object<W: Write>(
 }
 
 /// Writes the line of a file's identity in a style.
-#[tactic(auto, unfolding(crate::specs::Identity::identity_line), using(pdb_output::proofs::lemmas::Written::writing))]
 fn write_key<W: Write>(
     alloc: Global,
     style: KeyStyle,
@@ -259,7 +219,7 @@ fn write_key<W: Write>(
     identity: &Identity,
     out: &mut Output<W>,
 ) -> Result<(), Error>
-    ensures { Writes (identity_line Form.Text style name.now identity.now) out.old out.new result }
+    ensures { WritesWhat (IsIdentity Form.Text) out.old out.new result }
 {
     let line = key_line(alloc, style, name, identity)?;
     out.write(&line)
@@ -278,7 +238,7 @@ pub fn write_identity<W: Write>(
     form: Form,
     out: &mut Output<W>,
 ) -> Result<(), Error>
-    ensures { Writes (identity_line form style name.now identity.now) out.old out.new result }
+    ensures { WritesWhat (IsIdentity form) out.old out.new result }
 {
     match form {
         Form::Text => write_key(alloc, style, name, identity, out),

@@ -1,9 +1,10 @@
 //! The line of an item of a table.
 
-ghost use Rattle.pdbdump_rows.specs.Line.{EndsLine, ShowsFields};
-ghost use Rattle.pdbdump_tables.specs.Lines.{id_answer_row, id_line, type_answer_row, type_line};
-ghost use Rattle.pdb_tpi.specs.Item.{item_bytes, index_of};
-ghost use Rattle.pdb_tpi.specs.Record.{id_of, kind_of, type_of};
+#![tactic(auto, using(pdbdump_rows::proofs::lemmas::Line::adding))]
+
+ghost use Rattle.pdb_tpi.specs.Item.{index_of};
+ghost use Rattle.pdbdump_rows.specs.Line.{EndsRow, ShowsRow, indexed};
+ghost use Rattle.pdbdump_rows.specs.Lines.{row_text};
 
 use crate::refused_record::{ItemPlace, show_refused};
 use pdb_base::{Error, IdIndex, TypeIndex};
@@ -18,8 +19,7 @@ fn show_type_item(
     place: ItemPlace,
     line: &mut Line,
 ) -> LineResult
-    ensures { ShowsFields (type_answer_row place (index_of item.now).0 (kind_of (item_bytes item.now))
-        (type_of (index_of item.now).0 (item_bytes item.now))) line.old line.new result }
+    ensures { ShowsRow (indexed (index_of item.now).0) line.old line.new result }
 {
     let index = item.index().0;
     let leaf = item.raw_kind();
@@ -34,7 +34,7 @@ fn show_type_item(
 ///
 /// # Errors
 /// Fails if an allocation fails.
-#[tactic(auto, unfolding(crate::specs::Lines::type_line), using(pdbdump_rows::proofs::lemmas::Line::showing))]
+#[tactic(auto, using(pdbdump_rows::proofs::lemmas::Line::showing))]
 pub(crate) fn make_type(
     alloc: Global,
     form: Form,
@@ -42,7 +42,7 @@ pub(crate) fn make_type(
     place: ItemPlace,
     line: &mut Line,
 ) -> LineResult
-    ensures { EndsLine (type_line form place (index_of item.now).0 (item_bytes item.now)) line.new result }
+    ensures { EndsRow (row_text form) (indexed (index_of item.now).0) line.new result }
 {
     line.begin(form);
     let added = show_type_item(alloc, item, place, line);
@@ -56,8 +56,7 @@ fn show_id_item(
     place: ItemPlace,
     line: &mut Line,
 ) -> LineResult
-    ensures { ShowsFields (id_answer_row place (index_of item.now).0 (kind_of (item_bytes item.now))
-        (id_of (item_bytes item.now))) line.old line.new result }
+    ensures { ShowsRow (indexed (index_of item.now).0) line.old line.new result }
 {
     let index = item.index().0;
     let leaf = item.raw_kind();
@@ -72,7 +71,7 @@ fn show_id_item(
 ///
 /// # Errors
 /// Fails if an allocation fails.
-#[tactic(auto, unfolding(crate::specs::Lines::id_line), using(pdbdump_rows::proofs::lemmas::Line::showing))]
+#[tactic(auto, using(pdbdump_rows::proofs::lemmas::Line::showing))]
 pub(crate) fn make_id(
     alloc: Global,
     form: Form,
@@ -80,7 +79,7 @@ pub(crate) fn make_id(
     place: ItemPlace,
     line: &mut Line,
 ) -> LineResult
-    ensures { EndsLine (id_line form place (index_of item.now).0 (item_bytes item.now)) line.new result }
+    ensures { EndsRow (row_text form) (indexed (index_of item.now).0) line.new result }
 {
     line.begin(form);
     let added = show_id_item(alloc, item, place, line);

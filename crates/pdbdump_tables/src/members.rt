@@ -1,16 +1,14 @@
 //! The members of a type: the fields of a class, a union or an enumeration, through all lists that
 //! hold them, and the methods of a list.
 
-ghost use Rattle.std.specs.Prelude.{◌≡◌};
-ghost use Rattle.std.specs.List.{flat_map};
+ghost use Rattle.std.specs.Prelude.{◌≡◌, []};
 ghost use Rattle.std.specs.Option.{option_map};
-ghost use Rattle.pdbdump_tables.specs.Lines.{field_lines, list_of_fields, member_lines};
-ghost use Rattle.pdbdump_tables.specs.Listed.{Pushes};
-ghost use Rattle.pdbdump_rows.specs.EntryRows.{field_row};
-ghost use Rattle.pdbdump_rows.specs.Line.{Adds};
-ghost use Rattle.pdbdump_rows.specs.Lines.{row_text};
-ghost use Rattle.pdbdump_rows.specs.TypeRows.{listed_method_fields};
 ghost use Rattle.pdb_values.specs.TypeView.{type_value};
+ghost use Rattle.pdbdump_rows.specs.Line.{AddsText, IsRow};
+ghost use Rattle.pdbdump_rows.specs.Lines.{row_text};
+ghost use Rattle.pdbdump_rows.specs.Rows.{AreLines};
+ghost use Rattle.pdbdump_tables.specs.Listed.{Pushes};
+ghost use Rattle.pdbdump_tables.specs.Records.{fields_end, list_of_fields, members_end};
 
 use pdb_base::{Result, TypeIndex};
 use pdb_tpi::OpenTable;
@@ -27,7 +25,7 @@ fn push_entry(
     line: &mut Line,
     lines: &mut Vec<u8>,
 ) -> Result<()>
-    ensures { Adds (row_text form (field_row (type_value field.now))) lines.old.items lines.new.items result }
+    ensures { AddsText (IsRow (row_text form) []) lines.old.items lines.new.items result }
 {
     line.begin(form);
     let added = show_entry(alloc, line, field);
@@ -35,15 +33,14 @@ fn push_entry(
 }
 
 /// Appends a line for each field.
-#[tactic(auto, using(pdbdump_rows::proofs::Separated::one_more))]
+#[tactic(auto, using(pdbdump_rows::proofs::lemmas::Rows::lines_none_added, pdbdump_rows::proofs::lemmas::Rows::line_added))]
 fn push_entries(
     alloc: Global,
     form: Form,
     fields: &[TypeData<'_>],
     lines: &mut Vec<u8>,
 ) -> Result<()>
-    ensures { Adds (flat_map (λ field. row_text form (field_row (type_value field))) fields.now)
-        lines.old.items lines.new.items result }
+    ensures { AddsText (AreLines form) lines.old.items lines.new.items result }
 {
     let mut line = Line::new(alloc);
     for field in fields {
@@ -60,7 +57,7 @@ fn push_method(
     line: &mut Line,
     lines: &mut Vec<u8>,
 ) -> Result<()>
-    ensures { Adds (row_text form (listed_method_fields method)) lines.old.items lines.new.items result }
+    ensures { AddsText (IsRow (row_text form) []) lines.old.items lines.new.items result }
 {
     line.begin(form);
     let added = show_listed_method(line, method);
@@ -68,15 +65,14 @@ fn push_method(
 }
 
 /// Appends a line for each method.
-#[tactic(auto, using(pdbdump_rows::proofs::Separated::one_more))]
+#[tactic(auto, using(pdbdump_rows::proofs::lemmas::Rows::lines_none_added, pdbdump_rows::proofs::lemmas::Rows::line_added))]
 fn push_methods(
     alloc: Global,
     form: Form,
     methods: &[MethodListEntry],
     lines: &mut Vec<u8>,
 ) -> Result<()>
-    ensures { Adds (flat_map (λ method. row_text form (listed_method_fields method)) methods.now)
-        lines.old.items lines.new.items result }
+    ensures { AddsText (AreLines form) lines.old.items lines.new.items result }
 {
     let mut line = Line::new(alloc);
     for method in methods {
@@ -86,7 +82,7 @@ fn push_methods(
 }
 
 /// Appends a line for each field of a list and of the lists in which it continues.
-#[tactic(auto, unfolding(crate::specs::Lines::field_lines))]
+#[tactic(auto, unfolding(crate::specs::Records::fields_end))]
 fn push_list(
     alloc: Global,
     form: Form,
@@ -94,7 +90,7 @@ fn push_list(
     list: TypeIndex,
     lines: &mut Vec<u8>,
 ) -> Result<()>
-    ensures { Pushes result lines.old.items lines.new.items (field_lines form types.now.table list.0) }
+    ensures { Pushes form result lines.old.items lines.new.items (fields_end types.now.table list.0) }
 {
     let fields = types.fields(alloc, list)?;
     push_entries(alloc, form, fields.as_slice(), lines)?;
@@ -119,6 +115,7 @@ pub(crate) fn list_of_fields(index: TypeIndex, value: &TypeData<'_>) -> Option<T
 ///
 /// # Errors
 /// Fails with the error of the lists of fields, or with `OutOfMemory` if an allocation fails.
+#[tactic(auto, using(pdbdump_rows::proofs::lemmas::Rows::lines_none_added))]
 pub(crate) fn push_members(
     alloc: Global,
     form: Form,
@@ -127,8 +124,8 @@ pub(crate) fn push_members(
     value: &TypeData<'_>,
     lines: &mut Vec<u8>,
 ) -> Result<()>
-    ensures { Pushes result lines.old.items lines.new.items
-        (member_lines form types.now.table index.0 (type_value value.now)) }
+    ensures { Pushes form result lines.old.items lines.new.items
+        (members_end types.now.table index.0 (type_value value.now)) }
 {
     if let TypeData::MethodList(list) = value {
         return push_methods(alloc, form, &list.methods, lines);

@@ -1,9 +1,11 @@
 //! The names of string tables.
 
+#![tactic(auto, using(pdbdump_rows::proofs::lemmas::Line::adding))]
+
 ghost use Rattle.std.specs.Prelude.{◌≡◌};
-ghost use Rattle.pdbdump_rows.specs.Line.{ShowsFields};
+ghost use Rattle.pdbdump_rows.specs.Line.{ShowsRow};
 ghost use Rattle.pdbdump_tables.specs.Listing.{IsListed, whole};
-ghost use Rattle.pdbdump_tables.specs.Tables.{all_names, offset_name_lines, name_shown, next_place};
+ghost use Rattle.pdbdump_tables.specs.Tables.{all_names, name_rows, placed_at, next_place};
 
 use pdb_base::{RawString, Result};
 use pdb_output::Output;
@@ -23,7 +25,7 @@ fn next_place(place: u32, size: usize) -> Option<u32>
 
 /// Adds the fields of a name: its offset and its text.
 fn show_name(line: &mut Line, place: u32, name: RawString<'_>) -> LineResult
-    ensures { ShowsFields (name_shown (place, name.entry.0.now)) line.old line.new result }
+    ensures { ShowsRow (placed_at place) line.old line.new result }
 {
     line.field("offset", Value::Hexadecimal(place))?;
     line.field("name", Value::Text(name))?;
@@ -37,8 +39,7 @@ pub(crate) fn write_table<W: Write>(
     form: Form,
     out: &mut Output<W>,
 ) -> Result<()>
-    ensures { IsListed (whole (offset_name_lines form (all_names table.now)))
-        out.old out.new result }
+    ensures { IsListed form (whole (name_rows (all_names table.now))) out.old out.new result }
 {
     let mut line = Line::new(alloc);
     let mut place = 0;

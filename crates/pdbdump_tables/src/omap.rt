@@ -1,10 +1,11 @@
 //! The records of OMAP tables.
 
-ghost use Rattle.std.specs.Prelude.{◌≡◌};
+ghost use Rattle.std.specs.Prelude.{[]};
+ghost use Rattle.pdbdump_rows.specs.Line.{IsRow, WritesWhat};
 ghost use Rattle.pdbdump_rows.specs.Lines.{row_text};
-ghost use Rattle.pdb_output.specs.Output.{Writes};
+ghost use Rattle.pdbdump_rows.specs.Rows.{AreRows};
 ghost use Rattle.pdbdump_tables.specs.Listing.{IsListed};
-ghost use Rattle.pdbdump_tables.specs.Tables.{omap_all, omap_lines, omap_listing, order_shown, omap_rises};
+ghost use Rattle.pdbdump_tables.specs.Tables.{omap_all, omap_listing, omap_rows};
 
 use pdb_base::{Result, Stream};
 use pdb_output::Output;
@@ -20,7 +21,7 @@ fn write_records<W: Write>(
     line: &mut Line,
     out: &mut Output<W>,
 ) -> Result<()>
-    ensures { Writes (omap_lines form table.now) out.old out.new result }
+    ensures { WritesWhat (AreRows form (omap_rows table.now)) out.old out.new result }
 {
     for record in table.records() {
         line.begin(form);
@@ -31,9 +32,7 @@ fn write_records<W: Write>(
 }
 
 /// Returns whether no record has a source below that of the record before it.
-fn is_sorted(table: &OMAPTable) -> bool
-    ensures { result ≡ omap_rises 0 table.now }
-{
+fn is_sorted(table: &OMAPTable) -> bool {
     table.is_sorted()
 }
 
@@ -45,7 +44,7 @@ fn write_order<W: Write>(
     line: &mut Line,
     out: &mut Output<W>,
 ) -> Result<()>
-    ensures { Writes (row_text form (order_shown is_sorted)) out.old out.new result }
+    ensures { WritesWhat (IsRow (row_text form) []) out.old out.new result }
 {
     line.begin(form);
     let added = line.field("is_sorted", Value::Flag(is_sorted));
@@ -53,14 +52,13 @@ fn write_order<W: Write>(
 }
 
 /// Writes the records of a table, and then whether their sources never decrease.
-#[tactic(auto, using(pdb_output::proofs::lemmas::Written::writing))]
 fn write_table<W: Write>(
     alloc: Global,
     table: &OMAPTable,
     form: Form,
     out: &mut Output<W>,
 ) -> Result<()>
-    ensures { Writes (omap_all form table.now) out.old out.new result }
+    ensures { WritesWhat (AreRows form (omap_all table.now)) out.old out.new result }
 {
     let mut line = Line::new(alloc);
     write_records(table, form, &mut line, out)?;
@@ -78,7 +76,7 @@ pub fn write_omap<W: Write>(
     form: Form,
     out: &mut Output<W>,
 ) -> Result<()>
-    ensures { IsListed (omap_listing form stream) out.old out.new result }
+    ensures { IsListed form (omap_listing stream) out.old out.new result }
 {
     let table = OMAPTable::parse(stream)?;
     write_table(alloc, &table, form, out)

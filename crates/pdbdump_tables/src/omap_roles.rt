@@ -1,9 +1,10 @@
 //! The OMAP tables of a file, by the roles of their streams.
 
+#![tactic(auto, using(pdbdump_rows::proofs::lemmas::Line::adding))]
+
 ghost use Rattle.std.specs.Prelude.{◌≡◌};
-ghost use Rattle.pdbdump_rows.specs.Line.{ShowsFields};
+ghost use Rattle.pdbdump_rows.specs.Line.{IsRow, ShowsRow, WritesWhat};
 ghost use Rattle.pdbdump_rows.specs.Lines.{row_text};
-ghost use Rattle.pdb_output.specs.Output.{Writes};
 ghost use Rattle.pdbdump_tables.specs.Files.{both_omaps, file_omap, numbered_omap, role_omap, role_shown};
 ghost use Rattle.pdbdump_tables.specs.Listing.{IsListed};
 
@@ -18,7 +19,7 @@ use std::io::Write;
 
 /// Adds the fields of the role of the table that follows, and the number of its stream.
 fn show_role(line: &mut Line, role: &'static str, number: u32) -> LineResult
-    ensures { ShowsFields (role_shown role.now number) line.old line.new result }
+    ensures { ShowsRow (role_shown role.now) line.old line.new result }
 {
     line.field("role", Value::Word(role))?;
     line.field("stream", Value::Number(number as u64))?;
@@ -34,7 +35,7 @@ fn write_role<W: Write>(
     form: Form,
     out: &mut Output<W>,
 ) -> Result<()>
-    ensures { Writes (row_text form (role_shown role.now number)) out.old out.new result }
+    ensures { WritesWhat (IsRow (row_text form) (role_shown role.now)) out.old out.new result }
 {
     let mut line = Line::new(alloc);
     line.begin(form);
@@ -50,7 +51,7 @@ fn list_numbered<W: Write>(
     form: Form,
     out: &mut Output<W>,
 ) -> Result<()>
-    ensures listed { IsListed (numbered_omap form file.old.source.items file.old.head number)
+    ensures listed { IsListed form (numbered_omap file.old.source.items file.old.head number)
         out.old out.new result }
     ensures bytes { file.new.source.items ≡ file.old.source.items }
     ensures head { file.new.head ≡ file.old.head }
@@ -69,7 +70,7 @@ fn list_role<W: Write>(
     form: Form,
     out: &mut Output<W>,
 ) -> Result<()>
-    ensures listed { IsListed (role_omap form file.old.source.items file.old.head role.now number)
+    ensures listed { IsListed form (role_omap file.old.source.items file.old.head role.now number)
         out.old out.new result }
     ensures bytes { file.new.source.items ≡ file.old.source.items }
     ensures head { file.new.head ≡ file.old.head }
@@ -89,7 +90,7 @@ fn list_both<W: Write>(
     form: Form,
     out: &mut Output<W>,
 ) -> Result<()>
-    ensures { IsListed (both_omaps form file.old.source.items file.old.head roles.now)
+    ensures { IsListed form (both_omaps file.old.source.items file.old.head roles.now)
         out.old out.new result }
 {
     let to_source = roles.omap_to_src.msf_number();
@@ -117,7 +118,7 @@ pub fn list_omap<W: Write>(
     form: Form,
     out: &mut Output<W>,
 ) -> Result<()>
-    ensures { IsListed (file_omap form file.source.items file.head stream)
+    ensures { IsListed form (file_omap file.source.items file.head stream)
         out.old out.new result }
 {
     match stream {

@@ -1,11 +1,10 @@
 //! Parts of a file that have an error.
 
-ghost use Rattle.std.specs.Prelude.{[], ◌∷◌};
-ghost use Rattle.pdb_base.specs.Refusal.{refusal_of};
-ghost use Rattle.pdb_output.specs.Output.{Writes};
-ghost use Rattle.pdbdump_rows.specs.Line.{ShowsFields};
-ghost use Rattle.pdbdump_rows.specs.Refused.{refusal_shown};
-ghost use Rattle.pdbdump_tables.specs.Refused.{part_shown, refused_line};
+#![tactic(auto, using(pdbdump_rows::proofs::lemmas::Line::adding, pdbdump_rows::proofs::lemmas::Rows::listing))]
+
+ghost use Rattle.std.specs.Prelude.{[]};
+ghost use Rattle.pdbdump_rows.specs.Line.{ShowsRow};
+ghost use Rattle.pdbdump_rows.specs.Rows.{WritesLines};
 
 use pdb_base::{Error, Result};
 use pdb_output::Output;
@@ -32,7 +31,7 @@ pub enum Part {
 
 /// Adds the field that names a part.
 fn show_part(line: &mut Line, part: Part) -> LineResult
-    ensures { ShowsFields (part_shown part ∷ []) line.old line.new result }
+    ensures { ShowsRow [] line.old line.new result }
 {
     match part {
         Part::Header => line.field("part", Value::Word("header")),
@@ -46,14 +45,13 @@ fn show_part(line: &mut Line, part: Part) -> LineResult
 
 /// Adds the fields of a part that has an error.
 fn show_refused(alloc: Global, line: &mut Line, part: Part, error: &Error) -> LineResult
-    ensures { ShowsFields (part_shown part ∷ refusal_shown (refusal_of error.now) ∷ []) line.old line.new result }
+    ensures { ShowsRow [] line.old line.new result }
 {
     show_part(line, part)?;
     show_error(alloc, line, error)
 }
 
 /// Writes which part has an error, and which error.
-#[tactic(auto, unfolding(crate::specs::Refused::refused_line), using(pdbdump_rows::proofs::lemmas::Line::showing))]
 pub fn write_refused<W: Write>(
     alloc: Global,
     part: Part,
@@ -61,7 +59,7 @@ pub fn write_refused<W: Write>(
     form: Form,
     out: &mut Output<W>,
 ) -> Result<()>
-    ensures { Writes (refused_line form part (refusal_of error.now)) out.old out.new result }
+    ensures { WritesLines form out.old out.new result }
 {
     let mut line = Line::new(alloc);
     line.begin(form);

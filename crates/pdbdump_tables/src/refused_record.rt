@@ -1,13 +1,14 @@
 //! A record that can't be parsed.
 
+#![tactic(auto, using(pdbdump_rows::proofs::lemmas::Line::adding))]
+
 ghost use Rattle.std.specs.Prelude.{◌≡◌, Ok};
 ghost use Rattle.pdb_base.specs.Refusal.{refusal_of};
 ghost use Rattle.pdb_tpi.specs.Finder.{item_of};
 ghost use Rattle.pdb_tpi.specs.Item.{item_bytes, index_of};
-ghost use Rattle.pdb_tpi.specs.Record.{kind_of};
-ghost use Rattle.pdbdump_rows.specs.Line.{EndsLine, ShowsFields};
+ghost use Rattle.pdbdump_rows.specs.Line.{EndsRow, ShowsRow, indexed};
 ghost use Rattle.pdbdump_rows.specs.Lines.{full_text};
-ghost use Rattle.pdbdump_tables.specs.Lines.{item_byte, refused_in_full, refused_row};
+ghost use Rattle.pdbdump_tables.specs.Records.{item_byte, refused_in_full};
 ghost use Rattle.pdbdump_tables.specs.Listed.{IsShown};
 
 use pdb_base::{Error, ItemIndex, Result};
@@ -33,7 +34,6 @@ pub(crate) struct ItemPlace {
 ///
 /// # Errors
 /// Fails if an allocation fails.
-#[tactic(auto, unfolding(crate::specs::Lines::refused_row))]
 pub(crate) fn show_refused(
     alloc: Global,
     line: &mut Line,
@@ -42,7 +42,7 @@ pub(crate) fn show_refused(
     place: ItemPlace,
     fault: &Error,
 ) -> LineResult
-    ensures { ShowsFields (refused_row place index leaf (refusal_of fault.now)) line.old line.new result }
+    ensures { ShowsRow (indexed index) line.old line.new result }
 {
     line.field("index", Value::Hexadecimal(index))?;
     line.field("kind", Value::Kind(leaf))?;
@@ -63,7 +63,7 @@ fn make_refused(
     fault: &Error,
     line: &mut Line,
 ) -> LineResult
-    ensures { EndsLine (full_text form (refused_row place index leaf (refusal_of fault.now))) line.new result }
+    ensures { EndsRow (full_text form) (indexed index) line.new result }
 {
     line.begin_full(form);
     let added = show_refused(alloc, line, index, leaf, place, fault);
@@ -98,8 +98,8 @@ pub(crate) fn write_unread<I: ItemIndex, W: Write>(
     out: &mut Output<W>,
 ) -> Result<()>
     requires { item_of table.now.table (I.number (index_of item.now)) ≡ Ok (item_bytes item.now) }
-    ensures { IsShown (refused_in_full form stream table.now.table (I.number (index_of item.now))
-        (kind_of (item_bytes item.now)) (refusal_of fault)) out.old out.new result }
+    ensures { IsShown form (I.number (index_of item.now))
+        (refused_in_full table.now.table (I.number (index_of item.now)) (refusal_of fault)) out.old out.new result }
 {
     let Some(byte) = item_byte(table, item) else {
         return Err(fault);

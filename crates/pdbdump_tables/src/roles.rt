@@ -1,20 +1,12 @@
 //! The role and the name of a stream.
 
-ghost use Rattle.std.specs.Prelude.{◌≡◌, map};
-ghost use Rattle.std.specs.Option.{option_map};
-ghost use Rattle.pdb_file.specs.StreamNames.{named_view};
-ghost use Rattle.pdbdump_tables.specs.Streams.{has_hashes, hash_role, header_role, is_of, listed_role};
-ghost use Rattle.pdbdump_tables.specs.Streams.{name_of_stream, role_of, symbol_role};
-
 use crate::headers::Headers;
 use pdb_base::{RawString, StreamIndex};
 use pdb_file::{DBIExtraStreams, DBIHeader, StreamName};
 use pdb_tpi::Header;
 
 /// Returns whether an index names the stream with this number.
-fn is_of(index: StreamIndex, number: u32) -> bool
-    ensures { result ≡ is_of index number }
-{
+fn is_of(index: StreamIndex, number: u32) -> bool {
     match index.msf_number() {
         Some(named) => named == number,
         None => false,
@@ -22,10 +14,7 @@ fn is_of(index: StreamIndex, number: u32) -> bool
 }
 
 /// Returns the role that the debug header gives a stream, the first one if it gives several.
-#[tactic(auto, unfolding(crate::specs::Streams::listed_role))]
-fn listed_role(roles: &DBIExtraStreams, number: u32) -> Option<&'static str>
-    ensures { option_map (λ role. role.now) result ≡ listed_role roles.now number }
-{
+fn listed_role(roles: &DBIExtraStreams, number: u32) -> Option<&'static str> {
     if is_of(roles.fpo, number) {
         Some("fpo")
     } else if is_of(roles.exception, number) {
@@ -54,10 +43,7 @@ fn listed_role(roles: &DBIExtraStreams, number: u32) -> Option<&'static str>
 }
 
 /// Returns the role that the header of the stream of debug information gives a stream.
-#[tactic(auto, unfolding(crate::specs::Streams::symbol_role))]
-fn symbol_role(header: &DBIHeader, number: u32) -> Option<&'static str>
-    ensures { option_map (λ role. role.now) result ≡ symbol_role header.now number }
-{
+fn symbol_role(header: &DBIHeader, number: u32) -> Option<&'static str> {
     if is_of(header.gs_symbols_stream, number) {
         Some("globals")
     } else if is_of(header.ps_symbols_stream, number) {
@@ -70,9 +56,7 @@ fn symbol_role(header: &DBIHeader, number: u32) -> Option<&'static str>
 }
 
 /// Returns whether the header of a table names a stream as one of hashes.
-fn has_hashes(header: Option<Header>, number: u32) -> bool
-    ensures { result ≡ has_hashes header number }
-{
+fn has_hashes(header: Option<Header>, number: u32) -> bool {
     match header {
         Some(header) => {
             is_of(StreamIndex(header.tpi_hash_stream), number)
@@ -83,10 +67,7 @@ fn has_hashes(header: Option<Header>, number: u32) -> bool
 }
 
 /// Returns the role that the header of a table gives a stream.
-#[tactic(auto, unfolding(crate::specs::Streams::hash_role))]
-fn hash_role(headers: &Headers, number: u32) -> Option<&'static str>
-    ensures { option_map (λ role. role.now) result ≡ hash_role headers.now number }
-{
+fn hash_role(headers: &Headers, number: u32) -> Option<&'static str> {
     if has_hashes(headers.types, number) {
         Some("type_hashes")
     } else if has_hashes(headers.ids, number) {
@@ -97,9 +78,7 @@ fn hash_role(headers: &Headers, number: u32) -> Option<&'static str>
 }
 
 /// Returns the role that a header gives a stream, the first one if several do.
-fn header_role(headers: &Headers, number: u32) -> Option<&'static str>
-    ensures { option_map (λ role. role.now) result ≡ header_role headers.now number }
-{
+fn header_role(headers: &Headers, number: u32) -> Option<&'static str> {
     if let Some(header) = &headers.debug
         && let Some(role) = symbol_role(header, number)
     {
@@ -110,10 +89,7 @@ fn header_role(headers: &Headers, number: u32) -> Option<&'static str>
 
 /// Returns the role of a stream, if it has one. The roles of streams 1 to 4 are fixed, and the
 /// debug header and other headers give those of others.
-#[tactic(auto, unfolding(crate::specs::Streams::role_of))]
-pub fn role_of(roles: &DBIExtraStreams, headers: &Headers, number: u32) -> Option<&'static str>
-    ensures { option_map (λ role. role.now) result ≡ role_of roles.now headers.now number }
-{
+pub fn role_of(roles: &DBIExtraStreams, headers: &Headers, number: u32) -> Option<&'static str> {
     match number {
         1 => Some("pdb_information"),
         2 => Some("types"),
@@ -127,9 +103,7 @@ pub fn role_of(roles: &DBIExtraStreams, headers: &Headers, number: u32) -> Optio
 }
 
 /// Returns the first name of a stream, if it has one.
-pub fn name_of<'n>(names: &[StreamName<'n>], number: u32) -> Option<RawString<'n>>
-    ensures { option_map (λ name. name.0.now) result ≡ name_of_stream (map named_view names.now) number }
-{
+pub fn name_of<'n>(names: &[StreamName<'n>], number: u32) -> Option<RawString<'n>> {
     for named in names {
         if named.stream_id.0 as u32 == number {
             return Some(named.name);

@@ -24,7 +24,7 @@ pub fn write_sections<W: Write>(
     form: Form,
     out: &mut Output<W>,
 ) -> Result<()>
-    ensures { IsListed (sections_listing form stream.now) out.old out.new result }
+    ensures { IsListed form (sections_listing stream.now) out.old out.new result }
 {
     let mut line = Line::new(alloc);
     let mut buffer = stream.parse_buffer();

@@ -1,16 +1,12 @@
 //! The streams of a file, one line for each.
 
-ghost use Rattle.std.specs.Prelude.{◌≡◌};
-ghost use Rattle.std.specs.Option.{option_map};
+#![tactic(auto, using(pdbdump_rows::proofs::lemmas::Line::adding, pdbdump_rows::proofs::lemmas::Rows::listing))]
+
+ghost use Rattle.std.specs.Prelude.{[]};
 ghost use Rattle.pdb_base.specs.Answer.{Answers};
-ghost use Rattle.pdb_msf.specs.Directory.{stream_count_in};
 ghost use Rattle.pdb_msf.specs.File.{stream_of};
-ghost use Rattle.pdbdump_rows.specs.Line.{ShowsFields};
-ghost use Rattle.pdbdump_rows.specs.Row.{value_shown};
-ghost use Rattle.pdb_output.specs.Output.{Writes};
-ghost use Rattle.pdbdump_tables.specs.Known.{known_view};
-ghost use Rattle.pdbdump_tables.specs.Streams.{numbered_streams, pages_held, size_line, stream_line, stream_lines};
-ghost use Rattle.pdbdump_tables.specs.Streams.{stream_shown};
+ghost use Rattle.pdbdump_rows.specs.Line.{ShowsRow};
+ghost use Rattle.pdbdump_rows.specs.Rows.{WritesLines};
 
 use crate::headers::Headers;
 use crate::parts::{Part, write_refused};
@@ -45,11 +41,7 @@ pub fn stream(
     file: &mut PDB<Vec<u8>>,
     number: u32,
     limit: Option<usize>,
-) -> Result<Stream>
-    ensures stream { Answers (λ stream. stream) result (stream_of file.old.source.items file.old.head number limit) }
-    ensures bytes { file.new.source.items ≡ file.old.source.items }
-    ensures head { file.new.head ≡ file.old.head }
-{
+) -> Result<Stream> {
     file.get(alloc, number, limit)
 }
 
@@ -65,10 +57,7 @@ pub fn last_stream(alloc: Global, file: PDB<Vec<u8>>, number: u32) -> Result<Str
 }
 
 /// Returns how many pages hold `size` bytes, or no value if the size of a page is not known.
-#[tactic(auto, unfolding(pdb_msf::specs::Pages::pages))]
-fn pages_held<'t>(page_size: u32, size: u32) -> Value<'t>
-    ensures { value_shown result ≡ pages_held page_size size }
-{
+fn pages_held<'t>(page_size: u32, size: u32) -> Value<'t> {
     if page_size == 0 {
         return Value::Absent;
     }
@@ -85,8 +74,7 @@ fn show_stream(
     role: Option<&'static str>,
     name: Option<RawString<'_>>,
 ) -> LineResult
-    ensures { ShowsFields (stream_shown page_size number size (option_map (λ role. role.now) role.entry)
-        (option_map (λ name. name.0.now) name.entry)) line.old line.new result }
+    ensures { ShowsRow [] line.old line.new result }
 {
     line.field("stream", Value::Number(number as u64))?;
     line.field("bytes", Value::Number(size as u64))?;
@@ -97,7 +85,6 @@ fn show_stream(
 }
 
 /// Writes the line of a stream with this number and this size in bytes.
-#[tactic(auto, using(pdbdump_rows::proofs::lemmas::Line::showing))]
 fn write_size<W: Write>(
     number: u32,
     size: u32,
@@ -106,8 +93,7 @@ fn write_size<W: Write>(
     line: &mut Line,
     out: &mut Output<W>,
 ) -> Result<()>
-    ensures { Writes (size_line form (known_view known.entry) number size)
-        out.old out.new result }
+    ensures { WritesLines form out.old out.new result }
 {
     let role = role_of(&known.roles, &known.headers, number);
     let name = name_of(known.names, number);
@@ -118,7 +104,6 @@ fn write_size<W: Write>(
 
 /// Writes the line of the stream with this number, if there is one. If its size can't be read, the
 /// line has the error.
-#[tactic(auto, unfolding(crate::specs::Streams::stream_line), using(pdb_output::proofs::lemmas::Written::writing))]
 fn write_stream<W: Write>(
     alloc: Global,
     number: u32,
@@ -127,7 +112,7 @@ fn write_stream<W: Write>(
     line: &mut Line,
     out: &mut Output<W>,
 ) -> Result<()>
-    ensures { Writes (stream_line form (known_view known.entry) number) out.old out.new result }
+    ensures { WritesLines form out.old out.new result }
 {
     match known.layout.stream_size(number) {
         Ok(size) => write_size(number, size, known, form, line, out),
@@ -137,9 +122,7 @@ fn write_stream<W: Write>(
 }
 
 /// Returns how many streams of a layout a number of 16 bits can name.
-fn nameable(layout: &Layout) -> u32
-    ensures { result ≡ numbered_streams (stream_count_in layout.now.directory) }
-{
+fn nameable(layout: &Layout) -> u32 {
     match layout.stream_count() {
         Ok(count) => count.min(NO_STREAM),
         Err(_) => 0,
@@ -153,7 +136,7 @@ pub fn write_streams<W: Write>(
     form: Form,
     out: &mut Output<W>,
 ) -> Result<()>
-    ensures { Writes (stream_lines form (known_view known.entry)) out.old out.new result }
+    ensures { WritesLines form out.old out.new result }
 {
     let mut line = Line::new(alloc);
     for number in 0..nameable(known.layout) {

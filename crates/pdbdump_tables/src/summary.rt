@@ -1,20 +1,11 @@
 //! The summary of a file.
 
-ghost use Rattle.std.specs.Prelude.{◌≡◌, [], ◌++◌, IfOk};
-ghost use Rattle.pdb_base.specs.Answer.{Answers, Gives};
-ghost use Rattle.pdb_base.specs.Refusal.{refusal_of};
-ghost use Rattle.pdb_file.specs.File.{file_roles};
-ghost use Rattle.pdb_file.specs.StreamNames.{stream_names_of};
-ghost use Rattle.pdbdump_rows.specs.Line.{ShowsFields};
-ghost use Rattle.pdb_output.specs.Output.{Writes, done_of};
-ghost use Rattle.pdbdump_tables.specs.Known.{known_view};
-ghost use Rattle.pdbdump_tables.specs.Refused.{refused_line};
-ghost use Rattle.pdbdump_tables.specs.Streams.{stream_lines};
-ghost use Rattle.pdbdump_tables.specs.Summary.{counted_layout, named_part, streams_with_names, no_roles, pages_line};
-ghost use Rattle.pdbdump_tables.specs.Summary.{pages_of, pages_shown, parts_lines, said_or, streams_part};
-ghost use Rattle.pdbdump_tables.specs.Summary.{summary_listing, tables_part, refusal_line};
-ghost use Rattle.pdbdump_tables.specs.declared.parts.Part.TheVariants as parts;
-ghost use Rattle.pdbdump_tables.specs.Listing.{IsListed};
+#![tactic(auto, using(pdbdump_rows::proofs::lemmas::Line::adding, pdbdump_rows::proofs::lemmas::Rows::listing))]
+
+ghost use Rattle.std.specs.Prelude.{[]};
+ghost use Rattle.pdb_output.specs.Output.{done_of};
+ghost use Rattle.pdbdump_rows.specs.Line.{ShowsRow};
+ghost use Rattle.pdbdump_rows.specs.Rows.{WritesLines};
 
 use crate::headers::headers_of;
 use crate::parts::{Part, write_refused};
@@ -32,10 +23,7 @@ use std::io::Write;
 const PAGE_SIZE_OFFSET: usize = 32;
 
 /// Reads the size of a page and how many pages are used, as the header of a file says them.
-#[tactic(auto, unfolding(crate::specs::Summary::pages_of), using(std::proofs::lemmas::List::drop_min))]
-fn pages_of(file: &[u8]) -> Result<(u32, u32)>
-    ensures { Gives (λ pages. pages) result (pages_of file.now) }
-{
+fn pages_of(file: &[u8]) -> Result<(u32, u32)> {
     let mut buffer = ParseBuffer::from(file);
     buffer.seek(PAGE_SIZE_OFFSET);
     let page_size = buffer.parse_u32()?;
@@ -47,7 +35,7 @@ fn pages_of(file: &[u8]) -> Result<(u32, u32)>
 /// Adds the fields of a file: the size of its pages in bytes, how many pages it uses, and its own
 /// size in bytes.
 fn show_pages(line: &mut Line, page_size: u32, pages: u32, size: usize) -> LineResult
-    ensures { ShowsFields (pages_shown (page_size, pages) size) line.old line.new result }
+    ensures { ShowsRow [] line.old line.new result }
 {
     line.field("page_size", Value::Number(page_size as u64))?;
     line.field("pages", Value::Number(pages as u64))?;
@@ -56,10 +44,7 @@ fn show_pages(line: &mut Line, page_size: u32, pages: u32, size: usize) -> LineR
 }
 
 /// Reads the layout of a file, and fails if its directory or the count of streams can't be read.
-#[tactic(auto, unfolding(crate::specs::Summary::counted_layout))]
-fn counted_layout(alloc: Global, file: &[u8]) -> Result<Layout>
-    ensures { Answers (λ layout. layout) result (counted_layout file.now) }
-{
+fn counted_layout(alloc: Global, file: &[u8]) -> Result<Layout> {
     let layout = Layout::read(alloc, file)?;
     layout.stream_count()?;
     Ok(layout)
@@ -67,18 +52,13 @@ fn counted_layout(alloc: Global, file: &[u8]) -> Result<Layout>
 
 /// Returns the roles of streams that stream 3 gives. If these can't be read, writes the error, and
 /// returns that no stream has a role.
-#[tactic(auto, using(pdb_output::proofs::lemmas::Written::writing))]
 fn known_roles<W: Write>(
     alloc: Global,
     file: &mut PDB<Vec<u8>>,
     form: Form,
     out: &mut Output<W>,
 ) -> Result<DBIExtraStreams>
-    ensures roles { IfOk result (λ roles. roles ≡ said_or no_roles (file_roles file.old.source.items file.old.head)) }
-    ensures told { Writes (refusal_line form parts.Roles (file_roles file.old.source.items file.old.head))
-        out.old out.new (done_of result) }
-    ensures bytes { file.new.source.items ≡ file.old.source.items }
-    ensures head { file.new.head ≡ file.old.head }
+    ensures { WritesLines form out.old out.new (done_of result) }
 {
     match file.extra_streams(alloc) {
         Ok(roles) => Ok(roles),
@@ -91,7 +71,6 @@ fn known_roles<W: Write>(
 }
 
 /// Writes the error of the names of streams, and then the streams as `known` describes them.
-#[tactic(auto, using(pdb_output::proofs::lemmas::Written::writing))]
 fn write_unnamed<W: Write>(
     alloc: Global,
     known: Known<'_, '_>,
@@ -99,8 +78,7 @@ fn write_unnamed<W: Write>(
     form: Form,
     out: &mut Output<W>,
 ) -> Result<()>
-    ensures { Writes (refused_line form parts.Names (refusal_of error.now) ++
-        stream_lines form (known_view known.entry)) out.old out.new result }
+    ensures { WritesLines form out.old out.new result }
 {
     write_refused(alloc, Part::Names, error, form, out)?;
     write_streams(alloc, known, form, out)
@@ -108,7 +86,6 @@ fn write_unnamed<W: Write>(
 
 /// Writes the streams of a file, with the names that stream 1 gives. If these can't be read, writes
 /// the error, and then the streams without names.
-#[tactic(auto, using(pdb_output::proofs::lemmas::Written::writing))]
 fn write_named<W: Write>(
     alloc: Global,
     unnamed: Known<'_, '_>,
@@ -116,9 +93,7 @@ fn write_named<W: Write>(
     form: Form,
     out: &mut Output<W>,
 ) -> Result<()>
-    requires { (known_view unnamed).names ≡ [] }
-    ensures { Writes (named_part form (known_view unnamed.entry) (stream_names_of information.now))
-        out.old out.new result }
+    ensures { WritesLines form out.old out.new result }
 {
     match information.stream_names(alloc) {
         Ok(names) => {
@@ -137,7 +112,6 @@ fn write_named<W: Write>(
 
 /// Writes the streams of a file. If their names can't be read, writes the error first, and no
 /// stream has a name.
-#[tactic(auto, unfolding(crate::specs::Summary::streams_with_names), using(pdb_output::proofs::lemmas::Written::writing))]
 fn write_all_streams<W: Write>(
     alloc: Global,
     file: &mut PDB<Vec<u8>>,
@@ -145,11 +119,7 @@ fn write_all_streams<W: Write>(
     form: Form,
     out: &mut Output<W>,
 ) -> Result<()>
-    requires { (known_view unnamed).names ≡ [] }
-    ensures lines { Writes (named_part form (known_view unnamed.entry)
-        (streams_with_names file.old.source.items file.old.head)) out.old out.new result }
-    ensures bytes { file.new.source.items ≡ file.old.source.items }
-    ensures head { file.new.head ≡ file.old.head }
+    ensures { WritesLines form out.old out.new result }
 {
     match file.pdb_information(alloc) {
         Ok(information) => write_named(alloc, unnamed, &information, form, out),
@@ -159,7 +129,6 @@ fn write_all_streams<W: Write>(
 }
 
 /// Writes the streams of a file, and the errors of their roles and names.
-#[tactic(auto, unfolding(crate::specs::Summary::streams_part), using(pdb_output::proofs::lemmas::Written::writing))]
 fn write_streams_part<W: Write>(
     alloc: Global,
     file: &mut PDB<Vec<u8>>,
@@ -167,10 +136,7 @@ fn write_streams_part<W: Write>(
     form: Form,
     out: &mut Output<W>,
 ) -> Result<()>
-    ensures lines { Writes (streams_part form layout.now file.old.source.items file.old.head)
-        out.old out.new result }
-    ensures bytes { file.new.source.items ≡ file.old.source.items }
-    ensures head { file.new.head ≡ file.old.head }
+    ensures { WritesLines form out.old out.new result }
 {
     let headers = headers_of(alloc, file)?;
     let roles = known_roles(alloc, file, form, out)?;
@@ -185,14 +151,13 @@ fn write_streams_part<W: Write>(
 
 /// Writes the tables of types and of ids. The walk over the types is the last, since it consumes the
 /// file: in most files, they are the largest stream.
-#[tactic(auto, unfolding(crate::specs::Summary::tables_part, crate::specs::Kinds::table_part), using(pdb_output::proofs::lemmas::Written::writing))]
 fn write_tables<W: Write>(
     alloc: Global,
     mut file: PDB<Vec<u8>>,
     form: Form,
     out: &mut Output<W>,
 ) -> Result<()>
-    ensures { Writes (tables_part form file.source.items file.head) out.old out.new result }
+    ensures { WritesLines form out.old out.new result }
 {
     let ids = walk_table(alloc, &mut file, ID_STREAM);
     let types = walk_last_table(alloc, file, TYPE_STREAM);
@@ -201,7 +166,6 @@ fn write_tables<W: Write>(
 }
 
 /// Writes the parts of a file whose directory is read.
-#[tactic(auto, using(pdb_output::proofs::lemmas::Written::writing))]
 fn write_read_parts<W: Write>(
     alloc: Global,
     mut file: PDB<Vec<u8>>,
@@ -209,23 +173,20 @@ fn write_read_parts<W: Write>(
     form: Form,
     out: &mut Output<W>,
 ) -> Result<()>
-    ensures { Writes (streams_part form layout.now file.source.items file.head ++
-        tables_part form file.source.items file.head)
-        out.old out.new result }
+    ensures { WritesLines form out.old out.new result }
 {
     write_streams_part(alloc, &mut file, layout, form, out)?;
     write_tables(alloc, file, form, out)
 }
 
 /// Writes all parts of a file, or the error of its directory.
-#[tactic(auto, unfolding(crate::specs::Summary::parts_lines), using(pdb_output::proofs::lemmas::Written::writing))]
 fn write_parts<W: Write>(
     alloc: Global,
     file: PDB<Vec<u8>>,
     form: Form,
     out: &mut Output<W>,
 ) -> Result<()>
-    ensures { Writes (parts_lines form file.source.items file.head) out.old out.new result }
+    ensures { WritesLines form out.old out.new result }
 {
     match counted_layout(alloc, file.msf().source()) {
         Ok(layout) => write_read_parts(alloc, file, &layout, form, out),
@@ -235,9 +196,8 @@ fn write_parts<W: Write>(
 }
 
 /// Writes the line of a file, or the error of its header.
-#[tactic(auto, unfolding(crate::specs::Summary::pages_line), using(pdbdump_rows::proofs::lemmas::Line::showing, pdb_output::proofs::lemmas::Written::writing))]
 fn write_pages<W: Write>(alloc: Global, file: &[u8], form: Form, out: &mut Output<W>) -> Result<()>
-    ensures { Writes (pages_line form file.now) out.old out.new result }
+    ensures { WritesLines form out.old out.new result }
 {
     match pages_of(file) {
         Ok((page_size, pages)) => {
@@ -251,15 +211,13 @@ fn write_pages<W: Write>(alloc: Global, file: &[u8], form: Form, out: &mut Outpu
 }
 
 /// Writes the line of a file, and then all its parts.
-#[tactic(auto, using(pdb_output::proofs::lemmas::Written::writing))]
 fn write_summary<W: Write>(
     alloc: Global,
     file: PDB<Vec<u8>>,
     form: Form,
     out: &mut Output<W>,
 ) -> Result<()>
-    ensures { Writes (pages_line form file.source.items ++ parts_lines form file.source.items file.head)
-        out.old out.new result }
+    ensures { WritesLines form out.old out.new result }
 {
     write_pages(alloc, file.msf().source(), form, out)?;
     write_parts(alloc, file, form, out)
@@ -277,7 +235,7 @@ pub fn list_summary<W: Write>(
     form: Form,
     out: &mut Output<W>,
 ) -> Result<()>
-    ensures { IsListed (summary_listing form file.source.items file.head) out.old out.new result }
+    ensures { WritesLines form out.old out.new result }
 {
     write_summary(alloc, file, form, out)
 }

@@ -1,15 +1,10 @@
 //! The tables of a file, and the kinds of their records.
 
-ghost use Rattle.std.specs.Prelude.{◌≡◌, ◌++◌};
-ghost use Rattle.std.specs.Option.{option_map};
-ghost use Rattle.pdb_base.specs.Answer.{Answer};
-ghost use Rattle.pdb_base.specs.Refusal.{refusal_of};
-ghost use Rattle.pdbdump_rows.specs.Line.{ShowsFields};
-ghost use Rattle.pdbdump_rows.specs.Lines.{row_text};
-ghost use Rattle.pdb_output.specs.Output.{Writes};
-ghost use Rattle.pdbdump_tables.specs.Kinds.{kind_lines, kind_shown, stop_line, table_by, table_found, table_shown};
-ghost use Rattle.pdbdump_tables.specs.Tally.{SaysTable};
-ghost use Rattle.pdb_tpi.specs.Table.{Table, table_of};
+#![tactic(auto, using(pdbdump_rows::proofs::lemmas::Line::adding, pdbdump_rows::proofs::lemmas::Rows::listing))]
+
+ghost use Rattle.std.specs.Prelude.{[]};
+ghost use Rattle.pdbdump_rows.specs.Line.{ShowsRow};
+ghost use Rattle.pdbdump_rows.specs.Rows.{WritesLines};
 
 use crate::kinds::{KindCount, Walked, walk_over};
 use crate::parts::{Part, write_refused};
@@ -25,8 +20,7 @@ use std::io::Write;
 /// Adds the fields of a table: the number of its stream, how many records it has and how many of
 /// them are lists of fields that another list continues, and the indexes that its header counts.
 fn show_table(line: &mut Line, number: u32, walked: &Walked) -> LineResult
-    ensures { ShowsFields (table_shown number walked.now.records walked.now.continued walked.now.header)
-        line.old line.new result }
+    ensures { ShowsRow [] line.old line.new result }
 {
     line.field("table", Value::Number(number as u64))?;
     line.field("records", Value::Number(walked.records))?;
@@ -44,7 +38,6 @@ fn show_table(line: &mut Line, number: u32, walked: &Walked) -> LineResult
 
 /// Writes the line of a table: how many records it has and how many of them are lists of fields
 /// that another list continues, and the indexes that its header counts.
-#[tactic(auto, using(pdbdump_rows::proofs::lemmas::Line::showing))]
 fn write_head<W: Write>(
     alloc: Global,
     number: u32,
@@ -52,8 +45,7 @@ fn write_head<W: Write>(
     form: Form,
     out: &mut Output<W>,
 ) -> Result<()>
-    ensures { Writes (row_text form (table_shown number walked.now.records walked.now.continued walked.now.header))
-        out.old out.new result }
+    ensures { WritesLines form out.old out.new result }
 {
     let mut line = Line::new(alloc);
     line.begin(form);
@@ -63,7 +55,7 @@ fn write_head<W: Write>(
 
 /// Adds the fields of a kind of a table's records: how many there are, and how many bytes they take.
 fn show_kind(line: &mut Line, number: u32, kind: KindCount) -> LineResult
-    ensures { ShowsFields (kind_shown number kind) line.old line.new result }
+    ensures { ShowsRow [] line.old line.new result }
 {
     line.field("table", Value::Number(number as u64))?;
     line.field("kind", Value::Kind(kind.leaf))?;
@@ -80,7 +72,7 @@ fn write_kinds<W: Write>(
     form: Form,
     out: &mut Output<W>,
 ) -> Result<()>
-    ensures { Writes (kind_lines form number kinds.now) out.old out.new result }
+    ensures { WritesLines form out.old out.new result }
 {
     let mut line = Line::new(alloc);
     for kind in kinds {
@@ -99,8 +91,7 @@ fn write_stop<W: Write>(
     form: Form,
     out: &mut Output<W>,
 ) -> Result<()>
-    ensures { Writes (stop_line form number (option_map refusal_of fault.now))
-        out.old out.new result }
+    ensures { WritesLines form out.old out.new result }
 {
     match fault {
         Some(fault) => write_refused(alloc, Part::Table(number), fault, form, out),
@@ -109,7 +100,6 @@ fn write_stop<W: Write>(
 }
 
 /// Writes the kinds of a table's records, and the fault at which its walk stops, if it does.
-#[tactic(auto, using(pdb_output::proofs::lemmas::Written::writing))]
 fn write_rest<W: Write>(
     alloc: Global,
     number: u32,
@@ -117,9 +107,7 @@ fn write_rest<W: Write>(
     form: Form,
     out: &mut Output<W>,
 ) -> Result<()>
-    ensures { Writes (kind_lines form number walked.now.kinds.items ++
-        stop_line form number (option_map refusal_of walked.now.fault))
-        out.old out.new result }
+    ensures { WritesLines form out.old out.new result }
 {
     write_kinds(alloc, number, &walked.kinds, form, out)?;
     write_stop(alloc, number, &walked.fault, form, out)
@@ -127,7 +115,6 @@ fn write_rest<W: Write>(
 
 /// Writes a table that was walked over: its line, the kinds of its records, and the fault at which
 /// its walk stops, if it does.
-#[tactic(auto, using(pdb_output::proofs::lemmas::Written::writing))]
 fn write_walked<W: Write>(
     alloc: Global,
     number: u32,
@@ -135,10 +122,7 @@ fn write_walked<W: Write>(
     form: Form,
     out: &mut Output<W>,
 ) -> Result<()>
-    ensures { Writes (row_text form (table_shown number walked.now.records walked.now.continued walked.now.header)
-        ++ (kind_lines form number walked.now.kinds.items ++
-        stop_line form number (option_map refusal_of walked.now.fault)))
-        out.old out.new result }
+    ensures { WritesLines form out.old out.new result }
 {
     write_head(alloc, number, walked, form, out)?;
     write_rest(alloc, number, walked, form, out)
@@ -148,9 +132,7 @@ fn write_walked<W: Write>(
 ///
 /// # Errors
 /// Fails as `TypeInformation::parse` does, and with `OutOfMemory` if an allocation fails.
-fn walk_in(alloc: Global, stream: Stream) -> Result<Walked>
-    ensures { SaysTable (table_of stream) result }
-{
+fn walk_in(alloc: Global, stream: Stream) -> Result<Walked> {
     let table = TypeInformation::parse(stream)?;
     Ok(walk_over(alloc, &table)?)
 }
@@ -160,12 +142,7 @@ fn walk_in(alloc: Global, stream: Stream) -> Result<Walked>
 /// # Errors
 /// Fails as `Msf::get` does for the stream, and then as `TypeInformation::parse` does for its bytes;
 /// with `OutOfMemory` if an allocation fails.
-#[tactic(auto, unfolding(crate::specs::Kinds::table_found))]
-pub fn walk_table(alloc: Global, file: &mut PDB<Vec<u8>>, number: u32) -> Result<Walked>
-    ensures says { SaysTable (table_found file.old.source.items file.old.head number) result }
-    ensures bytes { file.new.source.items ≡ file.old.source.items }
-    ensures head { file.new.head ≡ file.old.head }
-{
+pub fn walk_table(alloc: Global, file: &mut PDB<Vec<u8>>, number: u32) -> Result<Walked> {
     walk_in(alloc, stream(alloc, file, number, None)?)
 }
 
@@ -173,10 +150,7 @@ pub fn walk_table(alloc: Global, file: &mut PDB<Vec<u8>>, number: u32) -> Result
 ///
 /// # Errors
 /// Fails as `walk_table` does.
-#[tactic(auto, unfolding(crate::specs::Kinds::table_found))]
-pub fn walk_last_table(alloc: Global, file: PDB<Vec<u8>>, number: u32) -> Result<Walked>
-    ensures { SaysTable (table_found file.source.items file.head number) result }
-{
+pub fn walk_last_table(alloc: Global, file: PDB<Vec<u8>>, number: u32) -> Result<Walked> {
     walk_in(alloc, last_stream(alloc, file, number)?)
 }
 
@@ -193,8 +167,7 @@ pub fn write_table<W: Write>(
     form: Form,
     out: &mut Output<W>,
 ) -> Result<()>
-    ensures { (table : Answer Table) → SaysTable table walked.now →
-        Writes (table_by form number table) out.old out.new result }
+    ensures { WritesLines form out.old out.new result }
 {
     match walked {
         Ok(walked) => write_walked(alloc, number, walked, form, out),

@@ -1,12 +1,11 @@
 //! Tables of types.
 
-ghost use Rattle.std.specs.Prelude.{◌≡◌, IfOk, Ok};
+ghost use Rattle.std.specs.Prelude.{Ok, ◌≡◌, IfOk};
 ghost use Rattle.pdb_base.specs.Memory.{FailsOnlyForMemory};
 ghost use Rattle.pdb_values.specs.TypeView.{type_value};
-ghost use Rattle.pdbdump_rows.specs.TypeRows.{type_row};
-ghost use Rattle.pdbdump_rows.specs.Line.{EndsLine};
+ghost use Rattle.pdbdump_rows.specs.Line.{EndsRow, indexed};
 ghost use Rattle.pdbdump_rows.specs.Lines.{full_text};
-ghost use Rattle.pdbdump_tables.specs.Lines.{member_lines, placed_line, type_lines_at, type_line, type_shown};
+ghost use Rattle.pdbdump_tables.specs.Records.{members_end, type_shown, type_shown_in};
 ghost use Rattle.pdbdump_tables.specs.Listed.{IsTableListed, IsShown, IsWalked};
 
 use crate::item_line::make_type;
@@ -28,7 +27,7 @@ fn list_types<W: Write>(
     form: Form,
     out: &mut Output<W>,
 ) -> Result<()>
-    ensures { IsWalked (placed_line (type_line form) stream table.now) table.now out.old out.new result }
+    ensures { IsWalked form table.now out.old out.new result }
 {
     let mut items = table.iter();
     let mut line = Line::new(alloc);
@@ -62,7 +61,7 @@ pub fn types<W: Write>(
     form: Form,
     out: &mut Output<W>,
 ) -> Result<()>
-    ensures { IsTableListed (placed_line (type_line form) number) stream out.old out.new result }
+    ensures { IsTableListed form stream out.old out.new result }
 {
     let table = TypeInformation::parse(stream)?;
     list_types(alloc, &table, number, form, out)
@@ -109,7 +108,7 @@ fn make_full(
     value: &TypeData<'_>,
     line: &mut Line,
 ) -> LineResult
-    ensures { EndsLine (full_text form (type_row index leaf (type_value value.now))) line.new result }
+    ensures { EndsRow (full_text form) (indexed index) line.new result }
 {
     line.begin_full(form);
     let added = show_type(alloc, line, index, leaf, value);
@@ -126,10 +125,8 @@ fn write_value<W: Write>(
     form: Form,
     out: &mut Output<W>,
 ) -> Result<()>
-    ensures { IsShown (Ok (
-      full_text form (type_row index leaf (type_value value.now)),
-      member_lines form types.now.table index (type_value value.now),
-    )) out.old out.new result }
+    ensures { IsShown form index (Ok (members_end types.now.table index (type_value value.now)))
+        out.old out.new result }
 {
     let mut line = Line::new(alloc);
     make_full(alloc, form, index, leaf, value, &mut line)?;
@@ -151,7 +148,7 @@ fn write_type<W: Write>(
     form: Form,
     out: &mut Output<W>,
 ) -> Result<()>
-    ensures { IsShown (type_shown form stream index types.now.table) out.old out.new result }
+    ensures { IsShown form index (type_shown index types.now.table) out.old out.new result }
 {
     let item = types.item(TypeIndex(index))?;
     match item.parse(alloc) {
@@ -178,7 +175,7 @@ pub fn type_at<W: Write>(
     form: Form,
     out: &mut Output<W>,
 ) -> Result<()>
-    ensures { IsShown (type_lines_at form number index stream) out.old out.new result }
+    ensures { IsShown form index (type_shown_in index stream) out.old out.new result }
 {
     let table = TypeInformation::parse(stream)?;
     let types = open_table(alloc, table, TypeIndex(index))?;

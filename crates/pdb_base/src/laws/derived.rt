@@ -9,9 +9,10 @@ ghost use Rattle.pdb_base.specs.declared.raw_string.RawString.{RawString};
 ghost use Rattle.std.specs.Cmp.Lexicographic.{slice_cmp};
 ghost use Rattle.std.specs.Ordering.{nat_cmp};
 ghost use Rattle.pdb_base.specs.Count.{calls_of};
-ghost use Rattle.pdb_base.specs.Derived.{DefaultsTo, OrdersBy, TellsApart};
+ghost use Rattle.pdb_base.specs.Derived.{Copies, DefaultsTo, OrdersBy, TellsApart};
 ghost use Rattle.pdb_base.specs.Index.{no_stream};
 
+use crate::buffer::ParseBuffer;
 use crate::count::Count;
 use crate::index::{FileIndex, IdIndex, Local, Register, StreamIndex, SymbolIndex, TypeIndex};
 use crate::item_index::ItemIndex;
@@ -96,4 +97,26 @@ pub fn counts()
 pub fn orders_of_bytes()
     ensures default { (order : Le) → ⟦<Le as Default>⟧.is_default order }
     ensures equal { TellsApart ⟦<Le as PartialEq>⟧.eq }
+{}
+
+/// Indexes and registers.
+type Numbers = (
+    StreamIndex,
+    TypeIndex,
+    IdIndex,
+    FileIndex,
+    SymbolIndex,
+    Register,
+    Local<TypeIndex>,
+    Local<IdIndex>,
+);
+
+/// What is read of bytes, and with what it is read.
+type Read = (Variant, RawString<'static>, ParseBuffer<'static>, Le);
+
+/// A clone is the value that was cloned, and cloning never fails. A law of a tuple is one of each
+/// of its parts.
+pub fn clones()
+    ensures numbers { Copies ⟦<Numbers as Clone>⟧.is_clone ⟦<Numbers as Clone>⟧.is_infallible }
+    ensures read { Copies ⟦<Read as Clone>⟧.is_clone ⟦<Read as Clone>⟧.is_infallible }
 {}

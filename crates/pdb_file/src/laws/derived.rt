@@ -1,7 +1,7 @@
-//! What `Default` and `==` of each type say. The functions do nothing: each contract is a law.
+//! What `Default`, `==` and `clone` of each type say. The functions do nothing: each contract is a law.
 
 ghost use Rattle.std.specs.Prelude.{◌≡◌, ◌↔◌, IsTrue};
-ghost use Rattle.pdb_base.specs.Derived.{DefaultsTo, TellsApart};
+ghost use Rattle.pdb_base.specs.Derived.{Copies, DefaultsTo, TellsApart};
 ghost use Rattle.pdb_base.specs.Index.{no_stream};
 ghost use Rattle.pdb_file.specs.StreamNames.{named_view};
 ghost use Rattle.pdb_file.specs.declared.stream_names.StreamName.{StreamName};
@@ -44,4 +44,12 @@ pub fn named_streams()
 /// Features are equal exactly if each of the four is told by both or by neither.
 pub fn features()
     ensures { TellsApart ⟦<Features as PartialEq>⟧.eq }
+{}
+
+type Parts = (DBIHeader, DBIExtraStreams, StreamName<'static>, Features);
+
+/// A clone is the value that was cloned, and cloning never fails. A law of a tuple is one of each
+/// of its parts.
+pub fn clones()
+    ensures { Copies ⟦<Parts as Clone>⟧.is_clone ⟦<Parts as Clone>⟧.is_infallible }
 {}

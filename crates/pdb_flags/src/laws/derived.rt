@@ -1,6 +1,7 @@
-//! What `==` of each type says. The functions do nothing: each contract is a law.
+//! What `==` and `clone` of each type say. The functions do nothing: each contract is a law.
 
 ghost use Rattle.std.specs.Prelude.{◌≡◌, Decides};
+ghost use Rattle.pdb_base.specs.Derived.{Copies};
 ghost use Rattle.pdb_flags.specs.declared.field_attributes.FieldAttributes.{FieldAttributes};
 ghost use Rattle.pdb_flags.specs.declared.function_attributes.FunctionAttributes.{FunctionAttributes};
 ghost use Rattle.pdb_flags.specs.declared.pointer_attributes.PointerAttributes.{PointerAttributes};
@@ -27,4 +28,19 @@ pub fn words()
 pub fn kinds_and_modes()
     ensures kinds { (a b : PointerKind) → Decides (⟦<PointerKind as PartialEq>⟧.eq a b) (a ≡ b) }
     ensures modes { (a b : PointerMode) → Decides (⟦<PointerMode as PartialEq>⟧.eq a b) (a ≡ b) }
+{}
+
+type Flags = (
+    FieldAttributes,
+    FunctionAttributes,
+    PointerAttributes,
+    TypeProperties,
+    PointerKind,
+    PointerMode,
+);
+
+/// A clone is the value that was cloned, and cloning never fails. A law of a tuple is one of each
+/// of its parts.
+pub fn clones()
+    ensures { Copies ⟦<Flags as Clone>⟧.is_clone ⟦<Flags as Clone>⟧.is_infallible }
 {}

@@ -1,15 +1,17 @@
-//! What `Default` and `==` of each type say that no law of addresses and records tells. The
+//! What `Default`, `==` and `clone` of each type say that no law of addresses and records tells. The
 //! functions do nothing: each contract is a law.
 
 ghost use Rattle.std.specs.Prelude.{replicate};
-ghost use Rattle.pdb_base.specs.Derived.{DefaultsTo, TellsApart};
+ghost use Rattle.pdb_base.specs.Derived.{Copies, DefaultsTo, TellsApart};
 
 use crate::address::Rva;
 use crate::internal_address::PdbInternalRva;
 use crate::internal_section_offset::PdbInternalSectionOffset;
+use crate::omap_record::OMAPRecord;
 use crate::section_characteristics::SectionCharacteristics;
 use crate::section_header::ImageSectionHeader;
 use crate::section_offset::SectionOffset;
+use crate::string_ref::StringRef;
 
 /// An address is 0 by default.
 pub fn addresses()
@@ -46,4 +48,20 @@ pub fn section_headers()
       characteristics = record { 0 = 0 };
     }) }
     ensures equal { TellsApart ⟦<ImageSectionHeader as PartialEq>⟧.eq }
+{}
+
+type Addresses = (Rva, PdbInternalRva, SectionOffset, PdbInternalSectionOffset);
+
+type Records = (
+    ImageSectionHeader,
+    SectionCharacteristics,
+    OMAPRecord,
+    StringRef,
+);
+
+/// A clone is the value that was cloned, and cloning never fails. A law of a tuple is one of each
+/// of its parts.
+pub fn clones()
+    ensures addresses { Copies ⟦<Addresses as Clone>⟧.is_clone ⟦<Addresses as Clone>⟧.is_infallible }
+    ensures records { Copies ⟦<Records as Clone>⟧.is_clone ⟦<Records as Clone>⟧.is_infallible }
 {}

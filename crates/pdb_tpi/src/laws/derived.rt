@@ -1,7 +1,7 @@
-//! What `Default` and `==` of each type say. The functions do nothing: each contract is a law.
+//! What `Default`, `==` and `clone` of each type say. The functions do nothing: each contract is a law.
 
 ghost use Rattle.std.specs.Prelude.{◌≡◌, ◌↔◌, IsTrue};
-ghost use Rattle.pdb_base.specs.Derived.{DefaultsTo, TellsApart};
+ghost use Rattle.pdb_base.specs.Derived.{Copies, DefaultsTo, TellsApart};
 ghost use Rattle.pdb_tpi.specs.Item.{item_bytes, index_of};
 ghost use Rattle.pdb_tpi.specs.declared.item.Item.{Item};
 ghost use Rattle.pdb_tpi.specs.Header.{empty_header, empty_slice};
@@ -27,4 +27,17 @@ pub fn items()
     ensures ids { (a b : Item IdIndex) →
         IsTrue (⟦<Item<'static, IdIndex> as PartialEq>⟧.eq a b) ↔
         ((index_of a ≡ index_of b) × (item_bytes a ≡ item_bytes b)) }
+{}
+
+type Parts = (
+    Header,
+    Slice,
+    Item<'static, TypeIndex>,
+    Item<'static, IdIndex>,
+);
+
+/// A clone is the value that was cloned, and cloning never fails. A law of a tuple is one of each
+/// of its parts.
+pub fn clones()
+    ensures { Copies ⟦<Parts as Clone>⟧.is_clone ⟦<Parts as Clone>⟧.is_infallible }
 {}

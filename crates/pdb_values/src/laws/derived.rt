@@ -1,28 +1,35 @@
-//! What `==` says for each type whose values hold no list. The functions do nothing: each contract
+//! What `==` and `clone` of each type say. The functions do nothing, or call other laws: each contract
 //! is a law.
 
-ghost use Rattle.pdb_base.specs.Derived.{TellsApart};
+ghost use Rattle.pdb_base.specs.Derived.{Copies, TellsApart};
+ghost use Rattle.pdb_values.specs.Array.{array_value};
 ghost use Rattle.pdb_values.specs.Class.{class_value};
 ghost use Rattle.pdb_values.specs.Derived.{TellsApartBy};
 ghost use Rattle.pdb_values.specs.Enumeration.{enumeration_value, enumerate_value};
+ghost use Rattle.pdb_values.specs.Function.{argument_types};
 ghost use Rattle.pdb_values.specs.IdValue.{function_value, member_function_value, string_value};
+ghost use Rattle.pdb_values.specs.IdValue.{build_arguments, id_value, text_parts};
 ghost use Rattle.pdb_values.specs.Member.{member_value, nested_value, static_member_value};
-ghost use Rattle.pdb_values.specs.Method.{method_value, overloaded_method_value};
+ghost use Rattle.pdb_values.specs.Method.{listed_methods, method_value, overloaded_method_value};
+ghost use Rattle.pdb_values.specs.TableShape.{table_shape_value};
 ghost use Rattle.pdb_values.specs.Union.{union_value};
 
+use crate::array::ArrayType;
 use crate::base_class::{BaseClassType, VirtualBaseClassType, VirtualFunctionTablePointerType};
 use crate::bitfield::BitfieldType;
 use crate::class::{ClassKind, ClassType};
 use crate::enumeration::{EnumerateType, EnumerationType};
-use crate::function::{MemberFunctionType, ProcedureType};
+use crate::function::{ArgumentList, MemberFunctionType, ProcedureType};
 use crate::function_id::{FunctionId, MemberFunctionId};
-use crate::list_id::StringId;
+use crate::id_data::IdData;
+use crate::list_id::{BuildInfoId, StringId, StringListId};
 use crate::member::{MemberType, NestedType, StaticMemberType};
-use crate::method::{MethodListEntry, MethodType, OverloadedMethodType};
+use crate::method::{MethodList, MethodListEntry, MethodType, OverloadedMethodType};
 use crate::modifier::ModifierType;
 use crate::pointer::PointerType;
 use crate::primitive::{Indirection, PrimitiveKind, PrimitiveType};
 use crate::source_id::{UserDefinedTypeSourceFileRef, UserDefinedTypeSourceId};
+use crate::table_shape::VirtualTableShapeType;
 use crate::union_type::UnionType;
 
 /// Primitive types are equal if and only if both their kinds and their indirections are.
@@ -80,3 +87,68 @@ pub fn ids()
     ensures sources { TellsApart ⟦<UserDefinedTypeSourceId as PartialEq>⟧.eq }
     ensures files { TellsApart ⟦<UserDefinedTypeSourceFileRef as PartialEq>⟧.eq }
 {}
+
+/// Values with a list, owned or borrowed, are equal if and only if all their fields are, and lists
+/// are compared item by item.
+#[tactic(auto, using(crate::proofs::lemmas::Derived::lists))]
+pub fn lists()
+    ensures arrays { TellsApartBy array_value ⟦<ArrayType as PartialEq>⟧.eq }
+    ensures arguments { TellsApartBy argument_types ⟦<ArgumentList as PartialEq>⟧.eq }
+    ensures methods { TellsApartBy listed_methods ⟦<MethodList as PartialEq>⟧.eq }
+    ensures build_infos { TellsApartBy build_arguments ⟦<BuildInfoId as PartialEq>⟧.eq }
+    ensures texts { TellsApartBy text_parts ⟦<StringListId as PartialEq>⟧.eq }
+    ensures shapes { TellsApartBy table_shape_value ⟦<VirtualTableShapeType<'static> as PartialEq>⟧.eq }
+{}
+
+type Types = (
+    PrimitiveKind,
+    Indirection,
+    PrimitiveType,
+    PointerType,
+    ModifierType,
+    BitfieldType,
+    ProcedureType,
+    MemberFunctionType,
+    ClassType<'static>,
+    UnionType<'static>,
+    EnumerationType<'static>,
+    VirtualTableShapeType<'static>,
+);
+
+type Parts = (
+    ClassKind,
+    BaseClassType,
+    VirtualBaseClassType,
+    VirtualFunctionTablePointerType,
+    MethodListEntry,
+    MemberType<'static>,
+    StaticMemberType<'static>,
+    NestedType<'static>,
+    MethodType<'static>,
+    OverloadedMethodType<'static>,
+    EnumerateType<'static>,
+);
+
+type Ids = (
+    FunctionId<'static>,
+    MemberFunctionId<'static>,
+    StringId<'static>,
+    UserDefinedTypeSourceId,
+    UserDefinedTypeSourceFileRef,
+);
+
+/// A clone is the value that was cloned, and cloning never fails. A law of a tuple is one of each
+/// of its parts.
+pub fn clones()
+    ensures types { Copies ⟦<Types as Clone>⟧.is_clone ⟦<Types as Clone>⟧.is_infallible }
+    ensures parts { Copies ⟦<Parts as Clone>⟧.is_clone ⟦<Parts as Clone>⟧.is_infallible }
+    ensures ids { Copies ⟦<Ids as Clone>⟧.is_clone ⟦<Ids as Clone>⟧.is_infallible }
+{}
+
+/// Ids are equal if and only if they are of one kind and all their fields are.
+pub fn id_data()
+    ensures { TellsApartBy id_value ⟦<IdData<'static> as PartialEq>⟧.eq }
+{
+    ids();
+    lists();
+}

@@ -12,7 +12,8 @@ use Rattle.pdb_output.proofs.lemmas.Written.{lacks_all}
 use Rattle.pdb_output.specs.Output.{OutputState, Writes}
 use Rattle.pdbdump_rows.specs.declared.form.Form.{Form}
 use Rattle.pdbdump_rows.specs.declared.form.Form.TheVariants.{Text, Json}
-use Rattle.pdbdump_rows.specs.Line.{Adds, EndsLine, IsLineAppended, IsLineEnded, IsLineWritten, LineState, ShowsFields}
+use Rattle.pdbdump_rows.specs.Line.{AddsText, EndsLine, EndsRow, HasRow, IsLineAppended, IsLineEnded, IsLineWritten}
+use Rattle.pdbdump_rows.specs.Line.{IsRow, LineState, ShowsRow, WritesWhat}
 use Rattle.pdbdump_rows.specs.Line.{all_shown, begun, begun_full, line_bytes, ending, line_opening, add_field}
 use Rattle.pdbdump_rows.specs.Lines.{field_line, field_text, fields_text, full_text, is_shown, row_text, separate}
 use Rattle.pdbdump_rows.specs.Lines.{separator}
@@ -138,54 +139,116 @@ unfolding full_text
 full_is Text row = all_full [] true row
 full_is Json row = line_is Json row
 
+-- ---- rows that are added field by field
+
+all_joined : (line : LineState) (row more : ShownRow)
+    → all_shown line (row ++ more) ≡ all_shown (all_shown line row) more
+all_joined line [] more = refl
+all_joined line (field ∷ row) more = all_joined (add_field line field) row more
+
+-- no field yet
+pub no_fields : (line : LineState) → HasRow [] line line
+no_fields line = record { rest = []; shown = refl }
+
+-- a line with the first field alone
+pub first_field : (field : ShownField) (old now : LineState) → now ≡ add_field old field → HasRow (field ∷ []) old now
+first_field field old now is = record { rest = []; shown = is }
+
+-- one field more
+pub field_more : (front : ShownRow) (field : ShownField) (old now new : LineState) → new ≡ add_field now field
+    → HasRow front old now → HasRow front old new
+field_more front field old now new is before = record {
+  rest = before.rest ++ field ∷ [];
+  shown = is ∙ ap (λ (line : LineState). add_field line field) before.shown
+      ∙ sym (all_joined (all_shown old front) before.rest (field ∷ []));
+}
+
+-- more fields
+pub fields_more : (front : ShownRow) (old now new : LineState) (result : Result (Unit {0}) AllocError)
+    → ShowsRow [] now new result → HasRow front old now → ShowsRow front old new result
+fields_more front old now new (Ok done) more before = record {
+  rest = before.rest ++ more.rest;
+  shown = more.shown ∙ ap (λ (line : LineState). all_shown line more.rest) before.shown
+      ∙ sym (all_joined (all_shown old front) before.rest more.rest);
+}
+fields_more front old now new (Err e) more before = tt
+
+pub ruleset adding = (no_fields, first_field, field_more, fields_more)
+
 -- ---- a line that has ended
 
--- a line with these fields ends as the one line of them
-pub ends_line : (form : Form) (start : LineState) (row : ShownRow) (old new : LineState)
-    (result : Result (Unit {0}) AllocError) → old ≡ all_shown start row → start ≡ begun form
-    → EndsLine (line_bytes old) new result
-    → EndsLine (row_text form row) new result
-ends_line form start row old new result is first ends =
-    subst (λ (text : List ℕ). EndsLine text new result)
-    (ap line_bytes (is ∙ ap (λ (line : LineState). all_shown line row) first) ∙ line_is form row) ends
+-- the fields of a row, of which the first ones are known
+row_is : (front rest : ShownRow) (line start now : LineState) → line ≡ all_shown (all_shown now front) rest
+    → now ≡ start → line ≡ all_shown start (front ++ rest)
+row_is front rest line start now is same =
+    is ∙ sym (all_joined now front rest) ∙ ap (λ (first : LineState). all_shown first (front ++ rest)) same
 
-pub ends_full : (form : Form) (start : LineState) (row : ShownRow) (old new : LineState)
-    (result : Result (Unit {0}) AllocError) → old ≡ all_shown start row → start ≡ begun_full form
-    → EndsLine (line_bytes old) new result
-    → EndsLine (full_text form row) new result
-ends_full form start row old new result is first ends =
-    subst (λ (text : List ℕ). EndsLine text new result)
-    (ap line_bytes (is ∙ ap (λ (line : LineState). all_shown line row) first) ∙ full_is form row) ends
+-- a line with a row ends as the one line of it
+pub ends_row : (form : Form) (start : LineState) (front : ShownRow) (old new : LineState)
+    (result : Result (Unit {0}) AllocError) → HasRow front start old → start ≡ begun form
+    → EndsLine (line_bytes old) new result → EndsRow (row_text form) front new result
+ends_row form start front old new (Ok done) row first ends = record {
+  rest = row.rest;
+  shown = ends ∙ ap line_bytes (row_is front row.rest old (begun form) start row.shown first)
+      ∙ line_is form (front ++ row.rest);
+}
+ends_row form start front old new (Err e) row first ends = tt
+
+-- and in full
+pub ends_full : (form : Form) (start : LineState) (front : ShownRow) (old new : LineState)
+    (result : Result (Unit {0}) AllocError) → HasRow front start old → start ≡ begun_full form
+    → EndsLine (line_bytes old) new result → EndsRow (full_text form) front new result
+ends_full form start front old new (Ok done) row first ends = record {
+  rest = row.rest;
+  shown = ends ∙ ap line_bytes (row_is front row.rest old (begun_full form) start row.shown first)
+      ∙ full_is form (front ++ row.rest);
+}
+ends_full form start front old new (Err e) row first ends = tt
 
 -- ---- what a function that ends a line is proved of
 
-pub row_ended : (form : Form) (row : ShownRow) (start old new : LineState) (added result : Result (Unit {0}) AllocError)
-    → IsLineEnded old added new result → ShowsFields row start old added → start ≡ begun form
-    → EndsLine (row_text form row) new result
-row_ended form row start old new added result is shows first = is.row form start row shows first
+pub row_ended : (form : Form) (front : ShownRow) (start old new : LineState)
+    (added result : Result (Unit {0}) AllocError) → IsLineEnded old added new result → ShowsRow front start old added
+    → start ≡ begun form → EndsRow (row_text form) front new result
+row_ended form front start old new added result is shows first = is.row form start front shows first
 
-pub full_ended : (form : Form) (row : ShownRow) (start old new : LineState)
-    (added result : Result (Unit {0}) AllocError) → IsLineEnded old added new result
-    → ShowsFields row start old added → start ≡ begun_full form → EndsLine (full_text form row) new result
-full_ended form row start old new added result is shows first = is.full form start row shows first
+pub full_ended : (form : Form) (front : ShownRow) (start old new : LineState)
+    (added result : Result (Unit {0}) AllocError) → IsLineEnded old added new result → ShowsRow front start old added
+    → start ≡ begun_full form → EndsRow (full_text form) front new result
+full_ended form front start old new added result is shows first = is.full form start front shows first
 
-pub row_written : (form : Form) (row : ShownRow) (start line : LineState) (old new : OutputState)
+pub row_written : (form : Form) (front : ShownRow) (start line : LineState) (old new : OutputState)
     (added : Result (Unit {0}) AllocError) (result : Result (Unit {0}) Error) → IsLineWritten line added old new result
-    → ShowsFields row start line added
-    → start ≡ begun form → Writes (row_text form row) old new result
-row_written form row start line old new added result is shows first = is.row form start row shows first
+    → ShowsRow front start line added → start ≡ begun form → WritesWhat (IsRow (row_text form) front) old new result
+row_written form front start line old new added result is shows first = is.row form start front shows first
 
-pub row_appended : (form : Form) (row : ShownRow) (start line : LineState) (old new : List ℕ)
+pub row_appended : (form : Form) (front : ShownRow) (start line : LineState) (old new : List ℕ)
     (added : Result (Unit {0}) AllocError) (result : Result (Unit {0}) Error) → IsLineAppended line added old new result
-    → ShowsFields row start line added
-    → start ≡ begun form → Adds (row_text form row) old new result
-row_appended form row start line old new added result is shows first = is.row form start row shows first
+    → ShowsRow front start line added → start ≡ begun form → AddsText (IsRow (row_text form) front) old new result
+row_appended form front start line old new added result is shows first = is.row form start front shows first
+
+-- the line that is made of a row is written
+pub made_written : (show : ShownRow → List ℕ) (front : ShownRow) (made bytes : List ℕ) (old new : OutputState)
+    (result : Result (Unit {0}) Error) → IsRow show front made → bytes ≡ made → Writes bytes old new result
+    → WritesWhat (IsRow show front) old new result
+made_written show front made bytes old new result row is writes =
+    record { text = bytes; holds = subst (IsRow show front) (sym is) row; written = writes }
+
+-- memory ran out before a row was written
+pub row_lacks : (show : ShownRow → List ℕ) (front : ShownRow) (old : OutputState) (e : Error) → e ≡ OutOfMemory
+    → WritesWhat (IsRow show front) old old (Err e)
+row_lacks show front old e want = record {
+  text = show (front ++ []);
+  holds = record { rest = []; shown = refl };
+  written = lacks_all old (show (front ++ [])) e want;
+}
 
 -- memory ran out before the line was written
 pub line_lacks : (line : LineState) (added : Result (Unit {0}) AllocError) (old : OutputState)
     (result : Result (Unit {0}) Error) → IsErr result × IsErrAnd result (λ e. e ≡ OutOfMemory)
     → IsLineWritten line added old old result
 line_lacks line added old (Ok done) lacks = absurd cc
-line_lacks line added old (Err e) lacks = record { row = λ form start row shows first. lacks_all old _ e lacks.1 }
+line_lacks line added old (Err e) lacks =
+    record { row = λ form start front shows first. row_lacks (row_text form) front old e lacks.1 }
 
 pub ruleset showing = (row_ended, full_ended, row_written, row_appended)

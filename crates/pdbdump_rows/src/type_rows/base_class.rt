@@ -1,7 +1,9 @@
 //! Base classes and pointers to tables of virtual functions, field by field.
 
-ghost use Rattle.pdbdump_rows.specs.Line.{ShowsFields};
-ghost use Rattle.pdbdump_rows.specs.TypeRows.{base_class_fields, table_pointer_fields, virtual_base_fields};
+#![tactic(auto, using(crate::proofs::lemmas::Line::adding))]
+
+ghost use Rattle.std.specs.Prelude.{[]};
+ghost use Rattle.pdbdump_rows.specs.Line.{ShowsRow};
 
 use crate::line::{Line, LineResult};
 use crate::names::{
@@ -13,9 +15,8 @@ use crate::words::{access_word, field_flags};
 use pdb_values::{BaseClassType, VirtualBaseClassType, VirtualFunctionTablePointerType};
 
 /// Adds the fields of a base class.
-#[tactic(auto, unfolding(crate::specs::TypeRows::base_class_fields))]
 pub(crate) fn show_base_class(line: &mut Line, base: BaseClassType) -> LineResult
-    ensures { ShowsFields (base_class_fields base) line.old line.new result }
+    ensures { ShowsRow [] line.old line.new result }
 {
     let attributes = field_flags(base.attributes);
     line.field(ACCESS, optional_word(access_word(base.attributes)))?;
@@ -26,9 +27,8 @@ pub(crate) fn show_base_class(line: &mut Line, base: BaseClassType) -> LineResul
 }
 
 /// Adds the fields of a virtual base class.
-#[tactic(auto, unfolding(crate::specs::TypeRows::virtual_base_fields))]
 pub(crate) fn show_virtual_base(line: &mut Line, base: VirtualBaseClassType) -> LineResult
-    ensures { ShowsFields (virtual_base_fields base) line.old line.new result }
+    ensures { ShowsRow [] line.old line.new result }
 {
     let attributes = field_flags(base.attributes);
     line.field(DIRECT, Value::Flag(base.direct))?;
@@ -48,12 +48,11 @@ pub(crate) fn show_virtual_base(line: &mut Line, base: VirtualBaseClassType) -> 
 }
 
 /// Adds the fields of the pointer to a table of virtual functions.
-#[tactic(auto, unfolding(crate::specs::TypeRows::table_pointer_fields))]
 pub(crate) fn show_table_pointer(
     line: &mut Line,
     pointer: VirtualFunctionTablePointerType,
 ) -> LineResult
-    ensures { ShowsFields (table_pointer_fields pointer) line.old line.new result }
+    ensures { ShowsRow [] line.old line.new result }
 {
     line.field(TABLE, type_index(pointer.table))?;
     Ok(())

@@ -1,9 +1,9 @@
 //! Classes and unions, field by field.
 
-ghost use Rattle.pdb_values.specs.Class.{class_value};
-ghost use Rattle.pdb_values.specs.Union.{union_value};
-ghost use Rattle.pdbdump_rows.specs.Line.{ShowsFields};
-ghost use Rattle.pdbdump_rows.specs.TypeRows.{class_fields, union_fields};
+#![tactic(auto, using(crate::proofs::lemmas::Line::adding))]
+
+ghost use Rattle.std.specs.Prelude.{[]};
+ghost use Rattle.pdbdump_rows.specs.Line.{ShowsRow};
 
 use crate::line::{Line, LineResult};
 use crate::names::{
@@ -14,9 +14,8 @@ use crate::words::property_flags;
 use pdb_values::{ClassType, UnionType};
 
 /// Adds the fields of a class, a structure or an interface.
-#[tactic(auto, unfolding(crate::specs::TypeRows::class_fields))]
 pub(crate) fn show_class(line: &mut Line, class: &ClassType<'_>) -> LineResult
-    ensures { ShowsFields (class_fields (class_value class.now)) line.old line.new result }
+    ensures { ShowsRow [] line.old line.new result }
 {
     let properties = property_flags(class.properties);
     line.field(NAME, Value::Text(class.name))?;
@@ -33,9 +32,8 @@ pub(crate) fn show_class(line: &mut Line, class: &ClassType<'_>) -> LineResult
 }
 
 /// Adds the fields of a union.
-#[tactic(auto, unfolding(crate::specs::TypeRows::union_fields))]
 pub(crate) fn show_union(line: &mut Line, union_type: &UnionType<'_>) -> LineResult
-    ensures { ShowsFields (union_fields (union_value union_type.now)) line.old line.new result }
+    ensures { ShowsRow [] line.old line.new result }
 {
     let properties = property_flags(union_type.properties);
     line.field(NAME, Value::Text(union_type.name))?;

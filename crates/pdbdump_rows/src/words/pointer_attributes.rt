@@ -1,17 +1,10 @@
 //! Attributes of a pointer in words.
 
-ghost use Rattle.std.specs.Prelude.{◌≡◌, map};
-ghost use Rattle.pdb_flags.specs.PointerNumbers.{pointer_kind_number, mode_number};
-ghost use Rattle.pdbdump_rows.specs.Words.{words_beside_true, kind_word, mode_word, pointer_words};
-
 use crate::value::Flag;
 use pdb_flags::{PointerAttributes, PointerKind, PointerMode};
 
 /// Returns the name of a pointer's kind.
-#[tactic(auto, unfolding(crate::specs::Words::kind_word))]
-pub(crate) fn kind_word(kind: PointerKind) -> &'static str
-    ensures { result.now ≡ kind_word (pointer_kind_number kind) }
-{
+pub(crate) fn kind_word(kind: PointerKind) -> &'static str {
     match kind {
         PointerKind::Near16 => "Near16",
         PointerKind::Far16 => "Far16",
@@ -30,10 +23,7 @@ pub(crate) fn kind_word(kind: PointerKind) -> &'static str
 }
 
 /// Returns the name of a pointer's mode.
-#[tactic(auto, unfolding(crate::specs::Words::mode_word))]
-pub(crate) fn mode_word(mode: PointerMode) -> &'static str
-    ensures { result.now ≡ mode_word (mode_number mode) }
-{
+pub(crate) fn mode_word(mode: PointerMode) -> &'static str {
     match mode {
         PointerMode::Pointer => "Pointer",
         PointerMode::LValueReference => "LValueReference",
@@ -44,10 +34,7 @@ pub(crate) fn mode_word(mode: PointerMode) -> &'static str
 }
 
 /// Returns the flags of the attributes that a pointer has.
-#[tactic(auto, unfolding(crate::specs::Words::pointer_words))]
-pub(crate) fn pointer_flags(word: PointerAttributes) -> [Flag; 6]
-    ensures { words_beside_true (map (λ flag. (flag.0, flag.1.now)) result) ≡ pointer_words word }
-{
+pub(crate) fn pointer_flags(word: PointerAttributes) -> [Flag; 6] {
     [
         (word.is_flat_32(), "is_flat_32"),
         (word.is_volatile(), "is_volatile"),

@@ -1,14 +1,9 @@
 //! Primitive types in words.
 
-ghost use Rattle.std.specs.Prelude.{◌≡◌};
-ghost use Rattle.pdbdump_rows.specs.Words.{indirection_word, primitive_word};
-
 use pdb_values::{Indirection, PrimitiveKind};
 
 /// Returns the name of a primitive type.
-pub(crate) fn primitive_word(kind: PrimitiveKind) -> &'static str
-    ensures { result.now ≡ primitive_word kind }
-{
+pub(crate) fn primitive_word(kind: PrimitiveKind) -> &'static str {
     match kind {
         PrimitiveKind::NoType => "NoType",
         PrimitiveKind::Void => "Void",
@@ -56,9 +51,7 @@ pub(crate) fn primitive_word(kind: PrimitiveKind) -> &'static str
 }
 
 /// Returns the name of a kind of pointer to a primitive type.
-pub(crate) fn indirection_word(pointer: Indirection) -> &'static str
-    ensures { result.now ≡ indirection_word pointer }
-{
+pub(crate) fn indirection_word(pointer: Indirection) -> &'static str {
     match pointer {
         Indirection::Near16 => "Near16",
         Indirection::Far16 => "Far16",

@@ -1,16 +1,10 @@
 //! The flags of a section in words.
 
-ghost use Rattle.std.specs.Prelude.{◌≡◌, map};
-ghost use Rattle.pdbdump_rows.specs.Words.{words_beside_true, section_words};
-
 use crate::value::Flag;
 use pdb_space::SectionCharacteristics;
 
 /// Returns the flags of the flags that a section has.
-#[tactic(auto, unfolding(crate::specs::Words::section_words))]
-pub(crate) fn section_flags(flags: SectionCharacteristics) -> [Flag; 20]
-    ensures { words_beside_true (map (λ flag. (flag.0, flag.1.now)) result) ≡ section_words flags.0 }
-{
+pub(crate) fn section_flags(flags: SectionCharacteristics) -> [Flag; 20] {
     [
         (flags.executable(), "executable"),
         (flags.initialized_data(), "initialized_data"),

@@ -1,16 +1,10 @@
 //! Properties of a type in words.
 
-ghost use Rattle.std.specs.Prelude.{◌≡◌, map};
-ghost use Rattle.pdbdump_rows.specs.Words.{words_beside_true, property_words};
-
 use crate::value::Flag;
 use pdb_flags::TypeProperties;
 
 /// Returns the flags of the properties that a type has.
-#[tactic(auto, unfolding(crate::specs::Words::property_words))]
-pub(crate) fn property_flags(word: TypeProperties) -> [Flag; 12]
-    ensures { words_beside_true (map (λ flag. (flag.0, flag.1.now)) result) ≡ property_words word }
-{
+pub(crate) fn property_flags(word: TypeProperties) -> [Flag; 12] {
     [
         (word.packed(), "packed"),
         (word.constructors(), "constructors"),

@@ -16,7 +16,6 @@ returns-in-Layout g c = rw c.in-Layout.is (record {
   written = c.show_in-shown.new.out;
   told = c.show_in-shown.new.err;
   answer = c.show_in-shown.result;
-  shown = c.show_in-shown.ensures.shown;
-  answered = c.show_in-shown.ensures.answered;
+  shown = c.show_in-shown.ensures;
   ends = c.end_as.ensures;
 })

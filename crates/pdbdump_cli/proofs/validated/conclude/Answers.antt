@@ -7,7 +7,7 @@ pub returns-then-has_passed : goal.returns-then-has_passed
 returns-then-has_passed g c = λ file faults whole. record {
   written = c.write_findings-written.new.out;
   result = c.write_findings-written.result;
-  writes = rw faults c.write_findings-written.ensures;
+  writes = c.write_findings-written.ensures;
   ended = c.end-status.result;
   ends = c.end-status.ensures;
   judged = rw faults (judged_passed _ _ c.end-status.result (c.has_passed.ensures.0 c.if-has_passed.true));
@@ -18,7 +18,7 @@ pub returns : goal.returns
 returns g c = λ file faults whole. record {
   written = c.write_findings-written.new.out;
   result = c.write_findings-written.result;
-  writes = rw faults c.write_findings-written.ensures;
+  writes = c.write_findings-written.ensures;
   ended = c.end-status.result;
   ends = c.end-status.ensures;
   judged = rw faults (judged_other _ _ c.end-status.result

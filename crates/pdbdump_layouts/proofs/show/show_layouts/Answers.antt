@@ -4,26 +4,22 @@ use Rattle.pdb_base.proofs.lemmas.Refused.{passed_on}
 use Rattle.pdb_tpi.specs.Table.{Table}
 use Rattle.pdb_types.specs.Definition.{whole_table}
 use Rattle.pdbdump_layouts.specs.Shown.{IsShowResult}
-use Rattle.pdbdump_layouts.proofs.ResultLemmas.{accounted, table_refused, walk_refused}
+use Rattle.pdbdump_layouts.proofs.ShowLemmas.{table_refused, walk_refused}
 use Rattle.pdbdump_layouts.proofs.show.show_layouts.Goals as goal
 
-pub returns-in_err-types-clause-shown : goal.returns-in_err-types-clause-shown
-returns-in_err-types-clause-shown g c = rw (passed_on _ _ c.from_residual.ensures.1)
-    (table_refused _ _ _ _ _ _ _ c.in_err-types.ensures)
+pub returns-in_err-types : goal.returns-in_err-types
+returns-in_err-types g c = rw (passed_on _ _ c.from_residual.ensures.1) (table_refused _ _ _ _ c.in_err-types.ensures)
 
-pub returns-in_err-definitions-clause-shown : goal.returns-in_err-definitions-clause-shown
-returns-in_err-definitions-clause-shown g c = rw (passed_on _ _ c.from_residual-in_err-definitions.ensures.1)
-    (walk_refused _ _ _ _ _ _ _ _ c.in_ok-types.ensures c.in_err-definitions.ensures)
+pub returns-in_err-definitions : goal.returns-in_err-definitions
+returns-in_err-definitions g c = rw (passed_on _ _ c.from_residual-in_err-definitions.ensures.1)
+    (walk_refused _ _ _ _ _ c.in_ok-types.ensures c.in_err-definitions.ensures)
 
-pub returns-in_err-show_asked-clause-shown : goal.returns-in_err-show_asked-clause-shown
-returns-in_err-show_asked-clause-shown g c = rw (passed_on _ _ c.from_residual-in_err-show_asked.ensures.1)
+pub returns-in_err-show_asked : goal.returns-in_err-show_asked
+returns-in_err-show_asked g c = rw (passed_on _ _ c.from_residual-in_err-show_asked.ensures.1)
     (IsShowResult.stopped _ c.in_err-show_asked.ensures.stopped)
 
-pub returns-clause-shown : goal.returns-clause-shown
-returns-clause-shown g c =
-    IsShowResult.shown c.in_ok-definitions.definitions c.show_asked.new.progress
+pub returns : goal.returns
+returns g c =
+    IsShowResult.shown c.in_ok-definitions.definitions _
     (ap (λ (a : Answer Table). a >>= whole_table) c.in_ok-types.ensures ∙ c.in_ok-definitions.ensures)
-    c.in_ok-show_asked.ensures.shown
-
-pub returns-clause-answered : goal.returns-clause-answered
-returns-clause-answered g c = accounted _ _ _ _ _ _ c.in_ok-show_asked.ensures.shown refl
+    (c.in_ok-show_asked.ensures.accounted c.args.err.now refl)

@@ -1,6 +1,6 @@
 -- No flag so far is set.
 use Rattle.std.proofs.Common.{◌≡◌, [], map, take}
-use Rattle.pdbdump_rows.specs.Words.{words_beside_true}
+use Rattle.pdbdump_rows.specs.Row.{words_beside_true}
 use Rattle.pdbdump_rows.proofs.push.is_any_set.Given as goal
 
 abbrev pub invariant-loop-is_set : goal.invariant-loop-is_set

@@ -2,7 +2,7 @@
 use Rattle.std.proofs.Common.{◌≡◌, ◌++◌, codes, map, take}
 use Rattle.pdbdump_rows.specs.Lines.{is_none, separate}
 use Rattle.pdbdump_rows.specs.Text.{in_quotes}
-use Rattle.pdbdump_rows.specs.Words.{words_beside_true}
+use Rattle.pdbdump_rows.specs.Row.{words_beside_true}
 use Rattle.pdbdump_rows.proofs.push.push_words.Given as goal
 
 abbrev pub invariant-loop-is_set : goal.invariant-loop-is_set

@@ -1,7 +1,7 @@
 use Rattle.pdb_base.proofs.lemmas.Refused.{passed_on}
 use Rattle.pdbdump_tables.specs.Files.{file_names}
 use Rattle.pdbdump_tables.specs.Listing.{whole}
-use Rattle.pdbdump_tables.specs.Tables.{all_names, offset_name_lines}
+use Rattle.pdbdump_tables.specs.Tables.{all_names, name_rows}
 use Rattle.pdbdump_tables.proofs.ListedLemmas.{refused_listed}
 use Rattle.pdbdump_tables.proofs.file_tables.list_names.Goals as goal
 
@@ -9,5 +9,4 @@ pub returns-in_err-table : goal.returns-in_err-table
 unfolding file_names
 returns-in_err-table g c =
     rw (passed_on _ _ c.from_residual.ensures.1)
-    (refused_listed (λ names. whole (offset_name_lines c.args.form
-    (all_names names))) _ _ _ c.in_err-table.ensures.answer)
+    (refused_listed _ (λ names. whole (name_rows (all_names names))) _ _ _ c.in_err-table.ensures.answer)

@@ -1,10 +1,16 @@
 -- What stands there at each exit.
-use Rattle.std.proofs.Common.{Ok, Err, refl, ◌∙◌}
+use Rattle.std.proofs.Common.{refl, ap}
 use Rattle.pdb_base.proofs.lemmas.Refused.{passed_on}
-use Rattle.pdbdump_tables.proofs.ListingLemmas.{ends_cut, ends_lacking, ends_stopped, ends_whole, line_written}
-use Rattle.pdbdump_tables.proofs.ListingLemmas.{placed_next, so_far_more}
-use Rattle.pdbdump_tables.specs.Lines.{id_line}
+use Rattle.pdbdump_rows.specs.Lines.{row_text}
+use Rattle.pdbdump_rows.proofs.lemmas.Line.{made_written}
+use Rattle.pdbdump_tables.proofs.ListingLemmas.{ends_cut, ends_lacking, ends_stopped, ends_whole, next_written}
+use Rattle.pdbdump_tables.proofs.ListingLemmas.{so_far_first}
+use Rattle.pdb_tpi.specs.Steps.{WalkPosition}
 use Rattle.pdbdump_tables.proofs.id_listing.list_ids.Goals as goal
+
+pub loop-line-init : goal.loop-line-init
+loop-line-init g c = so_far_first _ _ _ _ (ap (λ (s : WalkPosition). s.table) c.iter-items.ensures)
+    (ap (λ (s : WalkPosition). s.index) c.iter-items.ensures)
 
 pub returns-in_err-item : goal.returns-in_err-item
 returns-in_err-item g c = rw (passed_on _ _ c.from_residual.ensures.1)
@@ -20,19 +26,13 @@ returns-in_err-write g c =
     rw (passed_on _ _ c.from_residual-in_err-write.ensures.1)
     (ends_cut _ _ _ _ _ c.in-Some.item _ _ _ _ c.loop-line.invariant
     (rw c.in-Some.is at c.in_ok-item.ensures) c.in_err-write.ensures.failed
-    (line_written _ _ _ _ _ (Err _)
-    (c.in_ok-make_id.ensures
-    ∙ placed_next _ (id_line c.args.form) c.args.stream _ _ _ c.in-Some.item _ c.loop-line.invariant.same
-    c.place-byte.ensures.place (rw c.in-Some.is at c.in_ok-item.ensures)) c.as_bytes.ensures
+    (made_written (row_text c.args.form) _ _ _ _ _ _ c.in_ok-make_id.ensures c.as_bytes.ensures
     c.in_err-write.ensures.bytes))
 
 pub loop-line-preserved : goal.loop-line-preserved
 loop-line-preserved g c =
-    so_far_more _ _ _ _ _ c.in-Some.item _ _ _ c.loop-line.invariant (rw c.in-Some.is at c.in_ok-item.ensures)
-    (line_written _ _ _ _ _ (Ok tt)
-    (c.in_ok-make_id.ensures
-    ∙ placed_next _ (id_line c.args.form) c.args.stream _ _ _ c.in-Some.item _ c.loop-line.invariant.same
-    c.place-byte.ensures.place (rw c.in-Some.is at c.in_ok-item.ensures)) c.as_bytes.ensures
+    next_written _ _ _ _ _ c.in-Some.item _ _ _ c.loop-line.invariant (rw c.in-Some.is at c.in_ok-item.ensures)
+    (made_written (row_text c.args.form) _ _ _ _ _ _ c.in_ok-make_id.ensures c.as_bytes.ensures
     c.in_ok-write.ensures.bytes)
 
 pub returns-in_default : goal.returns-in_default

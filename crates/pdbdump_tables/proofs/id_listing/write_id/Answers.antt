@@ -6,12 +6,12 @@ use Rattle.pdbdump_tables.proofs.id_listing.write_id.Goals as goal
 
 pub returns-in_err-item : goal.returns-in_err-item
 returns-in_err-item g c = rw (passed_on _ _ c.from_residual.ensures.1)
-    (refuses_early _ _ _ (id_unfound _ _ _ _ _ (inl c.in_err-item.ensures.item)))
+    (refuses_early _ _ _ _ _ (id_unfound _ _ _ (inl c.in_err-item.ensures.item)))
 
 pub returns-in-Ok : goal.returns-in-Ok
 returns-in-Ok g c =
-    shown_as _ _ _ _ _ (id_found _ _ _ _ _ (Ok _) c.in_ok-item.ensures.item c.in-Ok.ensures.read)
-    (rw c.raw_kind.ensures at c.write_value.ensures)
+    shown_as _ _ _ _ _ _ _ (id_found _ _ _ (Ok _) c.in_ok-item.ensures.item c.in-Ok.ensures.read)
+    c.write_value.ensures
 
 pub returns-in-Err-OutOfMemory : goal.returns-in-Err-OutOfMemory
-returns-in-Err-OutOfMemory g c = lacks_early _ _ _ refl
+returns-in-Err-OutOfMemory g c = lacks_early _ _ _ _ _ refl

@@ -1,11 +1,10 @@
 -- The lines of the types before the iterator stand there.
-use Rattle.pdbdump_tables.specs.Lines.{placed_line, type_line}
 use Rattle.pdbdump_tables.proofs.ListingLemmas.{IsSoFar}
 use Rattle.pdb_tpi.specs.Steps.{items_left}
 use Rattle.pdbdump_tables.proofs.type_listing.list_types.Given as goal
 
 abbrev pub invariant-loop-line : goal.invariant-loop-line
-invariant-loop-line g l = IsSoFar (placed_line (type_line l.form) l.stream l.table) l.table l.items l.initial.out l.out
+invariant-loop-line g l = IsSoFar l.form l.table l.items l.initial.out l.out
 
 abbrev pub decreases-loop-line : goal.decreases-loop-line
 decreases-loop-line g l = items_left l.items

@@ -7,13 +7,13 @@ use Rattle.pdbdump_tables.proofs.type_listing.write_type.Goals as goal
 
 pub returns-in_err-item : goal.returns-in_err-item
 returns-in_err-item g c = rw (passed_on _ _ c.from_residual.ensures.1)
-    (refuses_early _ _ _ (type_unfound _ _ _ _ _ (inl c.in_err-item.ensures.item)))
+    (refuses_early _ _ _ _ _ (type_unfound _ _ _ (inl c.in_err-item.ensures.item)))
 
 pub returns-in-Ok : goal.returns-in-Ok
 returns-in-Ok g c =
-    shown_as _ _ _ _ _ (type_found _ _ _ _ _ _ (Ok _) c.in_ok-item.ensures.item
+    shown_as _ _ _ _ _ _ _ (type_found _ _ _ _ (Ok _) c.in_ok-item.ensures.item
     (ap (λ (index : TypeIndex). index.0) c.in_ok-item.ensures.index) c.in-Ok.ensures.read)
-    (rw c.raw_kind.ensures at c.write_value.ensures)
+    c.write_value.ensures
 
 pub returns-in-Err-OutOfMemory : goal.returns-in-Err-OutOfMemory
-returns-in-Err-OutOfMemory g c = lacks_early _ _ _ refl
+returns-in-Err-OutOfMemory g c = lacks_early _ _ _ _ _ refl

@@ -1,6 +1,6 @@
-use Rattle.std.proofs.Common.{◌≡◌, ◌<◌, length, vec_capacity}
+use Rattle.std.proofs.Common.{◌≡◌, ◌≤◌, ◌<◌, ◌+◌, length, max, vec_capacity}
 use Rattle.pdb_tpi.specs.Finder.{first_of_block}
-use Rattle.pdb_tpi.specs.OpenTable.{IsOpenTable}
+use Rattle.pdb_tpi.specs.OpenTable.{AreKnownPlaces}
 use Rattle.pdb_tpi.proofs.open_table.OpenTable.learn_blocks.Given as goal
 
 abbrev pub invariant-loop-block : goal.invariant-loop-block
@@ -10,7 +10,8 @@ invariant-loop-block g l =
     record {
       next : l.block ≡ length now.positions.items;
       below : first_of_block now.items l.last < now.items.header.maximum_index;
-      stays : IsOpenTable now.items now.positions.items (vec_capacity now.positions) now.index now.position;
+      stays : AreKnownPlaces now.items now.positions.items (vec_capacity now.positions);
       table : now.items ≡ before.items;
-      index : now.index ≡ before.index;
+      grown : length before.positions.items ≤ l.block;
+      within : l.block ≤ max (length before.positions.items) (l.last + 1);
     }

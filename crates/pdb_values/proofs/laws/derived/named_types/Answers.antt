@@ -4,7 +4,6 @@ use Rattle.std.specs.Option.{option_eq, option_map}
 use Rattle.std.specs.Cmp.{unsigned_Decides}
 use Rattle.std.specs.Cmp.Lexicographic.{pointwise, bytes_decides}
 use denote.Enum.Bare.{sameb, same_true, true_same}
-use Rattle.pdb_base.specs.declared.index.TypeIndex.{TypeIndex}
 use Rattle.pdb_base.specs.declared.raw_string.RawString.{RawString}
 use Rattle.pdb_base.specs.Derived.{TellsApart}
 use Rattle.pdb_base.proofs.lemmas.Derived.{both, options}
@@ -12,17 +11,11 @@ use Rattle.pdb_values.specs.Text.{text_bytes}
 use Rattle.pdb_values.specs.Class.{ClassValue}
 use Rattle.pdb_values.specs.Derived.{TellsApartBy}
 use Rattle.pdb_values.specs.contracts.class.ClassKind.{the_type}
+use Rattle.pdb_values.proofs.lemmas.Derived.{type_indexes}
 use Rattle.pdb_values.proofs.laws.derived.named_types.Goals as goal
 
 kinds : TellsApart (sameb the_type)
 kinds a b = (same_true the_type tt a b, true_same the_type a b)
-
-type_indexes : TellsApart (λ (a b : TypeIndex). nat_eq a.0 b.0)
-type_indexes a b =
-    let numbers = unsigned_Decides a.0 b.0 in (
-      λ holds. let same = numbers.0 holds in λ i. record { 0 = same i },
-      λ is. numbers.1 (ap (λ (x : TypeIndex). x.0) is),
-    )
 
 names : TellsApartBy text_bytes (λ (a b : RawString). pointwise nat_eq a.0.now b.0.now)
 names a b = bytes_decides a.0.now b.0.now

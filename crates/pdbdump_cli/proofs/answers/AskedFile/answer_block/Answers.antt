@@ -1,13 +1,13 @@
-use Rattle.pdb_base.proofs.lemmas.Refused.{passed_on}
-use Rattle.pdbdump_cli.proofs.AnsweredLemmas.{block_cut, block_more, stays}
+use Rattle.std.proofs.Common.{append-nil, refl}
+use Rattle.pdbdump_cli.proofs.AnsweredLemmas.{block_more, no_line, stays}
 use Rattle.pdbdump_cli.proofs.answers.AskedFile.answer_block.Goals as goal
 
-pub returns-in_err-all-clause-answers : goal.returns-in_err-all-clause-answers
-returns-in_err-all-clause-answers g c =
-    rw (passed_on _ _ c.from_residual.ensures.1)
-    (block_cut _ c.loop-byte.self c.take_byte.new.self c.take_byte.new.self _ c.loop-byte.byte-index _ _ _
-    c.take_byte.new.out c.loop-byte.all _
-    c.loop-byte-test.true c.loop-byte.invariant.kept c.loop-byte.invariant.lines c.in_err-all.ensures.answers)
+pub loop-byte-init : goal.loop-byte-init
+loop-byte-init g c = record {
+  kept = record { form = refl; bytes = refl; head = refl; ready = c.requires.ready };
+  lines = rw (append-nil c.args.self.now.rest.items)
+      (no_line _ _ _ c.args.out.now c.args.self.now.rest.items c.requires.ready.unended);
+}
 
 pub loop-byte-preserved : goal.loop-byte-preserved
 loop-byte-preserved g c = record {

@@ -1,6 +1,5 @@
 use Rattle.std.proofs.Common.{refl, sym, ◌∙◌}
-use Rattle.pdb_base.proofs.lemmas.Refused.{passed_on}
-use Rattle.pdbdump_cli.proofs.AnsweredLemmas.{byte_lacks, line_goes_on, line_taken, no_line}
+use Rattle.pdbdump_cli.proofs.AnsweredLemmas.{line_goes_on, line_taken, no_line}
 use Rattle.pdbdump_cli.proofs.answers.AskedFile.take_byte.Goals as goal
 
 pub returns-then-is_line_end-clause-answers : goal.returns-then-is_line_end-clause-answers
@@ -25,8 +24,3 @@ returns-clause-kept g c = record {
         (line_goes_on _ c.args.byte c.requires.ready.unended (sym c.is_line_end.ensures ∙ c.if-is_line_end.false));
   };
 }
-
-pub returns-in_err-push-clause-answers : goal.returns-in_err-push-clause-answers
-returns-in_err-push-clause-answers g c =
-    rw (passed_on _ _ c.from_residual.ensures.1)
-    (byte_lacks c.args.self.now c.args.self.now c.args.byte c.args.out.now)

@@ -1,0 +1,53 @@
+//! Streams of a file whose debug header gives them roles, one of each kind.
+
+ghost use Rattle.std.specs.Prelude.{◌≡◌};
+ghost use Rattle.pdb_base.specs.Memory.{FailsOnlyForMemory};
+
+use pdb_base::Result;
+use std::alloc::Global;
+
+/// The number that means no stream.
+pub const NONE: u16 = 0xffff;
+
+/// Stream 1: the names `/a` of stream 2 and `/names` of stream 4.
+pub const INFORMATION: &[u8] =
+    b"\x94.1\x01\0\0\0\0\x01\0\0\0\0\0\0\0\0\0\0\0\0\0\0\0\0\0\0\0\x0a\0\0\0/names\0/a\0\x02\0\0\0\x04\0\0\0\0\0\0\0\0\0\0\0\x07\0\0\0\x02\0\0\0\0\0\0\0\x04\0\0\0";
+
+/// A string table of the empty name and `foo`.
+pub const NAMES: &[u8] = b"\xfe\xef\xfe\xef\x01\0\0\0\x05\0\0\0\0foo\0";
+
+/// A section of the original image from 0x1000 on, of 0x100 bytes.
+pub const ORIGINAL: &[u8] =
+    b".text\0\0\0\0\x01\0\0\0\x10\0\0\0\x01\0\0\0\0\0\0\0\0\0\0\0\0\0\0\0\0\0\0\0\0\0\0";
+
+/// That section in the image as it runs, from 0x5000 on.
+pub const SECTIONS: &[u8] =
+    b".text\0\0\0\0\x01\0\0\0P\0\0\0\x01\0\0\0\0\0\0\0\0\0\0\0\0\0\0\0\0\0\0\0\0\0\0";
+
+/// OMAP to source, from 0x5000 to 0x1000.
+pub const TO_SOURCE: &[u8] = b"\0P\0\0\0\x10\0\0";
+
+/// OMAP from source, from 0x1000 to 0x5000.
+pub const FROM_SOURCE: &[u8] = b"\0\x10\0\0\0P\0\0";
+
+/// A frame of the older format, of the four bytes of code from 0x10 on.
+pub const OLD_FRAME: &[u8] = b"\x10\0\0\0\x04\0\0\0\0\0\0\0\0\0\0\0";
+
+/// Stream 3 as far as the debug header: its header, by which that has 22 bytes and no other part
+/// has any.
+const DEBUG: &[u8] =
+    b"\xff\xff\xff\xffw\x091\x01\x01\0\0\0\0\0\0\0\0\0\0\0\0\0\0\0\0\0\0\0\0\0\0\0\0\0\0\0\0\0\0\0\0\0\0\0\0\0\0\0\x16\0\0\0\0\0\0\0\0\0\0\0\0\0\0\0";
+
+/// Returns stream 3 with these streams of all roles, in the order of the debug header.
+///
+/// # Errors
+/// Returns `OutOfMemory` if an allocation fails.
+pub fn debug_of(alloc: Global, roles: &[u16; 11]) -> Result<Vec<u8>>
+    ensures memory { FailsOnlyForMemory result }
+{
+    let mut bytes = Vec::from_slice(alloc, DEBUG)?;
+    for number in roles {
+        bytes.extend_from_slice(&number.to_le_bytes())?;
+    }
+    Ok(bytes)
+}

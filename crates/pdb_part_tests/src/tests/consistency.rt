@@ -1,0 +1,219 @@
+//! Small files, tables and lists, of which each breaks one relation. The bytes are written by hand.
+
+use super::bytes_with;
+use pdb_base::{Stream, TypeIndex};
+use pdb_consistency::{
+    Extent, Inconsistency, Mismatch, check_buckets, check_debug_sizes, check_hashes, check_pages,
+    check_section_order, check_type_records,
+};
+use pdb_file::section_headers::section_headers;
+use pdb_fixtures::file_of;
+use pdb_tpi::{OpenTable, TypeInformation};
+use std::alloc::Global;
+use std::process::Abort;
+
+/// A file of three streams, of 0, 600 and 100 bytes. Stream 1 is in pages 5 and 6, stream 2 in page
+/// 7, and the directory, which has 28 bytes, in page 4, from byte 0x800 of the file on.
+fn file(rt: &impl Abort, alloc: Global) -> Vec<u8> {
+    let streams = [
+        Some(b"".as_slice()),
+        Some([0; 600].as_slice()),
+        Some([0; 100].as_slice()),
+    ];
+    file_of(alloc, &streams).expect(rt, "memory")
+}
+
+/// A table of types: `const int`, and a pointer to it. Its hash stream has two hash values behind
+/// each other, below 4 buckets, and behind them the place of the first record.
+const TYPES: &[u8] =
+    b"\x0b\xca\x31\x01\x38\0\0\0\x00\x10\0\0\x02\x10\0\0\x18\0\0\0\x07\0\xff\xff\x04\0\0\0\x04\0\0\0\0\0\0\0\x08\0\0\0\x08\0\0\0\x08\0\0\0\x10\0\0\0\0\0\0\0\x0a\0\x01\x10\x74\0\0\0\x01\0\xf2\xf1\x0a\0\x02\x10\0\x10\0\0\x0c\0\x01\0";
+
+/// The hash stream of the table.
+const HASHES: &[u8] = b"\x03\0\0\0\x01\0\0\0\0\x10\0\0\0\0\0\0";
+
+/// A string table with the names `a` and `bc`, in two of three buckets.
+const NAMES: &[u8] =
+    b"\xfe\xef\xfe\xef\x01\0\0\0\x06\0\0\0\0a\0bc\0\x03\0\0\0\x03\0\0\0\0\0\0\0\x01\0\0\0\x02\0\0\0";
+
+/// Stream 3: a header that says that nothing follows it.
+const DEBUG: &[u8] =
+    b"\xff\xff\xff\xff\0\0\0\0\0\0\0\0\0\0\0\0\0\0\0\0\0\0\0\0\0\0\0\0\0\0\0\0\0\0\0\0\0\0\0\0\0\0\0\0\0\0\0\0\0\0\0\0\0\0\0\0\0\0\0\0\0\0\0\0";
+
+/// Two sections of 0x1000 bytes each, at 0x1000 and 0x2000.
+const SECTIONS: &[u8] =
+    b"\0\0\0\0\0\0\0\0\0\x10\0\0\0\x10\0\0\0\0\0\0\0\0\0\0\0\0\0\0\0\0\0\0\0\0\0\0\0\0\0\0\0\0\0\0\0\0\0\0\0\x10\0\0\0\x20\0\0\0\0\0\0\0\0\0\0\0\0\0\0\0\0\0\0\0\0\0\0\0\0\0\0";
+
+/// What is checked.
+#[derive(Clone, Copy)]
+enum Checked {
+    /// The pages of the file.
+    Pages,
+    /// The records of the table of types.
+    Records,
+    /// The hash stream of that table.
+    Hashes,
+    /// The buckets of the string table.
+    Buckets,
+}
+
+use Checked::{Buckets, Hashes, Pages, Records};
+
+/// A byte that is set to another, and what is then inconsistent first: its stream, the index of its
+/// record, and the byte of the stream.
+type Damage = (Checked, usize, u8, u32, Option<u64>, u64, Inconsistency);
+
+const DAMAGES: &[Damage] = rows! {
+    // Stream 2 begins in the second page of stream 1.
+    Pages, 0x818, 6, 2, None, 0, Inconsistency::PageShared(6);
+    // The second page of stream 1 is the first.
+    Pages, 0x814, 5, 1, None, 512, Inconsistency::PageShared(5);
+    // Stream 2 is in the second free page map, in the page of the directory and in that before it.
+    Pages, 0x818, 2, 2, None, 0, Inconsistency::PageShared(2);
+    Pages, 0x818, 4, 2, None, 0, Inconsistency::PageShared(4);
+    Pages, 0x818, 3, 2, None, 0, Inconsistency::PageShared(3);
+    // The free page map has the bit of page 6.
+    Pages, 0x200, 0x40, 1, None, 512, Inconsistency::PageFree(6);
+    // The pointer is to itself, and then to a type that there is not.
+    Records, 0x48, 1, 2, Some(0x1001), 0x44, Inconsistency::ReferenceNotBelow(0x1001);
+    Records, 0x49, 0x20, 2, Some(0x1001), 0x44, Inconsistency::ReferenceNotBelow(0x2000);
+    // The first record becomes one of kind 0x100e, which is not read.
+    Records, 0x3a, 0x0e, 2, Some(0x1000), 0x38, Inconsistency::KindNotRead(0x100e);
+    // The first record takes two bytes fewer, and those begin another one.
+    Records, 0x38, 8, 2, Some(0x1000), 0x38, Inconsistency::RecordUnaligned;
+    // A hash value, and the offset and the index of the place.
+    Hashes, 4, 4, 7, Some(0x1001), 4, Inconsistency::HashTooLarge(4);
+    Hashes, 12, 12, 7, Some(0x1000), 8, Inconsistency::IndexOffset(0x1000);
+    Hashes, 8, 2, 7, Some(0x1002), 8, Inconsistency::IndexOffset(0x1002);
+    // Within `bc`, and behind the names.
+    Buckets, 0x16, 4, 5, None, 0x16, Inconsistency::NameOffset(4);
+    Buckets, 0x16, 6, 5, None, 0x16, Inconsistency::NameOffset(6);
+    // The count of names, and one bucket more.
+    Buckets, 0x22, 3, 5, None, 0x22, Inconsistency::NameCount(3);
+    Buckets, 0x12, 4, 5, None, 0x26, Inconsistency::BucketsCut;
+};
+
+/// Returns a stream of these bytes, of which there are at most 512.
+fn stream(rt: &impl Abort, alloc: Global, bytes: &[u8]) -> Stream {
+    assert!(rt; bytes.len() <= 512, "a long stream");
+    Stream::new(Vec::from_slice(alloc, bytes).expect(rt, "memory"))
+}
+
+/// Returns a stream of these bytes, of which one is replaced.
+fn stream_with(rt: &impl Abort, alloc: Global, bytes: &[u8], offset: usize, byte: u8) -> Stream {
+    stream(rt, alloc, &bytes_with(rt, alloc, bytes, offset, byte))
+}
+
+/// Returns the table of types.
+fn types(rt: &impl Abort, alloc: Global, bytes: &[u8]) -> TypeInformation {
+    TypeInformation::parse(stream(rt, alloc, bytes)).expect(rt, "a table")
+}
+
+/// Returns what is inconsistent between the records of a table of types.
+fn record_mismatches(
+    rt: &impl Abort,
+    alloc: Global,
+    bytes: &[u8],
+    extent: Extent,
+) -> Vec<Mismatch> {
+    let types = types(rt, alloc, bytes);
+    check_type_records(alloc, &types, 2, extent).expect(rt, "memory")
+}
+
+/// Returns what is inconsistent between the table of types, which is open up to its last record,
+/// and a hash stream.
+fn hash_mismatches(rt: &impl Abort, alloc: Global, hashes: &[u8], extent: Extent) -> Vec<Mismatch> {
+    let mut table = OpenTable::new(alloc, types(rt, alloc, TYPES)).expect(rt, "an open table");
+    table.learn(TypeIndex(0x1001));
+    check_hashes(alloc, 7, &table, hashes, extent).expect(rt, "memory")
+}
+
+impl Checked {
+    /// Returns the bytes that are whole.
+    fn bytes(self, rt: &impl Abort, alloc: Global) -> Vec<u8> {
+        let bytes = match self {
+            Pages => return file(rt, alloc),
+            Records => TYPES,
+            Hashes => HASHES,
+            Buckets => NAMES,
+        };
+        Vec::from_slice(alloc, bytes).expect(rt, "memory")
+    }
+
+    /// Returns what is inconsistent in bytes.
+    fn mismatches(
+        self,
+        rt: &impl Abort,
+        alloc: Global,
+        bytes: &[u8],
+        extent: Extent,
+    ) -> Vec<Mismatch> {
+        match self {
+            Pages => check_pages(alloc, bytes, extent).expect(rt, "memory"),
+            Records => record_mismatches(rt, alloc, bytes, extent),
+            Hashes => hash_mismatches(rt, alloc, bytes, extent),
+            Buckets => check_buckets(alloc, 5, bytes, extent).expect(rt, "memory"),
+        }
+    }
+}
+
+/// Whether nothing is inconsistent in bytes that are whole.
+fn is_whole(rt: &impl Abort, alloc: Global, checked: Checked) -> bool {
+    let bytes = checked.bytes(rt, alloc);
+    checked
+        .mismatches(rt, alloc, &bytes, Extent::All)
+        .is_empty()
+}
+
+/// Whether bytes of which one is replaced have the mismatch of a case alone.
+fn is_found(rt: &impl Abort, alloc: Global, row: &Damage) -> bool {
+    let (checked, offset, byte, stream, index, place, what) = *row;
+    let bytes = bytes_with(rt, alloc, &checked.bytes(rt, alloc), offset, byte);
+    let wanted = Mismatch {
+        stream: Some(stream),
+        index,
+        byte: Some(place),
+        what,
+    };
+    let found = checked.mismatches(rt, alloc, &bytes, Extent::First);
+    matches!(found.as_slice(), [mismatch] if *mismatch == wanted)
+}
+
+#[test]
+fn damages(rt: HostRuntime) {
+    for checked in [Pages, Records, Hashes, Buckets] {
+        assert!(rt; is_whole(&rt, rt.alloc(), checked));
+    }
+    for row in DAMAGES {
+        assert!(rt; is_found(&rt, rt.alloc(), row), "{:#x} is {}", row.1, row.2);
+    }
+}
+
+/// Whether a hash stream that ends after its first hash has too few of them.
+fn has_few_hashes(rt: &impl Abort, alloc: Global) -> bool {
+    let found = hash_mismatches(rt, alloc, &HASHES[..4], Extent::First);
+    matches!(found.as_slice(), [mismatch] if mismatch.what == Inconsistency::HashCount(1))
+}
+
+/// Returns what is inconsistent in the order of some sections.
+fn section_mismatches(rt: &impl Abort, alloc: Global, stream: &Stream) -> Vec<Mismatch> {
+    let headers = section_headers(alloc, stream).expect(rt, "section headers");
+    check_section_order(alloc, &headers, 9, Extent::All).expect(rt, "memory")
+}
+
+/// Whether the sections overlap once the first one is a byte longer, and not before.
+fn do_sections_overlap(rt: &impl Abort, alloc: Global) -> bool {
+    let whole = section_mismatches(rt, alloc, &stream(rt, alloc, SECTIONS));
+    let found = section_mismatches(rt, alloc, &stream_with(rt, alloc, SECTIONS, 8, 1));
+    let overlap = Inconsistency::SectionsOverlap;
+    whole.is_empty()
+        && matches!(found.as_slice(), [it] if it.what == overlap && it.index == Some(1))
+}
+
+/// The changed byte is the size of the section contributions.
+#[test]
+fn counts_and_sizes(rt: HostRuntime) {
+    assert!(rt; has_few_hashes(&rt, rt.alloc()) && do_sections_overlap(&rt, rt.alloc()));
+    assert!(rt; check_debug_sizes(&stream(&rt, rt.alloc(), DEBUG)).is_none());
+    let found = check_debug_sizes(&stream_with(&rt, rt.alloc(), DEBUG, 28, 1));
+    assert!(rt; matches!(found, Some(mismatch) if mismatch.what == Inconsistency::DebugSizes));
+}

@@ -1,0 +1,21 @@
+//! Test cases of the programs, a file a topic, and the short uses of the library.
+
+/// A table of cases: the parts of each, ended by a semicolon.
+macro_rules! rows {
+    ($($($part:expr),+;)*) => {
+        &[$(($($part),+)),*]
+    };
+}
+
+mod asked;
+mod channels;
+mod dumped;
+mod failing;
+mod identities;
+mod listings;
+mod printed;
+mod processes;
+mod rows;
+mod runs;
+mod unread;
+mod uses;

@@ -1,0 +1,149 @@
+//! Each use, over one file of eleven streams, of which one is absent.
+
+pub(crate) mod file;
+
+use file::build_file;
+use pdb_container::{
+    AddressMap, FrameData, FrameType, Msf, PdbInternalRva, PdbInternalSectionOffset, Result, Rva,
+    Stream, StringRef, TypeData, TypeFinder, TypeIndex, TypeInformation, open_msf,
+};
+use pdb_examples::{
+    class_fields, finder_of, frames_at, map_of, name_at, stream_and_views, stream_sizes,
+    there_and_back, types_named,
+};
+use std::alloc::Global;
+use std::test::Fail;
+
+/// The streams, and the bytes of each.
+const SIZES: &[(u32, usize)] = &[
+    (0, 0),
+    (1, 74),
+    (2, 96),
+    (3, 86),
+    (4, 17),
+    (5, 40),
+    (6, 40),
+    (7, 8),
+    (8, 8),
+    (10, 16),
+];
+
+/// Whether a type is the member `x`, a 4-byte integer.
+fn is_x(value: &TypeData<'_>) -> bool {
+    match value {
+        TypeData::Member(member) => {
+            member.name.as_bytes() == b"x".as_slice() && member.field_type == TypeIndex(0x74)
+        }
+        _ => false,
+    }
+}
+
+/// Whether the member `x` is the one field of the class that a finder knows.
+fn has_x(alloc: Global, finder: &TypeFinder<'_>) -> bool {
+    let fields = class_fields(alloc, finder, TypeIndex(0x1001));
+    matches!(&fields, Ok(fields) if matches!(fields.as_slice(), [field] if is_x(field)))
+}
+
+/// Whether the member `x` is the one field of the class in these types.
+fn is_class_of_x(alloc: Global, types: Result<TypeInformation>) -> bool {
+    let Ok(types) = &types else {
+        return false;
+    };
+    match &finder_of(alloc, types) {
+        Ok(finder) => has_x(alloc, finder),
+        Err(_) => false,
+    }
+}
+
+/// The types of the file.
+fn types_in(alloc: Global, file: Vec<u8>) -> Result<TypeInformation> {
+    let mut file = open_msf(alloc, file)?;
+    TypeInformation::parse(file.get(alloc, 2, None)?)
+}
+
+/// Whether an address is moved there and back.
+fn is_moved(map: Result<AddressMap>) -> bool {
+    let place = PdbInternalSectionOffset::new(1, 0x10);
+    match &map {
+        Ok(map) => there_and_back(map, Rva(0x5010)) == Some((place, Some(Rva(0x5010)))),
+        Err(_) => false,
+    }
+}
+
+/// Whether a frame of the older format is of the code from 0x10 on.
+fn is_fpo(frame: &FrameData) -> bool {
+    frame.code_start == PdbInternalRva(0x10) && frame.ty == FrameType::FPO
+}
+
+/// Whether that frame alone was found.
+fn is_frame(found: Result<Vec<FrameData>>) -> bool {
+    match &found {
+        Ok(found) => matches!(found.as_slice(), [frame] if is_fpo(frame)),
+        Err(_) => false,
+    }
+}
+
+/// Whether the stream of OMAP to source was read by four views.
+fn is_viewed(given: Result<(Stream, u64)>) -> bool {
+    match &given {
+        Ok((stream, views)) => {
+            stream.as_slice() == b"\0P\0\0\0\x10\0\0".as_slice() && *views == 4
+        }
+        Err(_) => false,
+    }
+}
+
+/// A use of the file.
+enum Use {
+    Streams,
+    Types,
+    Fields,
+    Addresses,
+    Frames,
+    Names,
+    Sources,
+}
+
+const USES: &[(&str, Use)] = rows! {
+    "streams", Use::Streams;
+    "types", Use::Types;
+    "fields", Use::Fields;
+    "addresses", Use::Addresses;
+    "frames", Use::Frames;
+    "names", Use::Names;
+    "sources", Use::Sources;
+};
+
+/// Whether a use of the file answers as it should.
+fn is_answered(alloc: Global, asked: &Use, file: Vec<u8>) -> bool {
+    match asked {
+        Use::Streams => {
+            matches!(stream_sizes(alloc, file), Ok(sizes) if sizes.as_slice() == SIZES)
+        }
+        Use::Types => {
+            let found = types_named(alloc, file, b"S");
+            matches!(found, Ok(found) if found.as_slice() == [TypeIndex(0x1001)].as_slice())
+        }
+        Use::Fields => is_class_of_x(alloc, types_in(alloc, file)),
+        Use::Addresses => is_moved(map_of(alloc, file)),
+        Use::Frames => is_frame(frames_at(alloc, file, PdbInternalRva(0x13))),
+        Use::Names => {
+            let name = name_at(alloc, file, StringRef(1));
+            matches!(name, Ok(name) if name.as_slice() == b"foo".as_slice())
+        }
+        Use::Sources => is_viewed(stream_and_views(alloc, file, 7)),
+    }
+}
+
+/// Whether a use answers so over the file that is built.
+fn is_used(alloc: Global, asked: &Use) -> Result<bool> {
+    Ok(is_answered(alloc, asked, build_file(alloc)?))
+}
+
+#[test]
+fn uses(rt: HostRuntime) -> std::result::Result<(), Fail> {
+    for (name, asked) in USES {
+        assert!(rt; is_used(rt.alloc(), asked)?, "{name}");
+    }
+    Ok(())
+}

@@ -1,0 +1,2 @@
+-- Lemmas that crates above use too.
+pub mod Faults

@@ -1,0 +1,372 @@
+//! What a buffer reads, and its position after that.
+
+use super::shows;
+use pdb_base::{Error, ParseBuffer, RawString, Stream, SymbolIndex, Variant};
+use std::alloc::Global;
+use std::borrow::CowStr;
+use std::fmt;
+use std::test::Fail;
+
+/// A call of a buffer, and what it answers: a value, or nothing where the bytes end too soon.
+enum Call {
+    PeekU8(Option<u8>),
+    U8(Option<u8>),
+    PeekU16(Option<u16>),
+    U16(Option<u16>),
+    U32(Option<u32>),
+    U64(Option<u64>),
+    I16(Option<i16>),
+    I32(Option<i32>),
+    I64(Option<i64>),
+    /// A number of variable width and its text, one whose bytes end too soon, and one with this
+    /// unknown prefix.
+    Variant(Variant, &'static str),
+    CutVariant,
+    RefusedVariant(u16),
+    /// A number of variable width without a sign, or one with an unknown prefix.
+    Num(Option<u64>),
+    RefusedNum(u16),
+    /// What is read by the rule that its type says.
+    Parsed(Variant),
+    RefusedParsed(u16),
+    ParsedSymbol(SymbolIndex),
+    /// A text that a NUL ends, and one behind its length.
+    Text(Option<&'static str>),
+    PascalText(Option<&'static str>),
+    /// So many bytes.
+    Take(usize, Option<&'static [u8]>),
+    /// A place to go to.
+    Seek(usize),
+    /// A length to cut to, and whether that is done; and whether the next multiple of four is
+    /// reached.
+    Truncate(usize, bool),
+    AlignTo4(bool),
+    /// The buffer in hexadecimal.
+    Printed(&'static str),
+}
+
+/// The name of a case, its bytes, and one call after another, each with the buffer's position after
+/// it and how many bytes are left.
+type Row = (&'static str, &'static [u8], &'static [(Call, usize, usize)]);
+
+/// Numbers of so many bytes, and whole ones of variable width without a sign.
+const NUMBERS: &[Row] = rows! {
+    "numbers of one byte", b"\x01\x02\x03\x04",
+        &[(Call::PeekU8(Some(1)), 0, 4), (Call::PeekU8(Some(1)), 0, 4), (Call::U8(Some(1)), 1, 3),
+            (Call::PeekU8(Some(2)), 1, 3), (Call::PeekU8(Some(2)), 1, 3), (Call::U8(Some(2)), 2, 2),
+            (Call::PeekU8(Some(3)), 2, 2), (Call::PeekU8(Some(3)), 2, 2), (Call::U8(Some(3)), 3, 1),
+            (Call::PeekU8(Some(4)), 3, 1), (Call::PeekU8(Some(4)), 3, 1), (Call::U8(Some(4)), 4, 0),
+            (Call::PeekU8(None), 4, 0), (Call::U8(None), 4, 0)];
+    "numbers of two bytes", b"\x01\x02\x03",
+        &[(Call::PeekU16(Some(0x0201)), 0, 3), (Call::PeekU16(Some(0x0201)), 0, 3), (Call::U16(Some(0x0201)), 2, 1),
+            (Call::PeekU16(None), 2, 1), (Call::U16(None), 2, 1), (Call::Take(1, Some(b"\x03")), 3, 0),
+            (Call::U16(None), 3, 0)];
+    "numbers of four bytes", b"\x01\x02\x03\x04\x05\x06\x07",
+        &[(Call::U32(Some(0x0403_0201)), 4, 3), (Call::Seek(4), 4, 3), (Call::U32(None), 4, 3), (Call::Seek(5), 5, 2),
+            (Call::U32(None), 5, 2), (Call::Seek(6), 6, 1), (Call::U32(None), 6, 1), (Call::Seek(7), 7, 0),
+            (Call::U32(None), 7, 0)];
+    "numbers of eight bytes", b"\x01\x02\x03\x04\x05\x06\x07\x08\x09\x0a\x0b\x0c\x0d\x0e\x0f",
+        &[(Call::U64(Some(0x0807_0605_0403_0201)), 8, 7), (Call::U64(None), 8, 7)];
+    "signed numbers of two bytes", b"\xfe\xff\x00", &[(Call::I16(Some(-2)), 2, 1), (Call::I16(None), 2, 1)];
+    "signed numbers of four bytes", b"\xfe\xff\xff\xff\x05\x06\x07",
+        &[(Call::I32(Some(-2)), 4, 3), (Call::I32(None), 4, 3), (Call::U32(None), 4, 3)];
+    "signed numbers of eight bytes", b"\xff\xff\xff\xff\xff\xff\xff\xff\x00",
+        &[(Call::I64(Some(-1)), 8, 1), (Call::I64(None), 8, 1)];
+    "a number without a prefix", b"\xff\x7f\xff", &[(Call::Num(Some(0x7fff)), 2, 1)];
+    "a number of one byte", b"\x00\x80\xff", &[(Call::Num(Some(255)), 3, 0)];
+    "a number of two bytes", b"\x02\x80\x00\x80", &[(Call::Num(Some(0x8000)), 4, 0)];
+    "a number of four bytes", b"\x04\x80\x01\x00\x00\x80\x00", &[(Call::Num(Some(0x8000_0001)), 6, 1)];
+    "a number of eight bytes", b"\x0a\x80\xff\xff\xff\xff\xff\xff\xff\xff", &[(Call::Num(Some(u64::MAX)), 10, 0)];
+    "the prefix of a number with a sign, of two bytes", b"\x01\x80", &[(Call::RefusedNum(0x8001), 0, 2)];
+    "a number with a sign, of four bytes", b"\x03\x80\x00\x00\x00\x00", &[(Call::RefusedNum(0x8003), 0, 6)];
+    "a number of another prefix", b"\xff\xff", &[(Call::RefusedNum(0xffff), 0, 2)];
+    "a number and bytes", b"\x01\x02\x03\x04ab",
+        &[(Call::U32(Some(0x0403_0201)), 4, 2), (Call::U32(None), 4, 2), (Call::Take(2, Some(b"ab")), 6, 0)];
+};
+
+/// Numbers of variable width, and what is read by the rule that its type says.
+const VARIANTS: &[Row] = rows! {
+    "a variant without a prefix", b"\x00\x7f", &[(Call::Variant(Variant::U16(0x7f00), "32512"), 2, 0)];
+    "a variant of one byte", b"\x00\x80\xff", &[(Call::Variant(Variant::U8(255), "255"), 3, 0)];
+    "a variant of two bytes", b"\x01\x80\xfe\xff", &[(Call::Variant(Variant::I16(-2), "-2"), 4, 0)];
+    "a variant of two bytes without a sign", b"\x02\x80\x00\x80", &[(Call::Variant(Variant::U16(0x8000), "32768"), 4, 0)];
+    "a variant of four bytes", b"\x03\x80\x00\x00\x00\x80", &[(Call::Variant(Variant::I32(-0x8000_0000), "-2147483648"), 6, 0)];
+    "a variant of four bytes without a sign", b"\x04\x80\xff\xff\xff\xff",
+        &[(Call::Variant(Variant::U32(0xffff_ffff), "4294967295"), 6, 0)];
+    "a variant of eight bytes", b"\x09\x80\xff\xff\xff\xff\xff\xff\xff\xff", &[(Call::Variant(Variant::I64(-1), "-1"), 10, 0)];
+    "a variant of eight bytes without a sign", b"\x0a\x80\xff\xff\xff\xff\xff\xff\xff\xff",
+        &[(Call::Variant(Variant::U64(u64::MAX), "18446744073709551615"), 10, 0)];
+    "a variant of another prefix", b"\x05\x80\x00\x00\x00\x00",
+        &[(Call::RefusedVariant(0x8005), 0, 6), (Call::RefusedParsed(0x8005), 0, 6)];
+    "a variant of three bytes in place of four", b"\x04\x80\x01\x02\x03", &[(Call::CutVariant, 0, 5), (Call::Num(None), 0, 5)];
+    "a prefix alone", b"\x00\x80", &[(Call::CutVariant, 0, 2), (Call::Num(None), 0, 2)];
+    "half a prefix", b"\x00", &[(Call::CutVariant, 0, 1), (Call::Num(None), 0, 1)];
+    "variants one behind another", b"\x00\x80\xff\x09\x80\xff\xff\xff\xff\xff\xff\xff\xff\x05\x80",
+        &[(Call::Parsed(Variant::U8(255)), 3, 12), (Call::Parsed(Variant::I64(-1)), 13, 2),
+            (Call::RefusedParsed(0x8005), 13, 2)];
+    "the index of a symbol", b"\x42\x00\x00\x00", &[(Call::ParsedSymbol(SymbolIndex(0x42)), 4, 0)];
+};
+
+/// Places, texts, and the buffer in hexadecimal.
+const PLACES: &[Row] = rows! {
+    "places", b"hello", &[(Call::Seek(5), 5, 0), (Call::Seek(2), 2, 3), (Call::Seek(10), 5, 0)];
+    "a truncation", b"\x01\x02\x03\x04\x05\x06\x07",
+        &[(Call::Seek(4), 4, 3), (Call::Truncate(8, false), 4, 3), (Call::Truncate(2, true), 2, 0)];
+    "an alignment by one byte", b"1234", &[(Call::Take(3, Some(b"123")), 3, 1), (Call::AlignTo4(true), 4, 0)];
+    "an alignment by three bytes", b"1234", &[(Call::Take(1, Some(b"1")), 1, 3), (Call::AlignTo4(true), 4, 0)];
+    "an alignment with a byte behind", b"12345", &[(Call::Take(3, Some(b"123")), 3, 2), (Call::AlignTo4(true), 4, 1)];
+    "an aligned place", b"12345", &[(Call::Take(4, Some(b"1234")), 4, 1), (Call::AlignTo4(true), 4, 1)];
+    "an alignment past the end", b"123", &[(Call::Take(3, Some(b"123")), 3, 0), (Call::AlignTo4(false), 3, 0)];
+    "texts", b"hello\0world\0\0\x01",
+        &[(Call::Text(Some("hello")), 6, 8), (Call::Text(Some("world")), 12, 2), (Call::Text(Some("")), 13, 1),
+            (Call::Text(None), 13, 1)];
+    "texts behind their lengths", b"\x05hello\x05world\x00\x01",
+        &[(Call::PascalText(Some("hello")), 6, 8), (Call::PascalText(Some("world")), 12, 2),
+            (Call::PascalText(Some("")), 13, 1), (Call::PascalText(None), 14, 0)];
+    "in hexadecimal", b"\x01\x02\x03",
+        &[(Call::U8(Some(1)), 1, 2), (Call::Printed("ParseBuf::from(\"\\x01\\x02\\x03\").as_bytes() at offset 1"), 1, 2)];
+    "nothing in hexadecimal", b"", &[(Call::Printed("ParseBuf::from(\"\").as_bytes() at offset 0"), 0, 0)];
+};
+
+/// Whether a call fails with `UnexpectedEof`.
+fn ends<T: Drop>(answer: pdb_base::Result<T>) -> bool {
+    matches!(answer, Err(Error::UnexpectedEof))
+}
+
+/// Whether a call returns this value, or fails with `UnexpectedEof` if there is none.
+fn reads<T: Copy + PartialEq + Drop>(answer: pdb_base::Result<T>, want: Option<T>) -> bool {
+    match want {
+        Some(value) => matches!(answer, Ok(found) if found == value),
+        None => ends(answer),
+    }
+}
+
+/// Whether a call that returns no value succeeds, or fails with `UnexpectedEof` if it isn't `done`.
+fn is_done(answer: pdb_base::Result<()>, done: bool) -> bool {
+    if done { answer.is_ok() } else { ends(answer) }
+}
+
+/// Whether a call returns this text, or fails with `UnexpectedEof` if there is none.
+fn reads_text(answer: pdb_base::Result<RawString<'_>>, want: Option<&str>) -> bool {
+    match want {
+        Some(text) => matches!(answer, Ok(found) if found.as_bytes() == text.as_bytes()),
+        None => ends(answer),
+    }
+}
+
+/// Whether a number of variable width is read, and is shown so.
+fn is_variant(alloc: Global, answer: pdb_base::Result<Variant>, want: Variant, text: &str) -> bool {
+    reads(answer, Some(want)) && shows(alloc, &want, text)
+}
+
+/// Whether a number has the error of this unknown prefix.
+fn names<T: Drop>(answer: pdb_base::Result<T>, prefix: u16) -> bool {
+    matches!(answer, Err(Error::UnexpectedNumericPrefix(found)) if found == prefix)
+}
+
+/// A buffer in hexadecimal. The `x` of a format string is for integers alone.
+#[derive(Drop)]
+struct InHexadecimal<'a, 'b>(&'a ParseBuffer<'b>);
+
+impl fmt::Display for InHexadecimal<'_, '_> {
+    fn fmt<W: fmt::Write>(&self, f: &mut fmt::Formatter<W>) -> fmt::Result {
+        fmt::LowerHex::fmt(self.0, f)
+    }
+}
+
+/// Whether a buffer is at this position, with so many bytes left.
+fn stands(buffer: &ParseBuffer<'_>, pos: usize, left: usize) -> bool {
+    buffer.pos() == pos && buffer.len() == left && buffer.is_empty() == (left == 0)
+}
+
+/// Whether a call answers as it says.
+fn is_answered(alloc: Global, buffer: &mut ParseBuffer<'_>, call: &Call) -> bool {
+    match call {
+        Call::PeekU8(want) => reads(buffer.peek_u8(), *want),
+        Call::U8(want) => reads(buffer.parse_u8(), *want),
+        Call::PeekU16(want) => reads(buffer.peek_u16(), *want),
+        Call::U16(want) => reads(buffer.parse_u16(), *want),
+        Call::U32(want) => reads(buffer.parse_u32(), *want),
+        Call::U64(want) => reads(buffer.parse_u64(), *want),
+        _ => is_signed_answered(alloc, buffer, call),
+    }
+}
+
+/// Whether a call for a number with a sign or of variable width answers as it says.
+fn is_signed_answered(alloc: Global, buffer: &mut ParseBuffer<'_>, call: &Call) -> bool {
+    match call {
+        Call::I16(want) => reads(buffer.parse_i16(), *want),
+        Call::I32(want) => reads(buffer.parse_i32(), *want),
+        Call::I64(want) => reads(buffer.parse_i64(), *want),
+        Call::Variant(want, text) => is_variant(alloc, buffer.parse_variant(), *want, text),
+        Call::CutVariant => ends(buffer.parse_variant()),
+        Call::RefusedVariant(prefix) => names(buffer.parse_variant(), *prefix),
+        _ => is_parsed(alloc, buffer, call),
+    }
+}
+
+/// Whether a call for a number of variable width without a sign, or for one by the rule of its
+/// type, answers as it says.
+fn is_parsed(alloc: Global, buffer: &mut ParseBuffer<'_>, call: &Call) -> bool {
+    match call {
+        Call::Num(want) => reads(buffer.parse_num(), *want),
+        Call::RefusedNum(prefix) => names(buffer.parse_num(), *prefix),
+        Call::Parsed(want) => reads(buffer.parse(), Some(*want)),
+        Call::RefusedParsed(prefix) => names(buffer.parse::<Variant>(), *prefix),
+        Call::ParsedSymbol(want) => reads(buffer.parse(), Some(*want)),
+        _ => is_placed(alloc, buffer, call),
+    }
+}
+
+/// Whether a call for a text, for bytes or for a place answers as it says.
+fn is_placed(alloc: Global, buffer: &mut ParseBuffer<'_>, call: &Call) -> bool {
+    match call {
+        Call::Text(want) => reads_text(buffer.parse_cstring(), *want),
+        Call::PascalText(want) => reads_text(buffer.parse_u8_pascal_string(), *want),
+        Call::Take(count, want) => reads(buffer.take(*count), *want),
+        Call::Truncate(to, done) => is_done(buffer.truncate(*to), *done),
+        Call::AlignTo4(done) => is_done(buffer.align(4), *done),
+        Call::Seek(to) => {
+            buffer.seek(*to);
+            true
+        }
+        Call::Printed(text) => shows(alloc, &InHexadecimal(buffer), text),
+        _ => false,
+    }
+}
+
+/// Whether each of these calls answers as it says, and leaves the buffer where it says.
+fn are_answered(
+    alloc: Global,
+    mut buffer: ParseBuffer<'_>,
+    calls: &[(Call, usize, usize)],
+) -> bool {
+    for (call, pos, left) in calls {
+        if !is_answered(alloc, &mut buffer, call) || !stands(&buffer, *pos, *left) {
+            return false;
+        }
+    }
+    true
+}
+
+/// Whether each of these calls answers as it says over these bytes, and over a stream of them.
+fn is_row(alloc: Global, bytes: &[u8], calls: &[(Call, usize, usize)]) -> Result<bool, Fail> {
+    let stream = Stream::new(Vec::from_slice(alloc, &bytes[..bytes.len().min(16)])?);
+    Ok(
+        stream.as_slice() == bytes
+            && are_answered(alloc, stream.parse_buffer(), calls)
+            && are_answered(alloc, ParseBuffer::from(bytes), calls),
+    )
+}
+
+#[test]
+fn calls(rt: HostRuntime) -> Result<(), Fail> {
+    for rows in [NUMBERS, VARIANTS, PLACES] {
+        for (name, bytes, calls) in rows {
+            assert!(rt; is_row(rt.alloc(), bytes, calls)?, "{name}");
+        }
+    }
+    assert!(rt; stands(&ParseBuffer::default(), 0, 0));
+    Ok(())
+}
+
+/// How many NULs come before a text, how many bytes there are from there on, and with how many
+/// letters these begin.
+const BEFORE: &[usize] = &[0, 3, 20];
+
+const LEFT: &[usize] = &[1, 15, 16, 17, 40, 41];
+
+const LETTERS: &[usize] = &[0, 7, 15, 16, 17, 31, 40, 41];
+
+/// So many NULs, and letters and then NULs up to a length.
+fn letters(alloc: Global, before: usize, letters: usize, len: usize) -> Result<Vec<u8>, Fail> {
+    let mut bytes = vec![in alloc; 0; before]?;
+    bytes.resize(letters.saturating_add(before).min(len), b'a')?;
+    bytes.resize(len, 0)?;
+    Ok(bytes)
+}
+
+/// Whether so many letters are read as a text, with so many bytes left behind its NUL.
+fn is_text(answer: pdb_base::Result<RawString<'_>>, letters: usize) -> bool {
+    matches!(answer, Ok(text) if text.len() == letters && !text.as_bytes().contains(&0))
+}
+
+/// Whether the letters among the `left` bytes from a place on are read as a text, if a NUL ends
+/// them.
+fn ends_at_nul(bytes: &[u8], before: usize, left: usize, letters: usize) -> bool {
+    let mut buffer = ParseBuffer::from(bytes);
+    buffer.seek(before);
+    let answer = buffer.parse_cstring();
+    if letters < left {
+        is_text(answer, letters) && buffer.len() == left - letters - 1
+    } else {
+        ends(answer) && buffer.len() == left
+    }
+}
+
+/// Whether that is so with each count of letters.
+fn end_at_nuls(alloc: Global, before: usize, left: usize) -> Result<bool, Fail> {
+    for count in LETTERS {
+        let bytes = letters(alloc, before, *count, before.saturating_add(left))?;
+        if !ends_at_nul(&bytes, before, left, *count) {
+            return Ok(false);
+        }
+    }
+    Ok(true)
+}
+
+#[test]
+fn ends_of_strings(rt: HostRuntime) -> Result<(), Fail> {
+    for before in BEFORE {
+        for left in LEFT {
+            assert!(rt;
+                end_at_nuls(rt.alloc(), *before, *left)?,
+                "{left} bytes behind {before}"
+            );
+        }
+    }
+    Ok(())
+}
+
+/// Bytes, the text that they are, and whether it is owned, as where what is no UTF-8 is replaced.
+const RAW: &[(&[u8], &str, bool)] = &[
+    (b"f\xffo", "f\u{fffd}o", true),
+    (b"foo", "foo", false),
+    (b"ab", "ab", false),
+    (b"", "", false),
+];
+
+/// Whether a text is this one, owned or borrowed.
+fn is_lossy(alloc: Global, raw: RawString<'_>, want: &str, is_owned: bool) -> bool {
+    match raw.to_string(alloc) {
+        Ok(CowStr::Borrowed(text)) => !is_owned && text == want,
+        Ok(CowStr::Owned(text)) => is_owned && text.as_str() == want,
+        Err(_) => false,
+    }
+}
+
+/// Whether a raw string is of these bytes, and is the one that is made of the text if no byte was
+/// replaced in it.
+fn is_of(raw: RawString<'_>, bytes: &[u8], text: &str, is_owned: bool) -> bool {
+    let again: &[u8] = raw.into();
+    again == bytes
+        && raw.len() == bytes.len()
+        && raw.is_empty() == bytes.is_empty()
+        && (raw == RawString::from(text)) != is_owned
+}
+
+/// Whether these bytes are shown as this text, owned or borrowed.
+fn is_raw(alloc: Global, bytes: &[u8], text: &str, is_owned: bool) -> bool {
+    let raw = RawString::from(bytes);
+    is_of(raw, bytes, text, is_owned)
+        && is_lossy(alloc, raw, text, is_owned)
+        && shows(alloc, &raw, text)
+}
+
+#[test]
+fn raw_strings(rt: HostRuntime) {
+    for (bytes, text, is_owned) in RAW {
+        assert!(rt; is_raw(rt.alloc(), bytes, text, *is_owned), "{text}");
+    }
+    assert!(rt; RawString::default().is_empty());
+}

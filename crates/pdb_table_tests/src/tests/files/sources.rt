@@ -1,0 +1,188 @@
+//! Sources, also those that note and fail.
+
+use super::{Made, STREAM_1, answers, are_views, bytes_in, bytes_of};
+use pdb_base::Error;
+use pdb_fixtures::{Failing, Noting, s1};
+use pdb_msf::{BigMSF, Msf, ReadView, Source, SourceSlice, SourceView, open_msf};
+use std::alloc::Global;
+use std::io;
+use std::io::ErrorKind;
+use std::test::Fail;
+
+/// Slices that are requested from a source, and the bytes of a view of them, or None if the view
+/// fails because the source ends too soon.
+type Views = &'static [(&'static [SourceSlice], Option<&'static [u8]>)];
+
+/// A slice of so many bytes from an offset on.
+macro_rules! slice {
+    ($offset:expr, $size:expr) => {
+        SourceSlice {
+            offset: $offset,
+            size: $size,
+        }
+    };
+}
+
+const OF_SIX_BYTES: Views = rows! {
+    &[slice!(4, 2), slice!(0, 3), slice!(6, 0)], Some(b"efabc");
+    &[slice!(4, 3)], None;
+    &[slice!(u64::MAX, 2)], None;
+    &[slice!(0, 1 << 50)], None;
+};
+
+/// The last of the two bytes that are not 0.
+const BYTE_88: SourceSlice = slice!(88, 1);
+
+/// Four bytes around the first one.
+const AROUND_42: SourceSlice = slice!(40, 4);
+
+const OF_TWO_BYTES: Views = rows! {
+    &[BYTE_88, AROUND_42, BYTE_88], Some(&[88, 0, 0, 42, 0, 88]);
+    &[AROUND_42], Some(&[0, 0, 42, 0]);
+    &[slice!(5000, 0)], Some(&[]);
+    &[slice!(u64::MAX, 0)], Some(&[]);
+    &[slice!(4095, 2)], None;
+    &[slice!(u64::MAX, 2)], None;
+};
+
+/// Sources, and views of them.
+const SOURCES: &[(&str, Made, Views)] = rows! {
+    "six bytes", Made::Filled(b"abcdef", 6), OF_SIX_BYTES;
+    "two bytes that are not 0", Made::Zeros(4096, &[(42, 42), (88, 88)]), OF_TWO_BYTES;
+};
+
+/// Whether a view has these bytes, or fails because the source ends too soon if there are none.
+fn is_view(view: io::Result<ReadView>, want: Option<&[u8]>) -> bool {
+    match want {
+        Some(bytes) => matches!(view, Ok(view) if view.as_slice() == bytes),
+        None => matches!(view, Err(error) if error.kind() == ErrorKind::UnexpectedEof),
+    }
+}
+
+/// Whether the views of a source are these.
+fn sees<S: Source>(alloc: Global, source: &mut S, views: Views) -> bool {
+    for (asked, want) in views {
+        if !is_view(source.view(alloc, asked), *want) {
+            return false;
+        }
+    }
+    true
+}
+
+/// Whether the views of bytes are these, owned and borrowed.
+fn are_seen(alloc: Global, source: &Made, views: Views) -> pdb_base::Result<bool> {
+    let mut owned = bytes_of(alloc, source)?;
+    let seen = sees(alloc, &mut owned, views);
+    Ok(seen && sees(alloc, &mut owned.as_slice(), views))
+}
+
+#[test]
+fn views(rt: HostRuntime) -> Result<(), Fail> {
+    for (name, source, views) in SOURCES {
+        assert!(rt; are_seen(rt.alloc(), source, views)?, "{name}");
+    }
+    let view = ReadView::new(Vec::from_slice(rt.alloc(), b"xy")?);
+    assert!(rt; view.as_slice() == b"xy".as_slice());
+    Ok(())
+}
+
+/// The stream and the limit of one call after another, and how many bytes the file has then
+/// requested from its source: of S1 36 bytes to locate the directory and 600 of stream 1, then 5,
+/// none of an absent stream, 2, and none of an empty stream.
+const ASKED: &[(u32, Option<usize>, u64)] = &[
+    (1, None, 636),
+    (3, None, 641),
+    (2, None, 641),
+    (3, Some(2), 643),
+    (0, None, 643),
+];
+
+/// Whether a call locates the directory, and so many bytes have then been requested from the
+/// source.
+fn asks(
+    alloc: Global,
+    file: &mut BigMSF<Noting>,
+    number: u32,
+    limit: Option<usize>,
+    asked: u64,
+) -> bool {
+    let _ = file.get(alloc, number, limit);
+    file.located() && file.asked() == asked && bytes_in(file.source().notes()) == asked
+}
+
+/// Whether each of the calls does so, where nothing was requested before them.
+fn asks_in_turn(alloc: Global, file: &mut BigMSF<Noting>) -> bool {
+    if file.located() || file.asked() != 0 {
+        return false;
+    }
+    for (number, limit, asked) in ASKED {
+        if !asks(alloc, file, *number, *limit, *asked) {
+            return false;
+        }
+    }
+    true
+}
+
+/// The views of the source in these calls: the header's, the directory's page number and the
+/// directory, and one in each call that reads a stream.
+const NOTED: &[&[(u64, usize)]] = &[
+    &[(0, 4096)],
+    &[(1536, 4)],
+    &[(1024, 32)],
+    &[(3072, 512), (2560, 88)],
+    &[(3584, 5)],
+    &[(3584, 2)],
+    &[],
+];
+
+#[test]
+fn noted_views(rt: HostRuntime) -> Result<(), Fail> {
+    let alloc = rt.alloc();
+    let mut file = open_msf(alloc, Noting::new(alloc, s1(alloc)?))?;
+    assert!(rt; asks_in_turn(alloc, &mut file));
+    assert!(rt; are_views(file.source().notes(), NOTED));
+    Ok(())
+}
+
+/// S1 behind a source whose view of this number fails with this kind.
+fn failing(alloc: Global, n: u64, kind: ErrorKind) -> pdb_base::Result<Failing> {
+    let file = s1(alloc)?;
+    Ok(if kind == ErrorKind::Other {
+        Failing::new(file, n)
+    } else {
+        Failing::denying(file, n)
+    })
+}
+
+/// Whether a call fails with an error of the source of this kind.
+fn is_fault<T: Drop>(answer: pdb_base::Result<T>, kind: ErrorKind) -> bool {
+    matches!(answer, Err(Error::IoError(error)) if error.kind() == kind)
+}
+
+/// Whether reading stream 1 fails with an error of the source of this kind, which leaves the file
+/// located or not, and the next call reads the whole stream.
+fn recovers(alloc: Global, mut file: BigMSF<Failing>, kind: ErrorKind, located: bool) -> bool {
+    let refused = is_fault(file.get(alloc, 1, None), kind);
+    let stays = file.located() == located;
+    let again = answers(file.get(alloc, 1, None), &STREAM_1);
+    refused && stays && again && file.located()
+}
+
+/// Whether a file recovers when this view fails. The directory is located by the third.
+fn recovers_from(alloc: Global, n: u64, kind: ErrorKind) -> pdb_base::Result<bool> {
+    let file = open_msf(alloc, failing(alloc, n, kind)?)?;
+    Ok(recovers(alloc, file, kind, n > 3))
+}
+
+#[test]
+fn failing_views(rt: HostRuntime) -> Result<(), Fail> {
+    let alloc = rt.alloc();
+    for kind in [ErrorKind::Other, ErrorKind::PermissionDenied] {
+        for n in 2..5u64 {
+            assert!(rt; recovers_from(alloc, n, kind)?, "view {n}, {kind:?}");
+        }
+        let refused = failing(alloc, 1, kind)?;
+        assert!(rt; is_fault(open_msf(alloc, refused), kind), "{kind:?}");
+    }
+    Ok(())
+}

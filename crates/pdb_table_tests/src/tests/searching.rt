@@ -1,0 +1,284 @@
+//! Searches by halving, each compared with a search that looks at all records in their order: over
+//! all small tables, and over tables of frames as long as each way to search them takes.
+
+use pdb_base::{Count, FallibleIterator, Stream};
+use pdb_frames::{FrameDataIter, FrameTable};
+use pdb_space::{OMAPTable, PdbInternalRva};
+use std::alloc::Global;
+use std::ops::Range;
+use std::test::Fail;
+
+/// The stream of pairs of numbers, each followed by the same bytes.
+pub(super) fn stream(alloc: Global, pairs: &[(u32, u32)], others: &[u8]) -> Result<Stream, Fail> {
+    let mut bytes = Vec::new(alloc);
+    for (first, second) in pairs {
+        bytes.extend_from_slice(&first.to_le_bytes())?;
+        bytes.extend_from_slice(&second.to_le_bytes())?;
+        bytes.extend_from_slice(others)?;
+    }
+    bytes.truncate(0x100_0000);
+    Ok(Stream::new(bytes))
+}
+
+/// The OMAP table of these records, each a source and a target.
+pub(super) fn omap(alloc: Global, records: &[(u32, u32)]) -> Result<OMAPTable, Fail> {
+    Ok(OMAPTable::parse(stream(alloc, records, &[])?)?)
+}
+
+/// The ranges that a table answers of a start and an end.
+fn ranges(alloc: Global, table: &OMAPTable, start: u32, end: u32) -> Result<Vec<Range<u32>>, Fail> {
+    Ok(table.lookup_range(start..end).collect(alloc)?)
+}
+
+/// What a table answers of an address, and how many sources are compared.
+fn count_compared(table: &OMAPTable, address: u32) -> (Option<u32>, u64) {
+    let mut count = Count::new();
+    let moved = table.lookup_counted(address, &mut count);
+    (moved, count.get())
+}
+
+/// The numbers of which small tables are made.
+const NUMBERS: [u32; 4] = [0, 1, 2, 0xffff_ffff];
+
+/// The addresses that are looked up in small tables.
+const ADDRESSES: [u32; 6] = [0, 1, 2, 3, 0xffff_fffe, 0xffff_ffff];
+
+/// A table of so many records, each the pair of numbers that a digit of the code, to the base 16,
+/// encodes.
+fn table_by_code(alloc: Global, len: usize, code: usize) -> Result<Vec<(u32, u32)>, Fail> {
+    let mut records = Vec::new(alloc);
+    let mut left = code;
+    for _ in 0..len {
+        records.push((NUMBERS[left / 4 % 4], NUMBERS[left % 4]))?;
+        left /= 16;
+    }
+    Ok(records)
+}
+
+/// Whether no source is below the one before it.
+fn is_sorted(records: &[(u32, u32)]) -> bool {
+    let mut highest = 0;
+    for (source, _) in records {
+        if *source < highest {
+            return false;
+        }
+        highest = *source;
+    }
+    true
+}
+
+/// Where records move an address, by a look at each of them in their order.
+fn plain_lookup(records: &[(u32, u32)], address: u32) -> Option<u32> {
+    let mut moved = None;
+    for (source, target) in records {
+        if *source <= address {
+            moved = if *target == 0 {
+                None
+            } else {
+                target.checked_add(address - source)
+            };
+        }
+    }
+    moved
+}
+
+/// Where a record moves its part of a range, which ends where the next record begins.
+fn plain_part(source: u32, target: u32, next: u32, asked: &Range<u32>) -> Option<Range<u32>> {
+    let low = asked.start.max(source);
+    let high = asked.end.min(next);
+    if target == 0 || high <= low {
+        return None;
+    }
+    let start = target.checked_add(low - source)?;
+    let end = target.saturating_add(high - source);
+    if start < end { Some(start..end) } else { None }
+}
+
+/// Where records move a range, by a look at each of them in their order.
+fn plain_ranges(
+    alloc: Global,
+    records: &[(u32, u32)],
+    asked: &Range<u32>,
+) -> Result<Vec<Range<u32>>, Fail> {
+    let mut ranges = Vec::new(alloc);
+    for (place, (source, target)) in records.iter().enumerate() {
+        let next = match records.get(place + 1) {
+            Some((next, _)) => *next,
+            None => asked.end,
+        };
+        if let Some(part) = plain_part(*source, *target, next, asked) {
+            ranges.push(part)?;
+        }
+    }
+    Ok(ranges)
+}
+
+/// Whether a table answers as a search that looks at all records in their order: for each address,
+/// by at most three comparisons, and for each range between two.
+fn answers_alike(alloc: Global, records: &[(u32, u32)]) -> Result<bool, Fail> {
+    let table = omap(alloc, records)?;
+    for start in ADDRESSES {
+        let want = plain_lookup(records, start);
+        let (moved, compared) = count_compared(&table, start);
+        if table.lookup(start) != want || moved != want || compared > 3 {
+            return Ok(false);
+        }
+        for end in ADDRESSES {
+            let answered = ranges(alloc, &table, start, end)?;
+            if answered.as_slice() != plain_ranges(alloc, records, &(start..end))?.as_slice() {
+                return Ok(false);
+            }
+        }
+    }
+    Ok(true)
+}
+
+#[test]
+fn small_tables(rt: HostRuntime) -> Result<(), Fail> {
+    for (len, codes) in [(0, 1), (1, 16), (2, 0x100), (3, 0x1000), (4, 0x1_0000)] {
+        for code in 0..codes {
+            let records = table_by_code(rt.alloc(), len, code)?;
+            if is_sorted(&records) {
+                assert!(rt;
+                    answers_alike(rt.alloc(), &records)?,
+                    "{len} records, {code}"
+                );
+            }
+        }
+    }
+    Ok(())
+}
+
+/// Frames whose starts increase: to each of the four numbers, a digit of the code, to the base 5,
+/// says that no frame starts there, or the size of the one that does.
+fn increasing(alloc: Global, code: usize) -> Result<Vec<(u32, u32)>, Fail> {
+    let mut frames = Vec::new(alloc);
+    let mut left = code;
+    for start in NUMBERS {
+        if left % 5 > 0 {
+            frames.push((start, NUMBERS[left % 5 - 1]))?;
+        }
+        left /= 5;
+    }
+    Ok(frames)
+}
+
+/// The frames from an address on, by a look at each of them in their order.
+fn plain_frames(frames: &[(u32, u32)], address: u32) -> &[(u32, u32)] {
+    let mut from = 0;
+    for (place, (start, size)) in frames.iter().enumerate() {
+        if *start <= address {
+            let begins = *start == address || address - *start < *size;
+            from = if begins { place } else { place + 1 };
+        }
+    }
+    &frames[from.min(frames.len())..]
+}
+
+/// The start and size of the next frame.
+fn step(frames: &mut FrameDataIter<'_>) -> pdb_base::Result<Option<(u32, u32)>> {
+    match frames.next() {
+        Ok(Some(frame)) => Ok(Some((frame.code_start.0, frame.code_size))),
+        Ok(None) => Ok(None),
+        Err(error) => Err(error),
+    }
+}
+
+/// Whether a table gives just these frames from an address on, each by its start and size.
+fn gives(table: &FrameTable, address: u32, want: &[(u32, u32)]) -> Result<bool, Fail> {
+    let mut frames = table.iter_at_rva(PdbInternalRva(address));
+    for frame in want {
+        if step(&mut frames)? != Some(*frame) {
+            return Ok(false);
+        }
+    }
+    Ok(step(&mut frames)?.is_none())
+}
+
+/// Whether frames are given alike from either format.
+fn frames_alike(alloc: Global, frames: &[(u32, u32)]) -> Result<bool, Fail> {
+    let old = FrameTable::parse(Some(stream(alloc, frames, &[0; 8])?), None)?;
+    let new = FrameTable::parse(None, Some(stream(alloc, frames, &[0; 24])?))?;
+    for address in ADDRESSES {
+        let want = plain_frames(frames, address);
+        if !gives(&old, address, want)? || !gives(&new, address, want)? {
+            return Ok(false);
+        }
+    }
+    Ok(true)
+}
+
+#[test]
+fn small_frame_tables(rt: HostRuntime) -> Result<(), Fail> {
+    for code in 0..625 {
+        let frames = increasing(rt.alloc(), code)?;
+        assert!(rt; frames_alike(rt.alloc(), &frames)?, "{code}");
+    }
+    Ok(())
+}
+
+/// Frames that begin eight bytes apart, of 0 to 10 bytes: some end before the next begins, and some
+/// overlap with it.
+fn regular(alloc: Global, len: u32) -> Result<Vec<(u32, u32)>, Fail> {
+    let mut frames = Vec::new(alloc);
+    for place in 0..len {
+        frames.push((place.saturating_mul(8), place % 11))?;
+    }
+    Ok(frames)
+}
+
+/// Whether a table gives these frames first from an address on.
+fn begins(table: &FrameTable, address: u32, want: &[(u32, u32)]) -> Result<bool, Fail> {
+    let mut frames = table.iter_at_rva(PdbInternalRva(address));
+    let first = step(&mut frames)?;
+    let second = step(&mut frames)?;
+    Ok(first == want.first().copied() && second == want.get(1).copied())
+}
+
+/// Whether frames are found alike in either format around a frame: at its start, at its last byte,
+/// behind it, and before the next one.
+fn around_alike(
+    old: &FrameTable,
+    new: &FrameTable,
+    frames: &[(u32, u32)],
+    frame: (u32, u32),
+) -> Result<bool, Fail> {
+    let (start, size) = frame;
+    for address in [
+        start,
+        start.saturating_add(size).saturating_sub(1),
+        start.saturating_add(size),
+        start.saturating_add(7),
+    ] {
+        let want = plain_frames(frames, address);
+        if !begins(old, address, want)? || !begins(new, address, want)? {
+            return Ok(false);
+        }
+    }
+    Ok(true)
+}
+
+/// Whether a long table of frames is searched alike in either format: around 128 frames all along
+/// it, among which are those that halve it, halve a half of it, and so on.
+fn long_table_alike(alloc: Global, len: u32) -> Result<bool, Fail> {
+    let frames = regular(alloc, len)?;
+    let old = FrameTable::parse(Some(stream(alloc, &frames, &[0; 8])?), None)?;
+    let new = FrameTable::parse(None, Some(stream(alloc, &frames, &[0; 24])?))?;
+    for part in 0..128usize {
+        let place = frames.len().saturating_mul(part) / 128;
+        if let Some(frame) = frames.get(place) {
+            if !around_alike(&old, &new, &frames, *frame)? {
+                return Ok(false);
+            }
+        }
+    }
+    Ok(true)
+}
+
+#[test]
+fn long_frame_tables(rt: HostRuntime) -> Result<(), Fail> {
+    for len in [8, 9, 16, 300, 140_000] {
+        assert!(rt; long_table_alike(rt.alloc(), len)?, "{len} frames");
+    }
+    Ok(())
+}

@@ -1,6 +1,0 @@
-use Rattle.std.proofs.Common.{refl}
-use Rattle.pdb_output.proofs.lemmas.Written.{lacks_all}
-use Rattle.pdbdump_tables.proofs.summary.write_all_streams.Goals as goal
-
-pub returns-in-Err-OutOfMemory-clause-lines : goal.returns-in-Err-OutOfMemory-clause-lines
-returns-in-Err-OutOfMemory-clause-lines g c = lacks_all _ _ _ refl

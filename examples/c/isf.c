@@ -1,0 +1,59 @@
+/* Writes the types and the public symbols of a program database as JSON, in Volatility's format ISF.
+ *
+ * cc isf.c $(pkg-config --cflags --libs pdb_container)
+ * ./a.out FILE
+ */
+#include "definitions.h"
+
+static const char *kind_of(uint32_t index, uint64_t size) {
+    static const char *kinds[16] = {"void", "int", "int", "bool", "float", "float", "int", "int"};
+    int is_character = index == 0x10 || index == 0x20 || index == 0x70 || index == 0x71 || (index >= 0x7a && index <= 0x7c);
+    return !size ? "void" : is_character ? "char" : kinds[index >> 4];
+}
+
+static int is_signed(uint32_t index) {
+    if (index == 0x68 || index == 8) return 1;
+    return (index >= 0x10 && index <= 0x14) || (index >= 0x40 && index <= 0x46) || (index >= 0x70 && index <= 0x78 && !(index & 1));
+}
+
+static void print_base_types(table *table, unsigned address_size) {
+    const char *form = ",\n\"%s\":{\"kind\":\"%s\",\"size\":%" PRIu64 ",\"signed\":%s,\"endian\":\"little\"}";
+    printf(form + 2, "pointer", "int", (uint64_t)address_size, "false");
+    for (uint32_t index = 0; index < sizeof is_met; index++) {
+        uint64_t size = size_of(table, index);
+        if (is_met[index]) printf(form, base_name(table, index), kind_of(index, size), size, is_signed(index) ? "true" : "false");
+    }
+}
+
+static const char *before = "";
+
+static void print_symbol(int is_there, uint32_t address, const char *name, int length) {
+    if (!is_there) return;
+    fputs(before, stdout);
+    before = ",\n";
+    print_quoted(name, (size_t)length);
+    printf(":{\"address\":%u}", (unsigned)address);
+}
+
+int main(int count, char **words) {
+    if (count != 2) return fputs("usage: isf FILE\n", stderr), 2;
+    pdb_file file = open_file(words[1]);
+    pdb_identity identity = {0};
+    check(pdb_identity_of(file.bytes, file.length, &identity, &fault));
+    table table = {.stream = stream_of(&file, PDB_TYPES_STREAM)};
+    check(pdb_types_open(table.stream.at, table.stream.length, &table.types, &fault));
+    check(pdb_definitions_open(table.stream.at, table.stream.length, &table.definitions, &fault));
+    unsigned version = pdb_version();
+    printf("{\"metadata\":{\"format\":\"6.2.0\",\"producer\":{\"name\":\"pdb_container\",\"version\":\"%u.%u.%u\"}},\n",
+           version / 10000, version / 100 % 100, version % 100);
+    printf("\"user_types\":{"), print_definitions(&table, 0);
+    printf("},\n\"enums\":{"), print_definitions(&table, 1);
+    printf("},\n\"base_types\":{"), print_base_types(&table, identity.machine == 0x8664 || identity.machine == 0xaa64 ? 8 : 4);
+    printf("},\n\"symbols\":{"), each_public(&file, print_symbol);
+    puts("}}");
+    pdb_definitions_close(&table.definitions);
+    pdb_types_close(&table.types);
+    free(table.stream.at);
+    close_file(&file);
+    return 0;
+}
