@@ -24,9 +24,23 @@ FLAGS = {
 ALIGNMENT = 0xF00000
 
 
+# What Unicode 18 has as Default_Ignorable_Code_Point.
+IGNORED = [
+    (0xAD, 0xAD), (0x34F, 0x34F), (0x61C, 0x61C), (0x115F, 0x1160), (0x17B4, 0x17B5), (0x180B, 0x180F), (0x200B, 0x200F),
+    (0x202A, 0x202E), (0x2060, 0x206F), (0x3164, 0x3164), (0xFE00, 0xFE0F), (0xFEFF, 0xFEFF), (0xFFA0, 0xFFA0),
+    (0xFFF0, 0xFFF8), (0x1BCA0, 0x1BCA3), (0x1D173, 0x1D17A), (0xE0000, 0xE0FFF),
+]  # fmt: skip
+
+
+def is_hidden(c):
+    """Whether a reader wouldn't see a character as one."""
+    is_ignored = any(first <= ord(c) <= last for first, last in IGNORED)
+    return c < " " or "\x7f" <= c < "\xa0" or c in "\u2028\u2029" or is_ignored
+
+
 def escaped(text):
-    """A text as it is shown: control characters as JSON escapes them, which text does too."""
-    return "".join(json.dumps(c)[1:-1] if c < " " else f"\\u{ord(c):04x}" if "\x7f" <= c < "\xa0" else c for c in text)
+    """A text as it is shown: what a reader wouldn't see as JSON escapes it, which text does too."""
+    return "".join(json.dumps(c)[1:-1] if is_hidden(c) else c for c in text)
 
 
 def rows_of(words, outcome):

@@ -14,7 +14,9 @@ use crate::names::{
 use pdb_base::{Error, RawString, Result};
 use pdb_validation::{Finding, Problem};
 use pdbdump_rows::names::INDEX;
-use pdbdump_rows::{Form, Line, LineResult, Value, append_line, error_text, optional_number};
+use pdbdump_rows::{
+    Form, Line, LineResult, Value, append_line, error_text, optional_number, push_text,
+};
 use std::alloc::{AllocError, Global};
 use std::result;
 
@@ -86,10 +88,10 @@ fn push_words(severity: &str, code: &str, words: &[u8], out: &mut Vec<u8>) -> Li
 }
 
 /// Appends the line of a finding as text.
-fn push_text(alloc: Global, path: &str, finding: &Finding, out: &mut Vec<u8>) -> LineResult {
+fn push_finding_line(alloc: Global, path: &str, finding: &Finding, out: &mut Vec<u8>) -> LineResult {
     let words = problem_text(alloc, &finding.problem)?;
     let code = code_text(alloc, finding)?;
-    out.extend_from_slice(path.as_bytes())?;
+    push_text(Form::Text, path.as_bytes(), out)?;
     push_words(severity(&finding.problem), &code, &words, out)?;
     push_place(alloc, finding, out)?;
     out.push(b'\n')?;
@@ -134,7 +136,7 @@ fn push_finding(
     ensures memory { FailsOnlyForMemory result }
 {
     match form {
-        Form::Text => Ok(push_text(alloc, path, finding, out)?),
+        Form::Text => Ok(push_finding_line(alloc, path, finding, out)?),
         Form::Json => {
             let mut line = Line::new(alloc);
             line.begin(Form::Json);
@@ -229,7 +231,7 @@ fn whole_text(tally: Tally) -> &'static str {
 
 /// Appends the line of a file in which so much was found, as text.
 fn push_file_line(alloc: Global, path: &str, tally: Tally, out: &mut Vec<u8>) -> LineResult {
-    out.extend_from_slice(path.as_bytes())?;
+    push_text(Form::Text, path.as_bytes(), out)?;
     out.extend_from_slice(b": ")?;
     out.extend_from_slice(whole_text(tally).as_bytes())?;
     push_counts_if_any(alloc, tally, out)?;

@@ -15,8 +15,8 @@ use Rattle.pdbdump_rows.specs.Lines.{field_line, field_text, fields_text, front_
 use Rattle.pdbdump_rows.specs.Lines.{shown_leaf_text, list_text, row_text, separate, separator, value_text}
 use Rattle.pdbdump_rows.specs.Row as rows
 use Rattle.pdbdump_rows.specs.Row.{ShownField, ShownRow, ShownValue}
-use Rattle.pdbdump_rows.specs.Text.{escape, is_escaped, in_quotes, shown_char, shown_text}
-use Rattle.pdbdump_rows.proofs.StringLaws.{and_both, escape_is, wide_bytes}
+use Rattle.pdbdump_rows.specs.Text.{escape, is_escaped, is_hidden, in_quotes, shown_char, shown_text}
+use Rattle.pdbdump_rows.proofs.StringLaws.{AreEscapes, and_both, escape_is, one, two, wide_bytes}
 
 -- whether no byte is below 0x20
 abbrev printable : List ℕ → Bool
@@ -55,11 +55,13 @@ wide_printable (byte ∷ bytes) all =
     let both = and_parts (leb 128 byte) (list_all (λ byte. leb 128 byte) bytes) all in
     and_both (wide_byte byte both.0) (wide_printable bytes both.1)
 
-escaped_small : (form : Form) (c : ℕ) → is_escaped form c ≡ true → c < 256
-escaped_small Text c holds = grind (arith, nat_tests)
-escaped_small Json c holds = grind (arith, nat_tests)
+escapes_printable : (bytes : List ℕ) → AreEscapes bytes → printable bytes ≡ true
+escapes_printable _ (one bytes is) = escape_printable bytes is
+escapes_printable _ (two first second is also) =
+    joined first second (escape_printable first is) (escape_printable second also)
 
 unescaped_printable : (form : Form) (c : ℕ) → is_escaped form c ≡ false → leb 32 c ≡ true
+unfolding is_hidden
 unescaped_printable Text c fails = grind (arith, nat_tests)
 unescaped_printable Json c fails = grind (arith, nat_tests)
 
@@ -67,7 +69,7 @@ char_printable : (form : Form) (c : ℕ) → printable (shown_char form c) ≡ t
 unfolding shown_char
 char_printable form c = ⊎_elim
     (λ (holds : is_escaped form c ≡ true). ap printable (cond-true (is_escaped form c) (escape c) (encode_utf8 c) holds)
-    ∙ escape_printable (escape c) (escape_is c (escaped_small form c holds)))
+    ∙ escapes_printable (escape c) (escape_is c))
     (λ (fails : is_escaped form c ≡ false). ap printable
     (cond-false (is_escaped form c) (escape c) (encode_utf8 c) fails) ∙ ⊎_elim
     (λ (low : c < 128). ap printable (encode_ascii c low) ∙ and_both (unescaped_printable form c fails) refl)

@@ -1,12 +1,23 @@
 -- What rows are written as: a row is a single line, and a text in JSON is a JSON string.
 use Rattle.std.specs.Prelude.{◌≡◌, ℕ, ◌==◌, ◌||◌, ◌&&◌, not, nat_le, Bool, IsTrue, List, [], ◌∷◌, ◌++◌}
-use Rattle.std.specs.List.{list_all}
+use Rattle.std.specs.Char.{encode_utf8}
+use Rattle.std.specs.List.{flat_map, list_all}
 use Rattle.pdbdump_rows.specs.Lines.{line_feed}
-use Rattle.pdbdump_rows.specs.Text.{quote, backslash}
+use Rattle.pdbdump_rows.specs.Text.{quote, backslash, is_hidden}
 
 -- no byte is below 0x20, as a line feed or the first byte of a terminal's escape sequence is
 abbrev pub IsPrintable : List ℕ → Type 0
 IsPrintable bytes = IsTrue (list_all (λ byte. nat_le 0x20 byte) bytes)
+
+-- whether a reader of a line sees a character as one
+abbrev pub is_shown : ℕ → Bool
+is_shown c = not (is_hidden c)
+
+-- A text is the UTF-8 of characters that a reader of a line sees as such.
+pub record AreShown (text : List ℕ) : Type 0 where
+  pub characters : List ℕ
+  pub shown : IsTrue (list_all is_shown characters)
+  pub written : text ≡ flat_map encode_utf8 characters
 
 -- one line: printable bytes, and a line feed behind them
 pub record IsLine (text : List ℕ) : Type 0 where

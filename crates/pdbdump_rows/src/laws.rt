@@ -2,11 +2,11 @@
 
 ghost use Rattle.std.specs.Prelude.{◌≡◌, ℕ, List};
 ghost use Rattle.pdbdump_rows.specs.declared.form.Form.{Form};
-ghost use Rattle.pdbdump_rows.specs.Laws.{IsLine, IsString};
+ghost use Rattle.pdbdump_rows.specs.Laws.{AreShown, IsLine, IsString};
 ghost use Rattle.pdbdump_rows.specs.Line.{all_shown, begun, begun_full, line_bytes};
 ghost use Rattle.pdbdump_rows.specs.Lines.{field_line, full_text, row_text};
 ghost use Rattle.pdbdump_rows.specs.Row.{ShownField, ShownRow};
-ghost use Rattle.pdbdump_rows.specs.Text.{in_quotes};
+ghost use Rattle.pdbdump_rows.specs.Text.{in_quotes, shown_text};
 
 /// A record is one line in either form, and so is a field alone, whatever bytes names hold: the only
 /// control character is the line feed at its end.
@@ -21,6 +21,13 @@ pub fn lines()
 pub fn line_is_its_fields()
     ensures lines { (form : Form) (row : ShownRow) → line_bytes (all_shown (begun form) row) ≡ row_text form row }
     ensures full { (form : Form) (row : ShownRow) → line_bytes (all_shown (begun_full form) row) ≡ full_text form row }
+{}
+
+/// What is written of a text is characters that a reader of a line sees as such: no control, no mark
+/// of direction and no space of no width, whatever bytes the text holds.
+#[tactic(auto, using(crate::proofs::ShownLaws::text_is_shown))]
+pub fn texts()
+    ensures { (form : Form) (bytes : List ℕ) → AreShown (shown_text form bytes) }
 {}
 
 /// A text in JSON is a string of RFC 8259, whatever bytes it holds.

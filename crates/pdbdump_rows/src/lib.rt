@@ -28,5 +28,6 @@ pub use line::{Line, LineResult, append_line, write_line};
 pub use omap_rows::show_omap;
 pub use refused::{error_text, show_error};
 pub use section_rows::show_section;
+pub use text::push_text;
 pub use type_rows::{show_listed_method, show_type};
 pub use value::{Flag, Value, optional_hexadecimal, optional_number, optional_text, optional_word};

@@ -58,13 +58,12 @@ pub(crate) fn push_hexadecimal(number: u32, out: &mut Vec<u8>) -> Result<(), All
     push_digits(number, out)
 }
 
-/// Returns the four hexadecimal digits of a number, the highest first.
-pub(crate) fn four_digits(number: u16) -> [u8; 4]
+/// Returns the four hexadecimal digits of the low 16 bits of a number, the highest first.
+pub(crate) fn four_digits(number: u32) -> [u8; 4]
     ensures { result ≡ four_digits number }
 {
-    let number = number as u32;
     [
-        digit(number / 4096),
+        digit(number / 4096 % 16),
         digit(number / 256 % 16),
         digit(number / 16 % 16),
         digit(number % 16),

@@ -32,7 +32,7 @@ fn push_kind(form: Form, leaf: u16, out: &mut Vec<u8>) -> Result<(), AllocError>
     match leaf_name(leaf) {
         Some(name) => push_quoted(form, name.as_bytes(), out),
         None => {
-            let [a, b, c, d] = four_digits(leaf);
+            let [a, b, c, d] = four_digits(leaf as u32);
             push_quoted(form, &[b'0', b'x', a, b, c, d], out)
         }
     }

@@ -11,7 +11,7 @@ use pdb_base::{Error, RawString};
 use pdb_file::Features;
 use pdb_identity::Identity;
 use pdb_output::Output;
-use pdbdump_rows::{Flag, Form, Line, LineResult, Value, write_line};
+use pdbdump_rows::{Flag, Form, Line, LineResult, Value, push_text, write_line};
 use std::alloc::{AllocError, Global};
 use std::io::Write;
 
@@ -59,17 +59,30 @@ pub enum KeyStyle {
     Guid,
 }
 
+/// Returns the path of a file with a key in a symbol store as a line.
+fn store_path(alloc: Global, name: &str, key: &str) -> Result<Vec<u8>, AllocError> {
+    let mut line = Vec::new(alloc);
+    push_text(Form::Text, name.as_bytes(), &mut line)?;
+    line.extend_from_slice(b"/")?;
+    line.extend_from_slice(key.as_bytes())?;
+    line.extend_from_slice(b"/")?;
+    push_text(Form::Text, name.as_bytes(), &mut line)?;
+    line.push(b'\n')?;
+    Ok(line)
+}
+
 /// Returns the path of a file in a symbol store as a line.
 fn upper_path(alloc: Global, name: &str, identity: &Identity) -> Result<Vec<u8>, AllocError> {
-    let key = identity.key();
-    Ok(format!(in alloc; "{name}/{key}/{name}\n")?.into_bytes())
+    let key = key_text(alloc, identity)?;
+    store_path(alloc, name, &key)
 }
 
 /// Returns the path of a file in a symbol store as a line in lower case.
 fn lower_path(alloc: Global, name: &str, identity: &Identity) -> Result<Vec<u8>, AllocError> {
     let name = name.to_ascii_lowercase(alloc)?;
     let key = identity.lower_key();
-    Ok(format!(in alloc; "{name}/{key}/{name}\n")?.into_bytes())
+    let key = format!(in alloc; "{key}")?;
+    store_path(alloc, &name, &key)
 }
 
 /// Returns the key of a file as text.
@@ -80,21 +93,14 @@ fn key_text(alloc: Global, identity: &Identity) -> Result<String, AllocError>
     Ok(format!(in alloc; "{key}")?)
 }
 
-/// Returns what the first line of a symbol file of Breakpad says of a file.
-fn module_text(alloc: Global, cpu: &str, key: &str, name: &str) -> Result<String, AllocError> {
-    Ok(format!(in alloc; "{cpu} {key} {name}\n")?)
-}
-
-/// Returns the line that a symbol file of Breakpad begins with.
-fn module_line(alloc: Global, cpu: &str, key: &str, name: &str) -> Result<Vec<u8>, AllocError> {
-    let text = module_text(alloc, cpu, key, name)?;
-    Ok(format!(in alloc; "MODULE windows {text}")?.into_bytes())
-}
-
 /// Returns the line of a file that its symbol file of Breakpad begins with.
 fn breakpad_line(alloc: Global, name: &str, identity: &Identity) -> Result<Vec<u8>, AllocError> {
     let key = key_text(alloc, identity)?;
-    module_line(alloc, identity.cpu(), &key, name)
+    let cpu = identity.cpu();
+    let mut line = format!(in alloc; "MODULE windows {cpu} {key} ")?.into_bytes();
+    push_text(Form::Text, name.as_bytes(), &mut line)?;
+    line.push(b'\n')?;
+    Ok(line)
 }
 
 /// Returns the GUID of a file as a line.
