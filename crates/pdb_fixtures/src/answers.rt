@@ -1,0 +1,55 @@
+//! What the tests of several crates ask of an answer.
+
+use crate::failing::GONE;
+use pdb_base::Error;
+use pdb_msf::SourceSlice;
+use std::alloc::Global;
+use std::io::ErrorKind;
+
+/// Returns whether an error is the same as another, by its variant and what is in it. Those of
+/// sources are not among them.
+pub fn is_error(found: &Error, want: &Error) -> bool {
+    match (found, want) {
+        (Error::UnexpectedEof, Error::UnexpectedEof)
+        | (Error::UnrecognizedFileFormat, Error::UnrecognizedFileFormat)
+        | (Error::StreamNameNotFound, Error::StreamNameNotFound)
+        | (Error::TypeTooShort, Error::TypeTooShort) => true,
+        (Error::InvalidPageSize(number), Error::InvalidPageSize(same))
+        | (Error::PageReferenceOutOfRange(number), Error::PageReferenceOutOfRange(same))
+        | (Error::StreamNotFound(number), Error::StreamNotFound(same))
+        | (Error::TypeNotFound(number), Error::TypeNotFound(same)) => number == same,
+        (Error::UnimplementedTypeKind(number), Error::UnimplementedTypeKind(same))
+        | (Error::UnexpectedNumericPrefix(number), Error::UnexpectedNumericPrefix(same)) => {
+            number == same
+        }
+        (Error::TypeNotIndexed(index, last), Error::TypeNotIndexed(same, same_last)) => {
+            index == same && last == same_last
+        }
+        (Error::InvalidStreamLength(text), Error::InvalidStreamLength(same))
+        | (Error::UnimplementedFeature(text), Error::UnimplementedFeature(same))
+        | (Error::InvalidTypeInformationHeader(text), Error::InvalidTypeInformationHeader(same)) =>
+            { text == same }
+        _ => false,
+    }
+}
+
+/// Returns whether an error is that of the source `Failing`, of this kind and with its text.
+pub fn is_gone(alloc: Global, error: &Error, kind: ErrorKind) -> bool {
+    match error {
+        Error::IoError(fault) => {
+            fault.kind() == kind
+                && matches!(fault.to_string(alloc), Ok(text) if text.as_str() == GONE)
+        }
+        _ => false,
+    }
+}
+
+/// Returns whether slices begin at these places and have these sizes.
+pub fn are_slices(slices: &[SourceSlice], want: &[(u64, usize)]) -> bool {
+    for (slice, (offset, size)) in slices.iter().zip(want) {
+        if slice.offset != *offset || slice.size != *size {
+            return false;
+        }
+    }
+    slices.len() == want.len()
+}
