@@ -1,7 +1,7 @@
 //! What the tests of several crates ask of an answer.
 
 use crate::failing::GONE;
-use pdb_base::Error;
+use pdb_base::{Error, Result, Stream};
 use pdb_msf::SourceSlice;
 use std::alloc::Global;
 use std::io::ErrorKind;
@@ -52,4 +52,48 @@ pub fn are_slices(slices: &[SourceSlice], want: &[(u64, usize)]) -> bool {
         }
     }
     slices.len() == want.len()
+}
+
+/// What is answered for a stream.
+pub enum Want {
+    /// These bytes.
+    Bytes(&'static [u8]),
+    /// So many bytes of stream 1 of S1.
+    Front(usize),
+    /// This error.
+    Error(Error),
+    /// The error of a source that ends too soon.
+    SourceEnds,
+}
+
+impl Want {
+    /// Returns whether this is what is answered. Nothing is allocated.
+    pub fn fits(&self, answer: &Result<Stream>) -> bool {
+        match (self, answer) {
+            (Want::Bytes(bytes), Ok(stream)) => stream.as_slice() == *bytes,
+            (Want::Front(len), Ok(stream)) => is_front(stream.as_slice(), *len),
+            (Want::Error(want), Err(error)) => is_error(error, want),
+            (Want::SourceEnds, Err(Error::IoError(fault))) => {
+                fault.kind() == ErrorKind::UnexpectedEof
+            }
+            _ => false,
+        }
+    }
+}
+
+/// Returns whether all of these bytes are this one.
+fn are_all(bytes: &[u8], wanted: u8) -> bool {
+    for byte in bytes {
+        if *byte != wanted {
+            return false;
+        }
+    }
+    true
+}
+
+/// Returns whether these are so many bytes of stream 1 of S1, which has 512 times `a` and 88 times
+/// `b`.
+pub fn is_front(bytes: &[u8], len: usize) -> bool {
+    let (first, last) = bytes.split_at(bytes.len().min(512));
+    bytes.len() == len && len <= 600 && are_all(first, b'a') && are_all(last, b'b')
 }

@@ -11,7 +11,7 @@ mod records;
 pub mod roles;
 mod table;
 
-pub use answers::{are_slices, is_error, is_gone};
+pub use answers::{Want, are_slices, is_error, is_front, is_gone};
 pub use builder::file_of;
 pub use bytes::{pages_of, stream_of, with_bytes};
 pub use example::{STREAM_1_LINES, s1, s1_with};

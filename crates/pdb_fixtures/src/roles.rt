@@ -33,7 +33,19 @@ const TO_SOURCE: &[u8] = b"\0P\0\0\0\x10\0\0";
 const FROM_SOURCE: &[u8] = b"\0\x10\0\0\0P\0\0";
 
 /// A frame of the older format, of the four bytes of code from 0x10 on.
-pub const OLD_FRAME: &[u8] = b"\x10\0\0\0\x04\0\0\0\0\0\0\0\0\0\0\0";
+const OLD_FRAME: &[u8] = b"\x10\0\0\0\x04\0\0\0\0\0\0\0\0\0\0\0";
+
+/// A frame of the newer format, from 0x20 on.
+const NEW_FRAME: &[u8] = b"\x20\0\0\0\x04\0\0\0\0\0\0\0\0\0\0\0\0\0\0\0\0\0\0\0\0\0\0\0\0\0\0\0";
+
+/// The frames in the streams 9 and 10.
+#[derive(Clone, Copy)]
+pub enum Frames {
+    /// Stream 9 has those of the older format, and stream 10 those of the newer one.
+    Both,
+    /// Stream 9 is absent, and stream 10 has those of the older format.
+    OldAlone,
+}
 
 /// Stream 3 as far as the debug header: its header, by which that has 22 bytes and no other part
 /// has any.
@@ -56,7 +68,7 @@ pub fn debug_of(alloc: Global, roles: &[u16; 11]) -> Result<Vec<u8>>
 
 /// Returns a file of eleven streams with these roles: 1 has the names of streams, 2 a table of these
 /// types, 3 the roles, 4 the names, 5 the original section headers, 6 the section headers, 7 OMAP to
-/// source, 8 OMAP from source, and 9 and 10 these frames. Stream 2 is absent without types.
+/// source, 8 OMAP from source, and 9 and 10 frames. Stream 2 is absent without types.
 ///
 /// # Errors
 /// Returns `OutOfMemory` if an allocation fails.
@@ -64,7 +76,7 @@ pub fn file_with(
     alloc: Global,
     roles: &[u16; 11],
     types: &[&[u8]],
-    frames: [Option<&'static [u8]>; 2],
+    frames: Frames,
 ) -> Result<Vec<u8>>
     ensures memory { FailsOnlyForMemory result }
 {
@@ -75,7 +87,10 @@ pub fn file_with(
     } else {
         Some(table.as_slice())
     };
-    let [first, second] = frames;
+    let (stream_9, stream_10) = match frames {
+        Frames::Both => (Some(OLD_FRAME), Some(NEW_FRAME)),
+        Frames::OldAlone => (None, Some(OLD_FRAME)),
+    };
     let streams = [
         Some(b"".as_slice()),
         Some(INFORMATION),
@@ -86,8 +101,8 @@ pub fn file_with(
         Some(SECTIONS),
         Some(TO_SOURCE),
         Some(FROM_SOURCE),
-        first,
-        second,
+        stream_9,
+        stream_10,
     ];
     file_of(alloc, &streams)
 }

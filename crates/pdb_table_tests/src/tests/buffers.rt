@@ -1,9 +1,8 @@
 //! What a buffer reads, and its position after that.
 
-use super::shows;
-use pdb_base::{Error, ParseBuffer, RawString, Stream, SymbolIndex, Variant};
+use super::{shows, stream};
+use pdb_base::{Error, ParseBuffer, RawString, SymbolIndex, Variant};
 use std::alloc::Global;
-use std::borrow::CowStr;
 use std::fmt;
 use std::test::Fail;
 
@@ -18,10 +17,8 @@ enum Call {
     I16(Option<i16>),
     I32(Option<i32>),
     I64(Option<i64>),
-    /// A number of variable width and its text, one whose bytes end too soon, and one with this
-    /// unknown prefix.
-    Variant(Variant, &'static str),
-    CutVariant,
+    /// A number of variable width, or one with this unknown prefix.
+    Variant(Option<Variant>),
     RefusedVariant(u16),
     /// A number of variable width without a sign, or one with an unknown prefix.
     Num(Option<u64>),
@@ -86,21 +83,21 @@ const NUMBERS: &[Row] = rows! {
 
 /// Numbers of variable width, and what is read by the rule that its type says.
 const VARIANTS: &[Row] = rows! {
-    "a variant without a prefix", b"\x00\x7f", &[(Call::Variant(Variant::U16(0x7f00), "32512"), 2, 0)];
-    "a variant of one byte", b"\x00\x80\xff", &[(Call::Variant(Variant::U8(255), "255"), 3, 0)];
-    "a variant of two bytes", b"\x01\x80\xfe\xff", &[(Call::Variant(Variant::I16(-2), "-2"), 4, 0)];
-    "a variant of two bytes without a sign", b"\x02\x80\x00\x80", &[(Call::Variant(Variant::U16(0x8000), "32768"), 4, 0)];
-    "a variant of four bytes", b"\x03\x80\x00\x00\x00\x80", &[(Call::Variant(Variant::I32(-0x8000_0000), "-2147483648"), 6, 0)];
+    "a variant without a prefix", b"\x00\x7f", &[(Call::Variant(Some(Variant::U16(0x7f00))), 2, 0)];
+    "a variant of one byte", b"\x00\x80\xff", &[(Call::Variant(Some(Variant::U8(255))), 3, 0)];
+    "a variant of two bytes", b"\x01\x80\xfe\xff", &[(Call::Variant(Some(Variant::I16(-2))), 4, 0)];
+    "a variant of two bytes without a sign", b"\x02\x80\x00\x80", &[(Call::Variant(Some(Variant::U16(0x8000))), 4, 0)];
+    "a variant of four bytes", b"\x03\x80\x00\x00\x00\x80", &[(Call::Variant(Some(Variant::I32(-0x8000_0000))), 6, 0)];
     "a variant of four bytes without a sign", b"\x04\x80\xff\xff\xff\xff",
-        &[(Call::Variant(Variant::U32(0xffff_ffff), "4294967295"), 6, 0)];
-    "a variant of eight bytes", b"\x09\x80\xff\xff\xff\xff\xff\xff\xff\xff", &[(Call::Variant(Variant::I64(-1), "-1"), 10, 0)];
+        &[(Call::Variant(Some(Variant::U32(0xffff_ffff))), 6, 0)];
+    "a variant of eight bytes", b"\x09\x80\xff\xff\xff\xff\xff\xff\xff\xff", &[(Call::Variant(Some(Variant::I64(-1))), 10, 0)];
     "a variant of eight bytes without a sign", b"\x0a\x80\xff\xff\xff\xff\xff\xff\xff\xff",
-        &[(Call::Variant(Variant::U64(u64::MAX), "18446744073709551615"), 10, 0)];
+        &[(Call::Variant(Some(Variant::U64(u64::MAX))), 10, 0)];
     "a variant of another prefix", b"\x05\x80\x00\x00\x00\x00",
         &[(Call::RefusedVariant(0x8005), 0, 6), (Call::RefusedParsed(0x8005), 0, 6)];
-    "a variant of three bytes in place of four", b"\x04\x80\x01\x02\x03", &[(Call::CutVariant, 0, 5), (Call::Num(None), 0, 5)];
-    "a prefix alone", b"\x00\x80", &[(Call::CutVariant, 0, 2), (Call::Num(None), 0, 2)];
-    "half a prefix", b"\x00", &[(Call::CutVariant, 0, 1), (Call::Num(None), 0, 1)];
+    "a variant of three bytes in place of four", b"\x04\x80\x01\x02\x03", &[(Call::Variant(None), 0, 5), (Call::Num(None), 0, 5)];
+    "a prefix alone", b"\x00\x80", &[(Call::Variant(None), 0, 2), (Call::Num(None), 0, 2)];
+    "half a prefix", b"\x00", &[(Call::Variant(None), 0, 1), (Call::Num(None), 0, 1)];
     "variants one behind another", b"\x00\x80\xff\x09\x80\xff\xff\xff\xff\xff\xff\xff\xff\x05\x80",
         &[(Call::Parsed(Variant::U8(255)), 3, 12), (Call::Parsed(Variant::I64(-1)), 13, 2),
             (Call::RefusedParsed(0x8005), 13, 2)];
@@ -154,11 +151,6 @@ fn reads_text(answer: pdb_base::Result<RawString<'_>>, want: Option<&str>) -> bo
     }
 }
 
-/// Whether a number of variable width is read, and is shown so.
-fn is_variant(alloc: Global, answer: pdb_base::Result<Variant>, want: Variant, text: &str) -> bool {
-    reads(answer, Some(want)) && shows(alloc, &want, text)
-}
-
 /// Whether a number has the error of this unknown prefix.
 fn names<T: Drop>(answer: pdb_base::Result<T>, prefix: u16) -> bool {
     matches!(answer, Err(Error::UnexpectedNumericPrefix(found)) if found == prefix)
@@ -198,8 +190,7 @@ fn is_signed_answered(alloc: Global, buffer: &mut ParseBuffer<'_>, call: &Call) 
         Call::I16(want) => reads(buffer.parse_i16(), *want),
         Call::I32(want) => reads(buffer.parse_i32(), *want),
         Call::I64(want) => reads(buffer.parse_i64(), *want),
-        Call::Variant(want, text) => is_variant(alloc, buffer.parse_variant(), *want, text),
-        Call::CutVariant => ends(buffer.parse_variant()),
+        Call::Variant(want) => reads(buffer.parse_variant(), *want),
         Call::RefusedVariant(prefix) => names(buffer.parse_variant(), *prefix),
         _ => is_parsed(alloc, buffer, call),
     }
@@ -250,11 +241,10 @@ fn are_answered(
 }
 
 /// Whether each of these calls answers as it says over these bytes, and over a stream of them.
-fn is_row(alloc: Global, bytes: &[u8], calls: &[(Call, usize, usize)]) -> Result<bool, Fail> {
-    let stream = Stream::new(Vec::from_slice(alloc, &bytes[..bytes.len().min(16)])?);
+fn is_row(alloc: Global, bytes: &[u8], calls: &[(Call, usize, usize)]) -> pdb_base::Result<bool> {
+    let stream = stream(alloc, bytes)?;
     Ok(
-        stream.as_slice() == bytes
-            && are_answered(alloc, stream.parse_buffer(), calls)
+        are_answered(alloc, stream.parse_buffer(), calls)
             && are_answered(alloc, ParseBuffer::from(bytes), calls),
     )
 }
@@ -270,103 +260,34 @@ fn calls(rt: HostRuntime) -> Result<(), Fail> {
     Ok(())
 }
 
-/// How many NULs come before a text, how many bytes there are from there on, and with how many
-/// letters these begin.
-const BEFORE: &[usize] = &[0, 3, 20];
-
-const LEFT: &[usize] = &[1, 15, 16, 17, 40, 41];
-
-const LETTERS: &[usize] = &[0, 7, 15, 16, 17, 31, 40, 41];
-
-/// So many NULs, and letters and then NULs up to a length.
-fn letters(alloc: Global, before: usize, letters: usize, len: usize) -> Result<Vec<u8>, Fail> {
+/// Whether so many letters are read as a text if a NUL follows them among so many bytes, of which the
+/// first stands behind some NULs.
+fn ends_at_nul(alloc: Global, before: usize, letters: usize, len: usize) -> pdb_base::Result<bool> {
     let mut bytes = vec![in alloc; 0; before]?;
-    bytes.resize(letters.saturating_add(before).min(len), b'a')?;
-    bytes.resize(len, 0)?;
-    Ok(bytes)
-}
-
-/// Whether so many letters are read as a text, with so many bytes left behind its NUL.
-fn is_text(answer: pdb_base::Result<RawString<'_>>, letters: usize) -> bool {
-    matches!(answer, Ok(text) if text.len() == letters && !text.as_bytes().contains(&0))
-}
-
-/// Whether the letters among the `left` bytes from a place on are read as a text, if a NUL ends
-/// them.
-fn ends_at_nul(bytes: &[u8], before: usize, left: usize, letters: usize) -> bool {
-    let mut buffer = ParseBuffer::from(bytes);
+    bytes.resize(before.saturating_add(letters.min(len)), b'a')?;
+    bytes.resize(before.saturating_add(len), 0)?;
+    let mut buffer = ParseBuffer::from(bytes.as_slice());
     buffer.seek(before);
-    let answer = buffer.parse_cstring();
-    if letters < left {
-        is_text(answer, letters) && buffer.len() == left - letters - 1
+    let read = buffer.parse_cstring();
+    Ok(if letters < len {
+        matches!(read, Ok(text) if text.len() == letters) && buffer.len() == len - letters - 1
     } else {
-        ends(answer) && buffer.len() == left
-    }
-}
-
-/// Whether that is so with each count of letters.
-fn end_at_nuls(alloc: Global, before: usize, left: usize) -> Result<bool, Fail> {
-    for count in LETTERS {
-        let bytes = letters(alloc, before, *count, before.saturating_add(left))?;
-        if !ends_at_nul(&bytes, before, left, *count) {
-            return Ok(false);
-        }
-    }
-    Ok(true)
+        ends(read) && buffer.len() == len
+    })
 }
 
 #[test]
 fn ends_of_strings(rt: HostRuntime) -> Result<(), Fail> {
-    for before in BEFORE {
-        for left in LEFT {
-            assert!(rt;
-                end_at_nuls(rt.alloc(), *before, *left)?,
-                "{left} bytes behind {before}"
-            );
+    for before in [0, 3, 20] {
+        for len in [1, 15, 16, 17, 40, 41] {
+            for letters in [0, 7, 15, 16, 17, 31, 40, 41] {
+                let is_ended = ends_at_nul(rt.alloc(), before, letters, len)?;
+                assert!(rt;
+                    is_ended,
+                    "{letters} letters of {len} bytes behind {before}"
+                );
+            }
         }
     }
     Ok(())
-}
-
-/// Bytes, the text that they are, and whether it is owned, as where what is no UTF-8 is replaced.
-const RAW: &[(&[u8], &str, bool)] = &[
-    (b"f\xffo", "f\u{fffd}o", true),
-    (b"foo", "foo", false),
-    (b"ab", "ab", false),
-    (b"", "", false),
-];
-
-/// Whether a text is this one, owned or borrowed.
-fn is_lossy(alloc: Global, raw: RawString<'_>, want: &str, is_owned: bool) -> bool {
-    match raw.to_string(alloc) {
-        Ok(CowStr::Borrowed(text)) => !is_owned && text == want,
-        Ok(CowStr::Owned(text)) => is_owned && text.as_str() == want,
-        Err(_) => false,
-    }
-}
-
-/// Whether a raw string is of these bytes, and is the one that is made of the text if no byte was
-/// replaced in it.
-fn is_of(raw: RawString<'_>, bytes: &[u8], text: &str, is_owned: bool) -> bool {
-    let again: &[u8] = raw.into();
-    again == bytes
-        && raw.len() == bytes.len()
-        && raw.is_empty() == bytes.is_empty()
-        && (raw == RawString::from(text)) != is_owned
-}
-
-/// Whether these bytes are shown as this text, owned or borrowed.
-fn is_raw(alloc: Global, bytes: &[u8], text: &str, is_owned: bool) -> bool {
-    let raw = RawString::from(bytes);
-    is_of(raw, bytes, text, is_owned)
-        && is_lossy(alloc, raw, text, is_owned)
-        && shows(alloc, &raw, text)
-}
-
-#[test]
-fn raw_strings(rt: HostRuntime) {
-    for (bytes, text, is_owned) in RAW {
-        assert!(rt; is_raw(rt.alloc(), bytes, text, *is_owned), "{text}");
-    }
-    assert!(rt; RawString::default().is_empty());
 }
