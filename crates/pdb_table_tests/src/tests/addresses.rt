@@ -39,7 +39,7 @@ macro_rules! are_sums {
     ($row:ident, $address:ident, $place:ident) => {{
         let (from, more, checked, saturating, wrapping) = *$row;
         let place = $place::new(3, from);
-        $address(from).checked_add(more) == checked.map($address)
+        $address(from).checked_add(more) == checked.map(|sum| $address(sum))
             && $address(from).saturating_add(more) == $address(saturating)
             && $address(from).wrapping_add(more) == $address(wrapping)
             && place.checked_add(more) == checked.map(|sum| $place::new(3, sum))
