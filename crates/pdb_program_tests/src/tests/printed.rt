@@ -205,6 +205,7 @@ fn is_limited(alloc: Global) -> Result<bool> {
     let lines = outcome.out.strip_suffix(b"62\n".as_slice()).unwrap_or(b"");
     Ok(
         outcome.status == 0
+            && outcome.err.is_empty()
             && lines.len() == 16 * 65
             && STREAM_1_LINES.as_bytes().starts_with(lines),
     )
