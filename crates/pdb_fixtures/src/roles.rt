@@ -66,9 +66,9 @@ pub fn debug_of(alloc: Global, roles: &[u16; 11]) -> Result<Vec<u8>>
     Ok(bytes)
 }
 
-/// Returns a file of eleven streams with these roles: 1 has the names of streams, 2 a table of these
-/// types, 3 the roles, 4 the names, 5 the original section headers, 6 the section headers, 7 OMAP to
-/// source, 8 OMAP from source, and 9 and 10 frames. Stream 2 is absent without types.
+/// Returns a file of eleven streams with these roles: 1 has the names of streams, 2 a table of
+/// these types, 3 the roles, 4 the names, 5 the original section headers, 6 the section headers, 7
+/// OMAP to source, 8 OMAP from source, and 9 and 10 frames. Stream 2 is absent without types.
 ///
 /// # Errors
 /// Returns `OutOfMemory` if an allocation fails.

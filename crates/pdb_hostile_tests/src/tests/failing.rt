@@ -120,9 +120,9 @@ const TYPE_1001: Query = Query::TypeRecord {
 const LISTS: &[&[u8]] = &[b"\x01\x12\0\0\0\0", b"\x01\x12\0\0\0\0"];
 
 /// The types in stream 3 of S1, which is `hello` where there are none; the view that fails, the
-/// queries, and what each reply says. Without replies, the run fails with the error of the source. A
-/// table is read for the first query of it, by the fourth view, and no other view answers the later
-/// ones. If reading it fails, the next query of it reads it again.
+/// queries, and what each reply says. Without replies, the run fails with the error of the source.
+/// A table is read for the first query of it, by the fourth view, and no other view answers the
+/// later ones. If reading it fails, the next query of it reads it again.
 type Replied = (
     &'static [&'static [u8]],
     u64,

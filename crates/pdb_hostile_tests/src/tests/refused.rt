@@ -119,20 +119,27 @@ enum Asked {
 /// Records of types and of ids, a table of nine and a run, each with a name.
 const RECORDS: &[(&str, Asked)] = rows! {
     "a pointer", Asked::Type(b"\x0a\x00\x02\x10\x74\x00\x00\x00\x0c\x00\x01\x00", Says::Pointer);
-    "a pointer of an unknown mode", Asked::Type(b"\x0a\x00\x02\x10\x74\x00\x00\x00\xac\x00\x00\x00", Says::Unread(0x1002));
-    "an array", Asked::Type(b"\x12\x00\x03\x15\x77\x13\x00\x00\x23\x00\x00\x00\x02\x80\xbd\xda\x00\xf3\xf2\xf1", Says::Array);
+    "a pointer of an unknown mode",
+        Asked::Type(b"\x0a\x00\x02\x10\x74\x00\x00\x00\xac\x00\x00\x00", Says::Unread(0x1002));
+    "an array",
+        Asked::Type(b"\x12\x00\x03\x15\x77\x13\x00\x00\x23\x00\x00\x00\x02\x80\xbd\xda\x00\xf3\xf2\xf1", Says::Array);
     "an array with a byte behind",
         Asked::Type(b"\x13\x00\x03\x15\x77\x13\x00\x00\x23\x00\x00\x00\x02\x80\xbd\xda\x00\xf3\xf2\xf1\x41", Says::Ended);
     "an argument", Asked::Type(b"\x0a\x00\x01\x12\x01\x00\x00\x00\x74\x00\x00\x00", Says::Argument);
-    "a false count of arguments", Asked::Type(b"\x0a\x00\x01\x12\xff\xff\xff\xff\x74\x00\x00\x00", Says::Ended);
-    "a false count as a field", Asked::Type(b"\x0c\x00\x03\x12\x01\x12\xff\xff\xff\xff\x74\x00\x00\x00", Says::Ended);
+    "a false count of arguments",
+        Asked::Type(b"\x0a\x00\x01\x12\xff\xff\xff\xff\x74\x00\x00\x00", Says::Ended);
+    "a false count as a field",
+        Asked::Type(b"\x0c\x00\x03\x12\x01\x12\xff\xff\xff\xff\x74\x00\x00\x00", Says::Ended);
     "two fields",
         Asked::Type(b"\x16\x00\x03\x12\x02\x15\x03\x00\x00\x00A\x00\x02\x15\x03\x00\x01\x80\xff\xffB\x00\xf2\xf1", Says::Fields);
     "a list as a field", Asked::Type(b"\x04\x00\x03\x12\x03\x12", Says::Unread(0x1203));
-    "a continuation", Asked::Type(b"\x0a\x00\x03\x12\x04\x14\x00\x00\x34\x12\x00\x00", Says::Continued(0x1234));
+    "a continuation",
+        Asked::Type(b"\x0a\x00\x03\x12\x04\x14\x00\x00\x34\x12\x00\x00", Says::Continued(0x1234));
     "two ids", Asked::Build(b"\x0c\x00\x03\x16\x02\x00\x01\x10\x00\x00\x02\x10\x00\x00", true);
-    "two ids and padding", Asked::Build(b"\x0e\x00\x03\x16\x02\x00\x01\x10\x00\x00\x02\x10\x00\x00\xf2\xf1", true);
-    "two ids of three", Asked::Build(b"\x0c\x00\x03\x16\x03\x00\x01\x10\x00\x00\x02\x10\x00\x00", false);
+    "two ids and padding",
+        Asked::Build(b"\x0e\x00\x03\x16\x02\x00\x01\x10\x00\x00\x02\x10\x00\x00\xf2\xf1", true);
+    "two ids of three",
+        Asked::Build(b"\x0c\x00\x03\x16\x03\x00\x01\x10\x00\x00\x02\x10\x00\x00", false);
     "nine types", Asked::Nine;
     "a run", Asked::Run;
 };
@@ -140,12 +147,16 @@ const RECORDS: &[(&str, Asked)] = rows! {
 /// The calls of the program, each with a name.
 const PROGRAMS: &[(&str, Asked)] = rows! {
     "ranges", Asked::Act(MOVES, &["ranges", "3", "0", "0x1010"], 0, "0x15d44..0x15d4c\n", "");
-    "an absent stream", Asked::Act(b"hello", &["stream", "2"], 1, "", "The requested stream (2) is not stored in this file\n");
+    "an absent stream",
+        Asked::Act(b"hello", &["stream", "2"], 1, "", "The requested stream (2) is not stored in this file\n");
     "a type", Asked::Table(MODIFIER, 0x1001, &["type", "3", "0x1000"], 0, "0x1000 0x1001 -\n", "");
-    "a primitive type", Asked::Table(MODIFIER, 0x1001, &["type", "3", "0x74"], 0, "0x74 0xffff -\n", "");
-    "fields of two lists", Asked::Table(TWO_LISTS, 0x1002, &["fields", "3", "0x1001"], 0, "A\nB\n", "");
+    "a primitive type",
+        Asked::Table(MODIFIER, 0x1001, &["type", "3", "0x74"], 0, "0x74 0xffff -\n", "");
+    "fields of two lists",
+        Asked::Table(TWO_LISTS, 0x1002, &["fields", "3", "0x1001"], 0, "A\nB\n", "");
     "fields of a list", Asked::Table(TWO_LISTS, 0x1002, &["fields", "3", "0x1000"], 0, "B\n", "");
-    "no type", Asked::Table(MODIFIER, 0x1001, &["type", "3", "0x1001"], 1, "", "Type 4097 not found\n");
+    "no type",
+        Asked::Table(MODIFIER, 0x1001, &["type", "3", "0x1001"], 1, "", "Type 4097 not found\n");
     "no words", Asked::Act(b"hello", &[], 0, STREAM_1_LINES, "");
 };
 

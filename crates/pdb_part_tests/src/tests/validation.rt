@@ -84,8 +84,8 @@ const DAMAGED_RECORDS: [(usize, u8, u64, u64, Option<u64>, &str); 4] = [
     (0x1038, 0x09, 0x1000, 0x38, Some(0x1038), "IDS-RECORD-CUT"),
 ];
 
-/// Returns the small file: the directory in page 4, and each stream but 0, which is empty, in a page
-/// behind it.
+/// Returns the small file: the directory in page 4, and each stream but 0, which is empty, in a
+/// page behind it.
 fn file(rt: &impl Abort, alloc: Global) -> Vec<u8> {
     let streams = [
         Some(b"".as_slice()),

@@ -34,9 +34,9 @@ const BUILD_INFO: &[u8] = b"\x03\x16\x02\x00\x01\x10\x00\x00\x02\x10\x00\x00";
 /// An item that ends within its record.
 const CUT_CLASS: &[u8] = b"\x2a\x00\x09\x16";
 
-/// Lists of fields: B; A, and then those of 0x1000; C, and then those of 0x1001; A, and then those of
-/// itself; A, and then those of a primitive type; and a list of an empty list of methods, which has
-/// no name.
+/// Lists of fields: B; A, and then those of 0x1000; C, and then those of 0x1001; A, and then those
+/// of itself; A, and then those of a primitive type; and a list of an empty list of methods, which
+/// has no name.
 const LIST_B: &[u8] = b"\x03\x12\x02\x15\x03\x00\x01\x00B\x00\xf2\xf1";
 
 const LIST_A: &[u8] = b"\x03\x12\x02\x15\x03\x00\x00\x00A\x00\x04\x14\x00\x00\x00\x10\x00\x00";
@@ -126,7 +126,8 @@ const TABLES: &[Row] = rows! {
     Nine(0x1009, Some(2)), &["type", "3", "0x1005"], 1, "", "TypeTooShort\n";
     Records(&[BUILD_INFO]), &["id", "3", "0x1000"], 0, "0x1000 0x1603 -\n", "";
     Records(&[TEXT]), &["id", "3", "0x1000"], 0, "0x1000 0x1605 a\n", "";
-    Records(&[TEXT]), &["type", "3", "0x1000"], 1, "", "Support for types of kind 0x1605 is not implemented\n";
+    Records(&[TEXT]), &["type", "3", "0x1000"], 1, "",
+        "Support for types of kind 0x1605 is not implemented\n";
     Records(&[LIST_B, LIST_A]), &["fields", "3", "0x1001"], 0, "A\nB\n", "";
     Records(&[LIST_B, LIST_A]), &["fields", "3", "0x1000"], 0, "B\n", "";
     Records(&[LIST_B, LIST_A]), &["fields", "3", "0x74"], 1, "", PRIMITIVE;
@@ -134,10 +135,12 @@ const TABLES: &[Row] = rows! {
     Records(&[LIST_B, LIST_A, LIST_C]), &["fields", "3", "0x1002"], 0, "C\nA\nB\n", "";
     Records(&[LIST_B, OWN_LIST]), &["fields", "3", "0x1001"], 1, "", NOT_BELOW;
     Records(&[LIST_B, NO_LIST]), &["fields", "3", "0x1001"], 1, "", PRIMITIVE;
-    Records(&[LIST_B, FAULT_BEHIND]), &["fields", "3", "0x1001"], 1, "", "Support for types of kind 0x1234 is not implemented\n";
+    Records(&[LIST_B, FAULT_BEHIND]), &["fields", "3", "0x1001"], 1, "",
+        "Support for types of kind 0x1234 is not implemented\n";
     Table(FAR_LISTS, 0x1009), &["fields", "3", "0x1008"], 0, "A\nB\n", "";
     Records(&[NAMELESS]), &["fields", "3", "0x1000"], 0, "-\n", "";
-    Records(&[MODIFIER]), &["fields", "3", "0x1000"], 1, "", "Support for types of kind 0x1001 is not implemented\n";
+    Records(&[MODIFIER]), &["fields", "3", "0x1000"], 1, "",
+        "Support for types of kind 0x1001 is not implemented\n";
 };
 
 /// Names, ranges, and a type that is not there.

@@ -515,8 +515,8 @@ fn is_refused(ids: &IdFinder<'_>, index: u32) -> bool {
     matches!(ids.find(IdIndex(index)), Err(Error::TypeNotFound(bad)) if bad == index)
 }
 
-/// Whether a table has no ids: it counts none, a walk gives none, and its finder, which covers none,
-/// finds none.
+/// Whether a table has no ids: it counts none, a walk gives none, and its finder, which covers
+/// none, finds none.
 fn has_none(rt: &impl Abort, alloc: Global, empty: &IdInformation) -> bool {
     let ids = empty.finder(alloc).expect(rt, "a finder");
     let mut walk: IdIter<'_> = empty.iter();

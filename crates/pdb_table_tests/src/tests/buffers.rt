@@ -18,7 +18,7 @@ enum Call {
     I32(Option<i32>),
     I64(Option<i64>),
     /// A number of variable width, or one with this unknown prefix.
-    Variant(Option<Variant>),
+    Numeric(Option<Variant>),
     RefusedVariant(u16),
     /// A number of variable width without a sign, or one with an unknown prefix.
     Num(Option<u64>),
@@ -42,6 +42,12 @@ enum Call {
     Printed(&'static str),
 }
 
+use Call::{
+    AlignTo4, I16, I32, I64, Num, Numeric, Parsed, ParsedSymbol, PascalText, PeekU8, PeekU16,
+    Printed, RefusedNum, RefusedParsed, RefusedVariant, Seek, Take, Text, Truncate, U8, U16, U32,
+    U64,
+};
+
 /// The name of a case, its bytes, and one call after another, each with the buffer's position after
 /// it and how many bytes are left.
 type Row = (&'static str, &'static [u8], &'static [(Call, usize, usize)]);
@@ -49,80 +55,89 @@ type Row = (&'static str, &'static [u8], &'static [(Call, usize, usize)]);
 /// Numbers of so many bytes, and whole ones of variable width without a sign.
 const NUMBERS: &[Row] = rows! {
     "numbers of one byte", b"\x01\x02\x03\x04",
-        &[(Call::PeekU8(Some(1)), 0, 4), (Call::PeekU8(Some(1)), 0, 4), (Call::U8(Some(1)), 1, 3),
-            (Call::PeekU8(Some(2)), 1, 3), (Call::PeekU8(Some(2)), 1, 3), (Call::U8(Some(2)), 2, 2),
-            (Call::PeekU8(Some(3)), 2, 2), (Call::PeekU8(Some(3)), 2, 2), (Call::U8(Some(3)), 3, 1),
-            (Call::PeekU8(Some(4)), 3, 1), (Call::PeekU8(Some(4)), 3, 1), (Call::U8(Some(4)), 4, 0),
-            (Call::PeekU8(None), 4, 0), (Call::U8(None), 4, 0)];
+        &[(PeekU8(Some(1)), 0, 4), (PeekU8(Some(1)), 0, 4), (U8(Some(1)), 1, 3),
+            (PeekU8(Some(2)), 1, 3), (PeekU8(Some(2)), 1, 3), (U8(Some(2)), 2, 2),
+            (PeekU8(Some(3)), 2, 2), (PeekU8(Some(3)), 2, 2), (U8(Some(3)), 3, 1),
+            (PeekU8(Some(4)), 3, 1), (PeekU8(Some(4)), 3, 1), (U8(Some(4)), 4, 0),
+            (PeekU8(None), 4, 0), (U8(None), 4, 0)];
     "numbers of two bytes", b"\x01\x02\x03",
-        &[(Call::PeekU16(Some(0x0201)), 0, 3), (Call::PeekU16(Some(0x0201)), 0, 3), (Call::U16(Some(0x0201)), 2, 1),
-            (Call::PeekU16(None), 2, 1), (Call::U16(None), 2, 1), (Call::Take(1, Some(b"\x03")), 3, 0),
-            (Call::U16(None), 3, 0)];
+        &[(PeekU16(Some(0x0201)), 0, 3), (PeekU16(Some(0x0201)), 0, 3), (U16(Some(0x0201)), 2, 1),
+            (PeekU16(None), 2, 1), (U16(None), 2, 1), (Take(1, Some(b"\x03")), 3, 0),
+            (U16(None), 3, 0)];
     "numbers of four bytes", b"\x01\x02\x03\x04\x05\x06\x07",
-        &[(Call::U32(Some(0x0403_0201)), 4, 3), (Call::Seek(4), 4, 3), (Call::U32(None), 4, 3), (Call::Seek(5), 5, 2),
-            (Call::U32(None), 5, 2), (Call::Seek(6), 6, 1), (Call::U32(None), 6, 1), (Call::Seek(7), 7, 0),
-            (Call::U32(None), 7, 0)];
+        &[(U32(Some(0x0403_0201)), 4, 3), (Seek(4), 4, 3), (U32(None), 4, 3), (Seek(5), 5, 2),
+            (U32(None), 5, 2), (Seek(6), 6, 1), (U32(None), 6, 1), (Seek(7), 7, 0),
+            (U32(None), 7, 0)];
     "numbers of eight bytes", b"\x01\x02\x03\x04\x05\x06\x07\x08\x09\x0a\x0b\x0c\x0d\x0e\x0f",
-        &[(Call::U64(Some(0x0807_0605_0403_0201)), 8, 7), (Call::U64(None), 8, 7)];
-    "signed numbers of two bytes", b"\xfe\xff\x00", &[(Call::I16(Some(-2)), 2, 1), (Call::I16(None), 2, 1)];
+        &[(U64(Some(0x0807_0605_0403_0201)), 8, 7), (U64(None), 8, 7)];
+    "signed numbers of two bytes", b"\xfe\xff\x00", &[(I16(Some(-2)), 2, 1), (I16(None), 2, 1)];
     "signed numbers of four bytes", b"\xfe\xff\xff\xff\x05\x06\x07",
-        &[(Call::I32(Some(-2)), 4, 3), (Call::I32(None), 4, 3), (Call::U32(None), 4, 3)];
+        &[(I32(Some(-2)), 4, 3), (I32(None), 4, 3), (U32(None), 4, 3)];
     "signed numbers of eight bytes", b"\xff\xff\xff\xff\xff\xff\xff\xff\x00",
-        &[(Call::I64(Some(-1)), 8, 1), (Call::I64(None), 8, 1)];
-    "a number without a prefix", b"\xff\x7f\xff", &[(Call::Num(Some(0x7fff)), 2, 1)];
-    "a number of one byte", b"\x00\x80\xff", &[(Call::Num(Some(255)), 3, 0)];
-    "a number of two bytes", b"\x02\x80\x00\x80", &[(Call::Num(Some(0x8000)), 4, 0)];
-    "a number of four bytes", b"\x04\x80\x01\x00\x00\x80\x00", &[(Call::Num(Some(0x8000_0001)), 6, 1)];
-    "a number of eight bytes", b"\x0a\x80\xff\xff\xff\xff\xff\xff\xff\xff", &[(Call::Num(Some(u64::MAX)), 10, 0)];
-    "the prefix of a number with a sign, of two bytes", b"\x01\x80", &[(Call::RefusedNum(0x8001), 0, 2)];
-    "a number with a sign, of four bytes", b"\x03\x80\x00\x00\x00\x00", &[(Call::RefusedNum(0x8003), 0, 6)];
-    "a number of another prefix", b"\xff\xff", &[(Call::RefusedNum(0xffff), 0, 2)];
+        &[(I64(Some(-1)), 8, 1), (I64(None), 8, 1)];
+    "a number without a prefix", b"\xff\x7f\xff", &[(Num(Some(0x7fff)), 2, 1)];
+    "a number of one byte", b"\x00\x80\xff", &[(Num(Some(255)), 3, 0)];
+    "a number of two bytes", b"\x02\x80\x00\x80", &[(Num(Some(0x8000)), 4, 0)];
+    "a number of four bytes", b"\x04\x80\x01\x00\x00\x80\x00", &[(Num(Some(0x8000_0001)), 6, 1)];
+    "a number of eight bytes", b"\x0a\x80\xff\xff\xff\xff\xff\xff\xff\xff",
+        &[(Num(Some(u64::MAX)), 10, 0)];
+    "the prefix of a number with a sign, of two bytes", b"\x01\x80", &[(RefusedNum(0x8001), 0, 2)];
+    "a number with a sign, of four bytes", b"\x03\x80\x00\x00\x00\x00",
+        &[(RefusedNum(0x8003), 0, 6)];
+    "a number of another prefix", b"\xff\xff", &[(RefusedNum(0xffff), 0, 2)];
     "a number and bytes", b"\x01\x02\x03\x04ab",
-        &[(Call::U32(Some(0x0403_0201)), 4, 2), (Call::U32(None), 4, 2), (Call::Take(2, Some(b"ab")), 6, 0)];
+        &[(U32(Some(0x0403_0201)), 4, 2), (U32(None), 4, 2), (Take(2, Some(b"ab")), 6, 0)];
 };
 
 /// Numbers of variable width, and what is read by the rule that its type says.
 const VARIANTS: &[Row] = rows! {
-    "a variant without a prefix", b"\x00\x7f", &[(Call::Variant(Some(Variant::U16(0x7f00))), 2, 0)];
-    "a variant of one byte", b"\x00\x80\xff", &[(Call::Variant(Some(Variant::U8(255))), 3, 0)];
-    "a variant of two bytes", b"\x01\x80\xfe\xff", &[(Call::Variant(Some(Variant::I16(-2))), 4, 0)];
-    "a variant of two bytes without a sign", b"\x02\x80\x00\x80", &[(Call::Variant(Some(Variant::U16(0x8000))), 4, 0)];
-    "a variant of four bytes", b"\x03\x80\x00\x00\x00\x80", &[(Call::Variant(Some(Variant::I32(-0x8000_0000))), 6, 0)];
+    "a variant without a prefix", b"\x00\x7f", &[(Numeric(Some(Variant::U16(0x7f00))), 2, 0)];
+    "a variant of one byte", b"\x00\x80\xff", &[(Numeric(Some(Variant::U8(255))), 3, 0)];
+    "a variant of two bytes", b"\x01\x80\xfe\xff", &[(Numeric(Some(Variant::I16(-2))), 4, 0)];
+    "a variant of two bytes without a sign", b"\x02\x80\x00\x80",
+        &[(Numeric(Some(Variant::U16(0x8000))), 4, 0)];
+    "a variant of four bytes", b"\x03\x80\x00\x00\x00\x80",
+        &[(Numeric(Some(Variant::I32(-0x8000_0000))), 6, 0)];
     "a variant of four bytes without a sign", b"\x04\x80\xff\xff\xff\xff",
-        &[(Call::Variant(Some(Variant::U32(0xffff_ffff))), 6, 0)];
-    "a variant of eight bytes", b"\x09\x80\xff\xff\xff\xff\xff\xff\xff\xff", &[(Call::Variant(Some(Variant::I64(-1))), 10, 0)];
+        &[(Numeric(Some(Variant::U32(0xffff_ffff))), 6, 0)];
+    "a variant of eight bytes", b"\x09\x80\xff\xff\xff\xff\xff\xff\xff\xff",
+        &[(Numeric(Some(Variant::I64(-1))), 10, 0)];
     "a variant of eight bytes without a sign", b"\x0a\x80\xff\xff\xff\xff\xff\xff\xff\xff",
-        &[(Call::Variant(Some(Variant::U64(u64::MAX))), 10, 0)];
+        &[(Numeric(Some(Variant::U64(u64::MAX))), 10, 0)];
     "a variant of another prefix", b"\x05\x80\x00\x00\x00\x00",
-        &[(Call::RefusedVariant(0x8005), 0, 6), (Call::RefusedParsed(0x8005), 0, 6)];
-    "a variant of three bytes in place of four", b"\x04\x80\x01\x02\x03", &[(Call::Variant(None), 0, 5), (Call::Num(None), 0, 5)];
-    "a prefix alone", b"\x00\x80", &[(Call::Variant(None), 0, 2), (Call::Num(None), 0, 2)];
-    "half a prefix", b"\x00", &[(Call::Variant(None), 0, 1), (Call::Num(None), 0, 1)];
+        &[(RefusedVariant(0x8005), 0, 6), (RefusedParsed(0x8005), 0, 6)];
+    "a variant of three bytes in place of four", b"\x04\x80\x01\x02\x03",
+        &[(Numeric(None), 0, 5), (Num(None), 0, 5)];
+    "a prefix alone", b"\x00\x80", &[(Numeric(None), 0, 2), (Num(None), 0, 2)];
+    "half a prefix", b"\x00", &[(Numeric(None), 0, 1), (Num(None), 0, 1)];
     "variants one behind another", b"\x00\x80\xff\x09\x80\xff\xff\xff\xff\xff\xff\xff\xff\x05\x80",
-        &[(Call::Parsed(Variant::U8(255)), 3, 12), (Call::Parsed(Variant::I64(-1)), 13, 2),
-            (Call::RefusedParsed(0x8005), 13, 2)];
-    "the index of a symbol", b"\x42\x00\x00\x00", &[(Call::ParsedSymbol(SymbolIndex(0x42)), 4, 0)];
+        &[(Parsed(Variant::U8(255)), 3, 12), (Parsed(Variant::I64(-1)), 13, 2),
+            (RefusedParsed(0x8005), 13, 2)];
+    "the index of a symbol", b"\x42\x00\x00\x00", &[(ParsedSymbol(SymbolIndex(0x42)), 4, 0)];
 };
 
 /// Places, texts, and the buffer in hexadecimal.
 const PLACES: &[Row] = rows! {
-    "places", b"hello", &[(Call::Seek(5), 5, 0), (Call::Seek(2), 2, 3), (Call::Seek(10), 5, 0)];
+    "places", b"hello", &[(Seek(5), 5, 0), (Seek(2), 2, 3), (Seek(10), 5, 0)];
     "a truncation", b"\x01\x02\x03\x04\x05\x06\x07",
-        &[(Call::Seek(4), 4, 3), (Call::Truncate(8, false), 4, 3), (Call::Truncate(2, true), 2, 0)];
-    "an alignment by one byte", b"1234", &[(Call::Take(3, Some(b"123")), 3, 1), (Call::AlignTo4(true), 4, 0)];
-    "an alignment by three bytes", b"1234", &[(Call::Take(1, Some(b"1")), 1, 3), (Call::AlignTo4(true), 4, 0)];
-    "an alignment with a byte behind", b"12345", &[(Call::Take(3, Some(b"123")), 3, 2), (Call::AlignTo4(true), 4, 1)];
-    "an aligned place", b"12345", &[(Call::Take(4, Some(b"1234")), 4, 1), (Call::AlignTo4(true), 4, 1)];
-    "an alignment past the end", b"123", &[(Call::Take(3, Some(b"123")), 3, 0), (Call::AlignTo4(false), 3, 0)];
+        &[(Seek(4), 4, 3), (Truncate(8, false), 4, 3), (Truncate(2, true), 2, 0)];
+    "an alignment by one byte", b"1234", &[(Take(3, Some(b"123")), 3, 1), (AlignTo4(true), 4, 0)];
+    "an alignment by three bytes", b"1234", &[(Take(1, Some(b"1")), 1, 3), (AlignTo4(true), 4, 0)];
+    "an alignment with a byte behind", b"12345",
+        &[(Take(3, Some(b"123")), 3, 2), (AlignTo4(true), 4, 1)];
+    "an aligned place", b"12345", &[(Take(4, Some(b"1234")), 4, 1), (AlignTo4(true), 4, 1)];
+    "an alignment past the end", b"123", &[(Take(3, Some(b"123")), 3, 0), (AlignTo4(false), 3, 0)];
     "texts", b"hello\0world\0\0\x01",
-        &[(Call::Text(Some("hello")), 6, 8), (Call::Text(Some("world")), 12, 2), (Call::Text(Some("")), 13, 1),
-            (Call::Text(None), 13, 1)];
+        &[(Text(Some("hello")), 6, 8), (Text(Some("world")), 12, 2), (Text(Some("")), 13, 1),
+            (Text(None), 13, 1)];
     "texts behind their lengths", b"\x05hello\x05world\x00\x01",
-        &[(Call::PascalText(Some("hello")), 6, 8), (Call::PascalText(Some("world")), 12, 2),
-            (Call::PascalText(Some("")), 13, 1), (Call::PascalText(None), 14, 0)];
+        &[(PascalText(Some("hello")), 6, 8), (PascalText(Some("world")), 12, 2),
+            (PascalText(Some("")), 13, 1), (PascalText(None), 14, 0)];
     "in hexadecimal", b"\x01\x02\x03",
-        &[(Call::U8(Some(1)), 1, 2), (Call::Printed("ParseBuf::from(\"\\x01\\x02\\x03\").as_bytes() at offset 1"), 1, 2)];
-    "nothing in hexadecimal", b"", &[(Call::Printed("ParseBuf::from(\"\").as_bytes() at offset 0"), 0, 0)];
+        &[(U8(Some(1)), 1, 2),
+            (Printed("ParseBuf::from(\"\\x01\\x02\\x03\").as_bytes() at offset 1"), 1, 2)];
+    "nothing in hexadecimal", b"",
+        &[(Printed("ParseBuf::from(\"\").as_bytes() at offset 0"), 0, 0)];
 };
 
 /// Whether a call fails with `UnexpectedEof`.
@@ -190,7 +205,7 @@ fn is_signed_answered(alloc: Global, buffer: &mut ParseBuffer<'_>, call: &Call) 
         Call::I16(want) => reads(buffer.parse_i16(), *want),
         Call::I32(want) => reads(buffer.parse_i32(), *want),
         Call::I64(want) => reads(buffer.parse_i64(), *want),
-        Call::Variant(want) => reads(buffer.parse_variant(), *want),
+        Call::Numeric(want) => reads(buffer.parse_variant(), *want),
         Call::RefusedVariant(prefix) => names(buffer.parse_variant(), *prefix),
         _ => is_parsed(alloc, buffer, call),
     }
@@ -260,8 +275,8 @@ fn calls(rt: HostRuntime) -> Result<(), Fail> {
     Ok(())
 }
 
-/// Whether so many letters are read as a text if a NUL follows them among so many bytes, of which the
-/// first stands behind some NULs.
+/// Whether so many letters are read as a text if a NUL follows them among so many bytes, of which
+/// the first stands behind some NULs.
 fn ends_at_nul(alloc: Global, before: usize, letters: usize, len: usize) -> pdb_base::Result<bool> {
     let mut bytes = vec![in alloc; 0; before]?;
     bytes.resize(before.saturating_add(letters.min(len)), b'a')?;

@@ -1,5 +1,5 @@
-//! Searches by halving, each compared with a search that looks at all records in their order, over all
-//! small tables.
+//! Searches by halving, each compared with a search that looks at all records in their order, over
+//! all small tables.
 
 use pdb_base::{Count, FallibleIterator, Stream};
 use pdb_fixtures::stream_of;

@@ -30,14 +30,19 @@ const NAMED: &[(Error, &str)] = rows! {
 /// Errors with a number or a text, and their texts.
 const TOLD: &[(Error, &str)] = rows! {
     Error::PageReferenceOutOfRange(0), "MSF referred to page number (0) out of range";
-    Error::PageReferenceOutOfRange(0xffff_ffff), "MSF referred to page number (4294967295) out of range";
+    Error::PageReferenceOutOfRange(0xffff_ffff),
+        "MSF referred to page number (4294967295) out of range";
     Error::InvalidPageSize(768), "The MSF header specifies an invalid page size (768 bytes)";
-    Error::InvalidPageSize(0x8000_0000), "The MSF header specifies an invalid page size (2147483648 bytes)";
+    Error::InvalidPageSize(0x8000_0000),
+        "The MSF header specifies an invalid page size (2147483648 bytes)";
     Error::StreamNotFound(7), "The requested stream (7) is not stored in this file";
-    Error::StreamNotFound(0xffff_ffff), "The requested stream (4294967295) is not stored in this file";
-    Error::InvalidStreamLength("OMAP"), "OMAP stream has an invalid length or alignment for its records";
+    Error::StreamNotFound(0xffff_ffff),
+        "The requested stream (4294967295) is not stored in this file";
+    Error::InvalidStreamLength("OMAP"),
+        "OMAP stream has an invalid length or alignment for its records";
     Error::InvalidStreamLength(""), " stream has an invalid length or alignment for its records";
-    Error::UnimplementedFeature("small MSF file format"), "Unimplemented PDB feature: small MSF file format";
+    Error::UnimplementedFeature("small MSF file format"),
+        "Unimplemented PDB feature: small MSF file format";
     Error::InvalidTypeInformationHeader("header size is impossibly small"),
         "The type information header was invalid: header size is impossibly small";
     Error::TypeNotFound(0), "Type 0 not found";
@@ -60,11 +65,16 @@ const IN_HEXADECIMAL: &[(Error, &str)] = rows! {
     Error::NotACrossModuleRef(1), "Type 0x0001 is not a cross module reference";
     Error::NotACrossModuleRef(0x7fff_ffff), "Type 0x7fffffff is not a cross module reference";
     Error::CrossModuleRefNotFound(0), "Cross module reference 0x0000 not found in imports";
-    Error::CrossModuleRefNotFound(0xffff_ffff), "Cross module reference 0xffffffff not found in imports";
-    Error::UnexpectedNumericPrefix(0x8005), "Variable-length numeric parsing encountered an unexpected prefix (0x8005)";
-    Error::UnexpectedNumericPrefix(0), "Variable-length numeric parsing encountered an unexpected prefix (0x0000)";
-    Error::UnimplementedDebugSubsection(0xf1), "Debug module subsection of kind 0x00f1 is not implemented";
-    Error::UnimplementedDebugSubsection(0x12345), "Debug module subsection of kind 0x12345 is not implemented";
+    Error::CrossModuleRefNotFound(0xffff_ffff),
+        "Cross module reference 0xffffffff not found in imports";
+    Error::UnexpectedNumericPrefix(0x8005),
+        "Variable-length numeric parsing encountered an unexpected prefix (0x8005)";
+    Error::UnexpectedNumericPrefix(0),
+        "Variable-length numeric parsing encountered an unexpected prefix (0x0000)";
+    Error::UnimplementedDebugSubsection(0xf1),
+        "Debug module subsection of kind 0x00f1 is not implemented";
+    Error::UnimplementedDebugSubsection(0x12345),
+        "Debug module subsection of kind 0x12345 is not implemented";
     Error::InvalidFileChecksumOffset(0xa), "Invalid source file checksum offset 0xa";
     Error::InvalidFileChecksumOffset(0xffff_ffff), "Invalid source file checksum offset 0xffffffff";
 };
@@ -77,8 +87,8 @@ fn is_fault(alloc: Global, text: &str) -> bool {
 
 /// Numbers, and how they are shown as indexes and as addresses.
 const NUMBERS: &[(u32, &str)] = rows! {
-    0, "0x0"; 1, "0x1"; 0xa, "0xa"; 0x10, "0x10"; 0x42, "0x42"; 0x1000, "0x1000"; 0x0dec_0de5, "0xdec0de5";
-    0x7fff_ffff, "0x7fffffff"; 0x8000_0000, "0x80000000"; 0xffff_ffff, "0xffffffff";
+    0, "0x0"; 1, "0x1"; 0xa, "0xa"; 0x10, "0x10"; 0x42, "0x42"; 0x1000, "0x1000";
+    0x0dec_0de5, "0xdec0de5"; 0x7fff_ffff, "0x7fffffff"; 0x8000_0000, "0x80000000"; 0xffff_ffff, "0xffffffff";
 };
 
 /// Whether an index of each kind shows its number so.
@@ -106,9 +116,11 @@ const STREAMS: &[(u16, &str)] = rows! {
 /// Numbers of variable width, and how they are shown.
 const VARIANTS: &[(Variant, &str)] = rows! {
     Variant::U8(0), "0"; Variant::U8(255), "255"; Variant::U16(65535), "65535";
-    Variant::U32(4294967295), "4294967295"; Variant::U64(18446744073709551615), "18446744073709551615";
-    Variant::I8(127), "127"; Variant::I8(-128), "-128"; Variant::I16(-32768), "-32768"; Variant::I16(-2), "-2";
-    Variant::I32(-2147483648), "-2147483648"; Variant::I64(-1), "-1"; Variant::I64(9223372036854775807), "9223372036854775807";
+    Variant::U32(4294967295), "4294967295"; Variant::I8(127), "127"; Variant::I8(-128), "-128";
+    Variant::I16(-32768), "-32768"; Variant::I16(-2), "-2";
+    Variant::I32(-2147483648), "-2147483648"; Variant::I64(-1), "-1";
+    Variant::U64(18446744073709551615), "18446744073709551615";
+    Variant::I64(9223372036854775807), "9223372036854775807";
     Variant::I64(-9223372036854775807 - 1), "-9223372036854775808";
 };
 

@@ -126,7 +126,8 @@ const OPENED: &[(&str, &[(usize, u8)], usize, Option<Error>)] = rows! {
     "other magic", &[(0, b'm')], 4096, Some(Error::UnrecognizedFileFormat);
     "page size 768", &[(33, 3)], 4096, Some(Error::InvalidPageSize(768));
     "location page 9", &[(52, 9)], 4096, Some(Error::PageReferenceOutOfRange(9));
-    "another format", &[(0, 0x7f), (1, 0x45), (2, 0x4c), (3, 0x46)], 4, Some(Error::UnrecognizedFileFormat);
+    "another format", &[(0, 0x7f), (1, 0x45), (2, 0x4c), (3, 0x46)], 4,
+        Some(Error::UnrecognizedFileFormat);
     "all but the last byte", &[], 4095, Some(Error::UnrecognizedFileFormat);
 };
 
