@@ -173,6 +173,7 @@ fn errors_and_numbers(rt: HostRuntime) {
     for (kind, text) in KINDS {
         assert!(rt; shows(rt.alloc(), kind, text), "kind {text}");
     }
+    assert!(rt; shows(rt.alloc(), &StreamIndex::none(), "None"));
     assert!(rt; are_debugged(rt.alloc()));
 }
 
