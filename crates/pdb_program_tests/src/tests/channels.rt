@@ -166,6 +166,7 @@ const TOLD: &str = "IO error while reading PDB: the disk is gone\n";
 pub(crate) type Words = std::result::Result<&'static [&'static str], ErrorKind>;
 
 /// What is read.
+#[derive(Clone, Copy)]
 enum Source {
     /// No byte.
     Empty,
@@ -213,10 +214,10 @@ const UNREAD: &[Words] = &[
     Err(ErrorKind::InvalidData),
 ];
 
-/// The call with these words of which the input fails at a read.
-fn unread(words: Words) -> Call {
+/// Whether a call with these words prints the error of an input that fails at a read.
+fn is_unread(alloc: Global, words: &Words) -> Result<bool> {
     let input = Hundred(Some((50, DENIED)));
-    (words, input, (100, 100, ""), (100, 200, TOLD), 1)
+    is_called(alloc, &(*words, input, (100, 100, ""), (100, 200, TOLD), 1))
 }
 
 /// What the system hands over, behind the program's name.
@@ -291,7 +292,7 @@ fn calls(rt: HostRuntime) -> std::result::Result<(), Fail> {
         assert!(rt; is_called(rt.alloc(), row)?, "status {}, {}", row.4, row.3.2);
     }
     for words in UNREAD {
-        assert!(rt; is_called(rt.alloc(), &unread(*words))?, "{words:?}");
+        assert!(rt; is_unread(rt.alloc(), words)?, "{words:?}");
     }
     Ok(())
 }
