@@ -20,9 +20,5 @@ fn read_streams(alloc: Global, file: &[u8], streams: u32, mut sum: u64) -> u64 {
 /// Opens a file and reads the given number of its first streams. Sums their sizes.
 #[unsafe(no_mangle)]
 pub extern "C" fn bench_read_streams(alloc: Global, file: &[u8], streams: u32, turns: u32) -> u64 {
-    let mut sum = 0;
-    for _ in 0..turns {
-        sum = read_streams(alloc, file, streams, sum);
-    }
-    sum
+    repeated!(turns, sum => read_streams(alloc, file, streams, sum))
 }

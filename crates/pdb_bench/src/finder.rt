@@ -56,11 +56,7 @@ pub extern "C" fn bench_find(alloc: Global, stream: &[u8], indexes: &[u32], turn
     let Some(finder) = build(alloc, &table) else {
         return 0;
     };
-    let mut sum = 0;
-    for _ in 0..turns {
-        sum = find(&finder, indexes, sum);
-    }
-    sum
+    repeated!(turns, sum => find(&finder, indexes, sum))
 }
 
 /// The record of an index.

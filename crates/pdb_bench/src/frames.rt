@@ -31,9 +31,5 @@ pub extern "C" fn bench_frames(alloc: Global, stream: &[u8], addresses: &[u32], 
     let Ok(table) = FrameTable::parse(None, Some(stream)) else {
         return 0;
     };
-    let mut sum = 0;
-    for _ in 0..turns {
-        sum = find(&table, addresses, sum);
-    }
-    sum
+    repeated!(turns, sum => find(&table, addresses, sum))
 }

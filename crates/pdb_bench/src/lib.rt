@@ -6,6 +6,17 @@
 //! part of the sum is missing.
 #![tactic(auto)]
 
+/// The sum after so many turns, of which each makes the next one; the first begins with 0.
+macro_rules! repeated {
+    ($turns:ident, $sum:ident => $next:expr) => {{
+        let mut $sum = 0;
+        for _ in 0..$turns {
+            $sum = $next;
+        }
+        $sum
+    }};
+}
+
 mod files;
 mod finder;
 mod frames;

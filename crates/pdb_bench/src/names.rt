@@ -24,9 +24,5 @@ pub extern "C" fn bench_names(alloc: Global, stream: &[u8], offsets: &[u32], tur
     let Ok(names) = StringTable::parse(stream) else {
         return 0;
     };
-    let mut sum = 0;
-    for _ in 0..turns {
-        sum = get(&names, offsets, sum);
-    }
-    sum
+    repeated!(turns, sum => get(&names, offsets, sum))
 }

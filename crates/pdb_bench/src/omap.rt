@@ -29,11 +29,7 @@ pub extern "C" fn bench_omap(alloc: Global, stream: &[u8], addresses: &[u32], tu
     let Some(table) = omap_in(alloc, stream) else {
         return 0;
     };
-    let mut sum = 0;
-    for _ in 0..turns {
-        sum = look_up(&table, addresses, sum);
-    }
-    sum
+    repeated!(turns, sum => look_up(&table, addresses, sum))
 }
 
 /// Moves a range that begins at an address. Returns `sum` plus 1 and the length for each range that
@@ -62,9 +58,5 @@ pub extern "C" fn bench_ranges(alloc: Global, stream: &[u8], addresses: &[u32], 
     let Some(table) = omap_in(alloc, stream) else {
         return 0;
     };
-    let mut sum = 0;
-    for _ in 0..turns {
-        sum = move_ranges(&table, addresses, sum);
-    }
-    sum
+    repeated!(turns, sum => move_ranges(&table, addresses, sum))
 }

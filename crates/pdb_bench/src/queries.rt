@@ -50,9 +50,5 @@ pub extern "C" fn bench_queries(
     let Some(queries) = queries_of(alloc, stream, indexes) else {
         return 0;
     };
-    let mut sum = 0;
-    for _ in 0..turns {
-        sum = ask(alloc, file, &queries, sum);
-    }
-    sum
+    repeated!(turns, sum => ask(alloc, file, &queries, sum))
 }

@@ -30,11 +30,7 @@ pub extern "C" fn bench_walk(alloc: Global, stream: &[u8], turns: u32) -> u64 {
     let Some(table) = types_in(alloc, stream) else {
         return 0;
     };
-    let mut sum = 0;
-    for _ in 0..turns {
-        sum = walk(&table, sum);
-    }
-    sum
+    repeated!(turns, sum => walk(&table, sum))
 }
 
 /// Walks along a table and parses each record. Returns `sum` plus what each says.
@@ -61,11 +57,7 @@ pub extern "C" fn bench_parse(alloc: Global, stream: &[u8], turns: u32) -> u64 {
     let Some(table) = types_in(alloc, stream) else {
         return 0;
     };
-    let mut sum = 0;
-    for _ in 0..turns {
-        sum = parse(alloc, &table, sum);
-    }
-    sum
+    repeated!(turns, sum => parse(alloc, &table, sum))
 }
 
 /// Walks along a table and parses each record. Returns `sum` plus 1 for each that is read.
@@ -90,9 +82,5 @@ pub extern "C" fn bench_rows(alloc: Global, stream: &[u8], turns: u32) -> u64 {
     let Some(table) = types_in(alloc, stream) else {
         return 0;
     };
-    let mut sum = 0;
-    for _ in 0..turns {
-        sum = parse_alone(alloc, &table, sum);
-    }
-    sum
+    repeated!(turns, sum => parse_alone(alloc, &table, sum))
 }

@@ -1,4 +1,4 @@
-//! A source that fails once.
+//! A source that fails once, with an error that has a text of its own.
 
 ghost use Rattle.std.specs.Prelude.{◌≡◌, ◌==◌, IfErr, MatchBool, IsErrAnd};
 ghost use Rattle.std.specs.IoError.{error_kind};
@@ -10,6 +10,9 @@ use std::alloc::Global;
 use std::io;
 use std::io::ErrorKind;
 use std::marker::Model;
+
+/// The text of the error of a source.
+pub const GONE: &str = "the disk is gone";
 
 /// A source of bytes in memory of which one view fails, whatever it requests. Every other view is
 /// that of the bytes.
@@ -42,17 +45,9 @@ impl Failing {
         Failing::of_kind(bytes, n, ErrorKind::Other)
     }
 
-    /// Returns the source that `new` returns, except that its view fails with kind
-    /// `PermissionDenied`.
-    pub fn denying(bytes: Vec<u8>, n: u64) -> Self
-        ensures { result ≡ record { bytes = bytes.items; until = n; kind = ErrorKind.PermissionDenied; faults = 0 } }
-    {
-        Failing::of_kind(bytes, n, ErrorKind::PermissionDenied)
-    }
-
     /// Returns the source that `new` returns, except that its view fails with this kind, which must
     /// be neither `UnexpectedEof` nor `OutOfMemory`.
-    fn of_kind(bytes: Vec<u8>, n: u64, kind: ErrorKind) -> Self
+    pub fn of_kind(bytes: Vec<u8>, n: u64, kind: ErrorKind) -> Self
         requires { IsOther kind }
         ensures { result ≡ record { bytes = bytes.items; until = n; kind = kind; faults = 0 } }
     {
@@ -82,7 +77,7 @@ impl Source for Failing {
         if self.until == 1 {
             self.until = 0;
             self.faults += 1;
-            return Err(io::Error::from(self.kind));
+            return Err(io::Error::new(self.kind, GONE));
         }
         self.until = self.until.saturating_sub(1);
         self.bytes.view(alloc, slices)

@@ -50,3 +50,19 @@ pub fn table_of(alloc: Global, records: &[&[u8]]) -> Result<Vec<u8>>
     let count = records.len().min(0xffff) as u32;
     item_table(alloc, HEADER_SIZE as u32, 0x1000, 0x1000 + count, &items)
 }
+
+/// Returns so many items of two bytes, of the kinds 0x1000, 0x1001 and so on, each behind its
+/// length. The length of the one at `short`, counted from 0, is 1 in place of 2.
+///
+/// # Errors
+/// Returns `OutOfMemory` if an allocation fails.
+pub fn items_of(alloc: Global, count: u8, short: Option<u8>) -> Result<Vec<u8>>
+    ensures memory { FailsOnlyForMemory result }
+{
+    let mut items = Vec::new(alloc);
+    for place in 0..count {
+        let length = if short == Some(place) { 1 } else { 2 };
+        items.extend_from_slice(&[length, 0, place, 0x10])?;
+    }
+    Ok(items)
+}

@@ -15,7 +15,4 @@ mod identities;
 mod listings;
 mod printed;
 mod processes;
-mod rows;
-mod runs;
-mod unread;
 mod uses;

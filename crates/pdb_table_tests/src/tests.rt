@@ -12,46 +12,26 @@ macro_rules! rows {
 }
 
 mod addresses;
-mod base;
-mod equal;
+mod buffers;
 mod files;
 mod frames;
-mod fused;
 mod roles;
 mod searching;
 mod strings;
 mod texts;
 mod translation;
 
-use pdb_base::{Error, Stream};
+use pdb_base::Stream;
+use pdb_fixtures::stream_of;
 use std::alloc::Global;
-use std::test::Fail;
+use std::fmt;
 
 /// A stream of these bytes.
-///
-/// # Errors
-/// A failure if there are more than 512.
-fn stream(alloc: Global, bytes: &[u8]) -> Result<Stream, Fail> {
-    if bytes.len() > 512 {
-        return Err(Fail::new("a long stream"));
-    }
-    Ok(Stream::new(Vec::from_slice(alloc, bytes)?))
+fn stream(alloc: Global, bytes: &[u8]) -> pdb_base::Result<Stream> {
+    stream_of(Vec::from_slice(alloc, bytes)?)
 }
 
-/// Whether an error is the same as another, by its variant and what is in it. Those of sources are
-/// not among them.
-fn is_error(found: &Error, want: &Error) -> bool {
-    match (found, want) {
-        (Error::UnexpectedEof, Error::UnexpectedEof) => true,
-        (Error::UnrecognizedFileFormat, Error::UnrecognizedFileFormat) => true,
-        (Error::InvalidPageSize(size), Error::InvalidPageSize(same)) => size == same,
-        (Error::PageReferenceOutOfRange(page), Error::PageReferenceOutOfRange(same)) => {
-            page == same
-        }
-        (Error::StreamNotFound(number), Error::StreamNotFound(same)) => number == same,
-        (Error::StreamNameNotFound, Error::StreamNameNotFound) => true,
-        (Error::InvalidStreamLength(name), Error::InvalidStreamLength(same)) => name == same,
-        (Error::UnimplementedFeature(text), Error::UnimplementedFeature(same)) => text == same,
-        _ => false,
-    }
+/// Whether a value is displayed as `want`.
+fn shows<T: fmt::Display>(alloc: Global, value: &T, want: &str) -> bool {
+    matches!(format!(in alloc; "{value}"), Ok(text) if text.as_str() == want)
 }

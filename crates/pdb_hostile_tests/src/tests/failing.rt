@@ -1,50 +1,18 @@
 //! Sources of which one view fails: the call that makes this view returns the source's error, with
 //! its kind and its text, and the same call then succeeds.
 
-ghost use Rattle.pdb_fixtures.specs.Failing.{state_of};
-
-use super::rows::{ROWS, Row, edit_s1, is_front};
+use super::rows::{ROWS, Row};
 use pdb_base::{Error, Result, Stream};
 use pdb_container::{Query, Reply, run};
-use pdb_fixtures::{Failing, s1_with};
-use pdb_msf::{BigMSF, Msf, ReadView, Source, SourceSlice, open_msf};
+use pdb_fixtures::{Failing, is_front, is_gone, s1, s1_with, table_of, with_bytes};
+use pdb_msf::{BigMSF, Msf, open_msf};
 use std::alloc::Global;
-use std::io;
 use std::io::ErrorKind;
 use std::test::Fail;
-
-/// The text of each error of a source.
-const GONE: &str = "the disk is gone";
-
-/// A source whose errors have a text of their own.
-#[derive(Drop)]
-struct Gone(Failing);
-
-impl Source for Gone {
-    ghost state = { λ gone. state_of gone.0 };
-
-    fn view(&mut self, alloc: Global, slices: &[SourceSlice]) -> io::Result<ReadView> {
-        match self.0.view(alloc, slices) {
-            Ok(view) => Ok(view),
-            Err(error) => Err(io::Error::new(error.kind(), GONE)),
-        }
-    }
-}
 
 /// Whether an error is that of the source.
 fn is_fault(error: &Error) -> bool {
     matches!(error, Error::IoError(error) if error.kind() == ErrorKind::Other)
-}
-
-/// Whether an error is that of the source, of this kind and with its text.
-fn is_gone(alloc: Global, error: &Error, kind: ErrorKind) -> bool {
-    match error {
-        Error::IoError(fault) => {
-            fault.kind() == kind
-                && matches!(fault.to_string(alloc), Ok(text) if text.as_str() == GONE)
-        }
-        _ => false,
-    }
 }
 
 /// Whether a case's stream has the expected result, or None if the call returns the error of the
@@ -52,7 +20,7 @@ fn is_gone(alloc: Global, error: &Error, kind: ErrorKind) -> bool {
 fn answer_matches(row: &Row, answer: Result<Stream>) -> Option<bool> {
     match &answer {
         Err(error) if is_fault(error) => None,
-        answer => Some(row.fits(answer)),
+        answer => Some(row.3.fits(answer)),
     }
 }
 
@@ -80,7 +48,7 @@ fn is_asked_twice(alloc: Global, file: &mut BigMSF<Failing>, row: &Row, wanted: 
 /// Opens a case's file, of whose views the one of this number fails, or none if the number is 0.
 fn open_case(alloc: Global, row: &Row, n: u64) -> Result<BigMSF<Failing>> {
     let Row(edits, ..) = row;
-    open_msf(alloc, Failing::new(edit_s1(alloc, edits)?, n))
+    open_msf(alloc, Failing::new(with_bytes(s1(alloc)?, edits), n))
 }
 
 /// Whether a case has the expected result if the view of this number fails: one error of the source
@@ -132,13 +100,12 @@ impl Says {
     }
 }
 
-/// A question for stream 1.
+/// Questions for stream 1, and for types of stream 3.
 const STREAM_1: Query = Query::Stream {
     number: 1,
     limit: None,
 };
 
-/// Questions for a type of stream 3.
 const TYPE_1000: Query = Query::TypeRecord {
     stream: 3,
     index: 0x1000,
@@ -149,21 +116,25 @@ const TYPE_1001: Query = Query::TypeRecord {
     index: 0x1001,
 };
 
-/// A table of two types: lists of no arguments.
-const LISTS: &[u8] =
-    b"\0\0\0\0\x38\0\0\0\x00\x10\0\0\x02\x10\0\0\0\0\0\0\0\0\0\0\0\0\0\0\0\0\0\0\0\0\0\0\0\0\0\0\0\0\0\0\0\0\0\0\0\0\0\0\0\0\0\0\x06\0\x01\x12\0\0\0\0\x06\0\x01\x12\0\0\0\0";
+/// Two types: lists of no arguments.
+const LISTS: &[&[u8]] = &[b"\x01\x12\0\0\0\0", b"\x01\x12\0\0\0\0"];
 
-/// Stream 3 of S1, the view that fails, the queries, and what each reply says. Without replies, the
-/// run fails with the error of the source. A table is read for the first query of it, by the fourth
-/// view, and no other view answers the later ones. If reading it fails, the next query of it reads
-/// it again.
-type Replied = (&'static [u8], u64, &'static [Query], &'static [Says]);
+/// The types in stream 3 of S1, which is `hello` where there are none; the view that fails, the
+/// queries, and what each reply says. Without replies, the run fails with the error of the source.
+/// A table is read for the first query of it, by the fourth view, and no other view answers the
+/// later ones. If reading it fails, the next query of it reads it again.
+type Replied = (
+    &'static [&'static [u8]],
+    u64,
+    &'static [Query],
+    &'static [Says],
+);
 
 const RUNS: &[Replied] = rows! {
-    b"hello", 1, &[STREAM_1, STREAM_1], &[];
-    b"hello", 2, &[STREAM_1, STREAM_1], &[Says::Fault, Says::Stream];
-    b"hello", 3, &[STREAM_1, STREAM_1], &[Says::Fault, Says::Stream];
-    b"hello", 4, &[STREAM_1, STREAM_1], &[Says::Fault, Says::Stream];
+    &[], 1, &[STREAM_1, STREAM_1], &[];
+    &[], 2, &[STREAM_1, STREAM_1], &[Says::Fault, Says::Stream];
+    &[], 3, &[STREAM_1, STREAM_1], &[Says::Fault, Says::Stream];
+    &[], 4, &[STREAM_1, STREAM_1], &[Says::Fault, Says::Stream];
     LISTS, 5, &[TYPE_1001, STREAM_1, TYPE_1000], &[Says::List(0x1001), Says::Fault, Says::List(0x1000)];
     LISTS, 4, &[TYPE_1001, STREAM_1, TYPE_1000], &[Says::Fault, Says::Stream, Says::List(0x1000)];
 };
@@ -178,19 +149,27 @@ fn are_said(alloc: Global, replies: &[Reply], wanted: &[Says], kind: ErrorKind) 
     replies.len() == wanted.len()
 }
 
+/// The file of a case.
+fn file_of(alloc: Global, types: &[&[u8]]) -> Result<Vec<u8>> {
+    if types.is_empty() {
+        return s1(alloc);
+    }
+    s1_with(alloc, &table_of(alloc, types)?)
+}
+
 /// A source whose view of this number fails with this kind.
-fn failing(bytes: Vec<u8>, n: u64, kind: ErrorKind) -> Gone {
-    Gone(match kind {
-        ErrorKind::PermissionDenied => Failing::denying(bytes, n),
+fn failing(bytes: Vec<u8>, n: u64, kind: ErrorKind) -> Failing {
+    match kind {
+        ErrorKind::PermissionDenied => Failing::of_kind(bytes, n, ErrorKind::PermissionDenied),
         _ => Failing::new(bytes, n),
-    })
+    }
 }
 
 /// Whether a run over a case's file replies so, if its view of that number fails with this kind, or
 /// fails with the error of the source where no reply is wanted.
 fn is_run(alloc: Global, row: &Replied, kind: ErrorKind) -> Result<bool> {
-    let (stream, n, queries, wanted) = row;
-    let file = failing(s1_with(alloc, stream)?, *n, kind);
+    let (types, n, queries, wanted) = row;
+    let file = failing(file_of(alloc, types)?, *n, kind);
     Ok(match &run(alloc, file, queries) {
         Ok(replies) => !wanted.is_empty() && are_said(alloc, replies, wanted, kind),
         Err(error) => wanted.is_empty() && is_gone(alloc, error, kind),

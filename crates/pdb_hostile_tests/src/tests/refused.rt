@@ -4,11 +4,14 @@
 ghost use Rattle.std.specs.Prelude.{◌≡◌};
 ghost use Rattle.pdb_msf.specs.Source.{in_memory};
 
-use super::rows::{ROWS, Row, edit_s1, list_of, stream_of};
+use super::rows::{ROWS, Row};
 use pdb_base::{Error, FallibleIterator, IdIndex, Result, Stream, TypeIndex, Variant};
 use pdb_cli::{Outcome, act, read_all};
 use pdb_container::{Query, Reply, run};
-use pdb_fixtures::{STREAM_1_LINES, item_table, s1, s1_with};
+use pdb_fixtures::{
+    MOVES, STREAM_1_LINES, TWO_LISTS, are_slices, item_table, items_of, pages_of, s1, s1_with,
+    stream_of, with_bytes,
+};
 use pdb_msf::{BigMSF, Msf, ReadView, Source, SourceSlice, open_msf};
 use pdb_tpi::{IdInformation, TypeFinder, TypeInformation};
 use pdb_values::{FieldList, IdData, PointerType, TypeData};
@@ -26,14 +29,14 @@ fn is_answered_again(alloc: Global, file: &mut BigMSF<Vec<u8>>, row: &Row) -> Re
     let Row(_, number, limit, ..) = row;
     match &settled!(file.get(alloc, *number, *limit)) {
         Err(Error::OutOfMemory) => Err(Error::OutOfMemory),
-        answer => Ok(row.fits(answer)),
+        answer => Ok(row.3.fits(answer)),
     }
 }
 
 /// Opens a case's file.
 fn open_case(alloc: Global, row: &Row) -> Result<BigMSF<Vec<u8>>> {
     let Row(edits, ..) = row;
-    open_msf(alloc, edit_s1(alloc, edits)?)
+    open_msf(alloc, with_bytes(s1(alloc)?, edits))
 }
 
 /// Whether a case's file has the expected result twice. The file is opened again if opening it
@@ -63,43 +66,17 @@ const PAGES: &[(&[u32], &[(u64, usize)])] = rows! {
     &[7; 16], &[(28672, 4096); 16];
 };
 
-/// Whether slices begin at these places and have these sizes.
-fn are_slices(slices: &[SourceSlice], want: &[(u64, usize)]) -> bool {
-    slices.len() == want.len()
-        && slices.iter().zip(want).all(|(slice, (offset, size))| slice.offset == *offset
-            && slice.size == *size)
-}
-
-/// Whether pages are joined so.
-fn are_joined(alloc: Global, pages: &[u32], slices: &[(u64, usize)]) -> Result<bool> {
-    let list = list_of(alloc, pages)?;
-    Ok(are_slices(list.source_slices(), slices))
-}
-
 #[test]
 fn pages(rt: HostRuntime) -> std::result::Result<(), Fail> {
     for (pages, slices) in PAGES {
-        assert!(rt; are_joined(rt.alloc(), pages, slices)?, "{pages:?}");
+        let list = pages_of(rt.alloc(), pages)?;
+        assert!(rt; are_slices(list.source_slices(), slices), "{pages:?}");
     }
     Ok(())
 }
 
-/// Two records of moved addresses.
-const OMAP: &[u8] = b"\x00\x10\x00\x00\x00\x00\x00\x00\x08\x10\x00\x00\x44\x5d\x01\x00";
-
-/// A table of one type.
-const MODIFIER: &[u8] =
-    b"\0\0\0\0\x38\0\0\0\x00\x10\0\0\x01\x10\0\0\0\0\0\0\0\0\0\0\0\0\0\0\0\0\0\0\0\0\0\0\0\0\0\0\0\0\0\0\0\0\0\0\0\0\0\0\0\0\0\0\x0a\x00\x01\x10\x74\x00\x00\x00\x01\x00\xf2\xf1";
-
-/// A table of two lists of fields, of which the second continues in the first.
-const LISTS: &[u8] =
-    b"\0\0\0\0\x38\0\0\0\x00\x10\0\0\x02\x10\0\0\0\0\0\0\0\0\0\0\0\0\0\0\0\0\0\0\0\0\0\0\0\0\0\0\0\0\0\0\0\0\0\0\0\0\0\0\0\0\0\0\x0c\x00\x03\x12\x02\x15\x03\x00\x01\x00B\x00\xf2\xf1\x12\x00\x03\x12\x02\x15\x03\x00\x00\x00A\x00\x04\x14\x00\x00\x00\x10\x00\x00";
-
-/// Nine items of two bytes: the kinds 0x1000, 0x1001 and so on.
-const NINE: [u8; 36] = [
-    2, 0, 0, 0x10, 2, 0, 1, 0x10, 2, 0, 2, 0x10, 2, 0, 3, 0x10, 2, 0, 4, 0x10, 2, 0, 5, 0x10, 2, 0,
-    6, 0x10, 2, 0, 7, 0x10, 2, 0, 8, 0x10,
-];
+/// The one item of a table of types.
+const MODIFIER: &[u8] = b"\x0a\x00\x01\x10\x74\x00\x00\x00\x01\x00\xf2\xf1";
 
 /// What a record says.
 enum Says {
@@ -133,6 +110,8 @@ enum Asked {
     /// Stream 3 of S1, the words for the program, and its status, its output and the line of its
     /// error.
     Act(&'static [u8], &'static [&'static str], u8, &'static str, &'static str),
+    /// The same with a table of these items, up to below a maximum, as stream 3.
+    Table(&'static [u8], u32, &'static [&'static str], u8, &'static str, &'static str),
     /// An input of so many bytes, read whole.
     Input(usize),
 }
@@ -140,33 +119,44 @@ enum Asked {
 /// Records of types and of ids, a table of nine and a run, each with a name.
 const RECORDS: &[(&str, Asked)] = rows! {
     "a pointer", Asked::Type(b"\x0a\x00\x02\x10\x74\x00\x00\x00\x0c\x00\x01\x00", Says::Pointer);
-    "a pointer of an unknown mode", Asked::Type(b"\x0a\x00\x02\x10\x74\x00\x00\x00\xac\x00\x00\x00", Says::Unread(0x1002));
-    "an array", Asked::Type(b"\x12\x00\x03\x15\x77\x13\x00\x00\x23\x00\x00\x00\x02\x80\xbd\xda\x00\xf3\xf2\xf1", Says::Array);
+    "a pointer of an unknown mode",
+        Asked::Type(b"\x0a\x00\x02\x10\x74\x00\x00\x00\xac\x00\x00\x00", Says::Unread(0x1002));
+    "an array",
+        Asked::Type(b"\x12\x00\x03\x15\x77\x13\x00\x00\x23\x00\x00\x00\x02\x80\xbd\xda\x00\xf3\xf2\xf1", Says::Array);
     "an array with a byte behind",
         Asked::Type(b"\x13\x00\x03\x15\x77\x13\x00\x00\x23\x00\x00\x00\x02\x80\xbd\xda\x00\xf3\xf2\xf1\x41", Says::Ended);
     "an argument", Asked::Type(b"\x0a\x00\x01\x12\x01\x00\x00\x00\x74\x00\x00\x00", Says::Argument);
-    "a false count of arguments", Asked::Type(b"\x0a\x00\x01\x12\xff\xff\xff\xff\x74\x00\x00\x00", Says::Ended);
-    "a false count as a field", Asked::Type(b"\x0c\x00\x03\x12\x01\x12\xff\xff\xff\xff\x74\x00\x00\x00", Says::Ended);
+    "a false count of arguments",
+        Asked::Type(b"\x0a\x00\x01\x12\xff\xff\xff\xff\x74\x00\x00\x00", Says::Ended);
+    "a false count as a field",
+        Asked::Type(b"\x0c\x00\x03\x12\x01\x12\xff\xff\xff\xff\x74\x00\x00\x00", Says::Ended);
     "two fields",
         Asked::Type(b"\x16\x00\x03\x12\x02\x15\x03\x00\x00\x00A\x00\x02\x15\x03\x00\x01\x80\xff\xffB\x00\xf2\xf1", Says::Fields);
     "a list as a field", Asked::Type(b"\x04\x00\x03\x12\x03\x12", Says::Unread(0x1203));
-    "a continuation", Asked::Type(b"\x0a\x00\x03\x12\x04\x14\x00\x00\x34\x12\x00\x00", Says::Continued(0x1234));
+    "a continuation",
+        Asked::Type(b"\x0a\x00\x03\x12\x04\x14\x00\x00\x34\x12\x00\x00", Says::Continued(0x1234));
     "two ids", Asked::Build(b"\x0c\x00\x03\x16\x02\x00\x01\x10\x00\x00\x02\x10\x00\x00", true);
-    "two ids and padding", Asked::Build(b"\x0e\x00\x03\x16\x02\x00\x01\x10\x00\x00\x02\x10\x00\x00\xf2\xf1", true);
-    "two ids of three", Asked::Build(b"\x0c\x00\x03\x16\x03\x00\x01\x10\x00\x00\x02\x10\x00\x00", false);
+    "two ids and padding",
+        Asked::Build(b"\x0e\x00\x03\x16\x02\x00\x01\x10\x00\x00\x02\x10\x00\x00\xf2\xf1", true);
+    "two ids of three",
+        Asked::Build(b"\x0c\x00\x03\x16\x03\x00\x01\x10\x00\x00\x02\x10\x00\x00", false);
     "nine types", Asked::Nine;
     "a run", Asked::Run;
 };
 
 /// The calls of the program, each with a name.
 const PROGRAMS: &[(&str, Asked)] = rows! {
-    "ranges", Asked::Act(OMAP, &["ranges", "3", "0", "0x1010"], 0, "0x15d44..0x15d4c\n", "");
-    "an absent stream", Asked::Act(b"hello", &["stream", "2"], 1, "", "The requested stream (2) is not stored in this file\n");
-    "a type", Asked::Act(MODIFIER, &["type", "3", "0x1000"], 0, "0x1000 0x1001 -\n", "");
-    "a primitive type", Asked::Act(MODIFIER, &["type", "3", "0x74"], 0, "0x74 0xffff -\n", "");
-    "fields of two lists", Asked::Act(LISTS, &["fields", "3", "0x1001"], 0, "A\nB\n", "");
-    "fields of a list", Asked::Act(LISTS, &["fields", "3", "0x1000"], 0, "B\n", "");
-    "no type", Asked::Act(MODIFIER, &["type", "3", "0x1001"], 1, "", "Type 4097 not found\n");
+    "ranges", Asked::Act(MOVES, &["ranges", "3", "0", "0x1010"], 0, "0x15d44..0x15d4c\n", "");
+    "an absent stream",
+        Asked::Act(b"hello", &["stream", "2"], 1, "", "The requested stream (2) is not stored in this file\n");
+    "a type", Asked::Table(MODIFIER, 0x1001, &["type", "3", "0x1000"], 0, "0x1000 0x1001 -\n", "");
+    "a primitive type",
+        Asked::Table(MODIFIER, 0x1001, &["type", "3", "0x74"], 0, "0x74 0xffff -\n", "");
+    "fields of two lists",
+        Asked::Table(TWO_LISTS, 0x1002, &["fields", "3", "0x1001"], 0, "A\nB\n", "");
+    "fields of a list", Asked::Table(TWO_LISTS, 0x1002, &["fields", "3", "0x1000"], 0, "B\n", "");
+    "no type",
+        Asked::Table(MODIFIER, 0x1001, &["type", "3", "0x1001"], 1, "", "Type 4097 not found\n");
     "no words", Asked::Act(b"hello", &[], 0, STREAM_1_LINES, "");
 };
 
@@ -417,7 +407,8 @@ fn is_build(alloc: Global, items: &[u8], is_held: bool) -> Result<bool> {
 }
 
 fn are_nine(alloc: Global) -> Result<bool> {
-    let types = TypeInformation::parse(table_of(alloc, 0x1009, &NINE)?)?;
+    let nine = items_of(alloc, 9, None)?;
+    let types = TypeInformation::parse(table_of(alloc, 0x1009, &nine)?)?;
     is_indexed(alloc, &types)
 }
 
@@ -440,6 +431,10 @@ fn is_answered(alloc: Global, asked: &Asked) -> Result<bool> {
         Asked::Run => is_run(alloc),
         Asked::Act(stream, words, status, out, err) => {
             is_acted(alloc, stream, words, *status, out, err)
+        }
+        Asked::Table(items, maximum, words, status, out, err) => {
+            let table = item_table(alloc, 56, 0x1000, *maximum, items)?;
+            is_acted(alloc, &table, words, *status, out, err)
         }
         Asked::Input(count) => is_input(alloc, *count),
     }

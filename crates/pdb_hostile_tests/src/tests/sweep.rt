@@ -1,9 +1,9 @@
 //! All files that differ from the example file in one byte, and all its prefixes: a run over each
 //! of them ends, and replies to each query unless the file can't be opened.
 
-use pdb_base::{Error, Result};
+use pdb_base::Error;
 use pdb_container::{Query, Reply, run};
-use pdb_fixtures::s1;
+use pdb_fixtures::{s1, with_bytes};
 use std::alloc::Global;
 use std::test::Fail;
 
@@ -35,21 +35,13 @@ fn ends(alloc: Global, file: Vec<u8>) -> bool {
     }
 }
 
-/// Returns a copy of a file with another byte at a place.
-fn with_byte(alloc: Global, file: &[u8], place: usize, byte: u8) -> Result<Vec<u8>> {
-    let mut copy = Vec::from_slice(alloc, file)?;
-    if let Some(at) = copy.get_mut(place) {
-        *at = byte;
-    }
-    Ok(copy)
-}
-
 #[test]
-fn bytes_and_prefixes(rt: HostRuntime) -> std::result::Result<(), Fail> {
+fn bytes_and_prefixes(rt: HostRuntime) -> Result<(), Fail> {
     let file = s1(rt.alloc())?;
     for (place, byte) in file.iter().enumerate() {
         for other in [0, 0xff, byte.wrapping_add(1)] {
-            let changed = with_byte(rt.alloc(), &file, place, other)?;
+            let copy = Vec::from_slice(rt.alloc(), &file)?;
+            let changed = with_bytes(copy, &[(place, other)]);
             assert!(rt; ends(rt.alloc(), changed), "byte {place} is {other}");
         }
         let cut = Vec::from_slice(rt.alloc(), &file[..place.min(file.len())])?;

@@ -3,7 +3,6 @@
 
 ghost use Rattle.std.specs.Prelude.{◌≡◌};
 
-use super::rows::{edit_s1, list_of, stream_of};
 use pdb_base::{
     Count, Error, FallibleIterator, IdIndex, ParseBuffer, RawString, Result, Stream, StreamIndex,
     TypeIndex, Variant,
@@ -13,6 +12,8 @@ use pdb_container::{
     PdbInternalRva, Rva, SectionOffset, StringRef, StringTable, Type, TypeData, TypeFinder,
     TypeInformation, TypeProperties, type_data_for_primitive,
 };
+use pdb_fixtures::roles::ORIGINAL;
+use pdb_fixtures::{MOVES, STRINGS, pages_of, s1, stream_of, table_of, with_bytes};
 use pdb_msf::{BigMSF, Msf, PageList, ReadView, SourceView, open_msf};
 use std::alloc::Global;
 use std::test::Fail;
@@ -102,7 +103,7 @@ fn locate(alloc: Global, file: &mut BigMSF<Vec<u8>>) -> Result<()> {
 
 /// S1 with a directory of so many bytes.
 fn open_s1(alloc: Global, size: u8) -> Result<BigMSF<Vec<u8>>> {
-    open_msf(alloc, edit_s1(alloc, &[(DIRECTORY_SIZE, size)])?)
+    open_msf(alloc, with_bytes(s1(alloc)?, &[(DIRECTORY_SIZE, size)]))
 }
 
 /// Whether a stream has an error: the directory ends too soon for it if `is_ended`, and otherwise
@@ -139,13 +140,15 @@ fn is_located(
     Ok(!calls || is_file(alloc, file, size, refused))
 }
 
-/// A table of three types: a pointer, a list of arguments with a false count, and a structure.
-const TYPES: &[u8] =
-    b"\0\0\0\0\x38\0\0\0\x00\x10\0\0\x03\x10\0\0\0\0\0\0\0\0\0\0\0\0\0\0\0\0\0\0\0\0\0\0\0\0\0\0\0\0\0\0\0\0\0\0\0\0\0\0\0\0\0\0\x0a\0\x02\x10\x74\0\0\0\x0c\0\x01\0\x0a\0\x01\x12\xff\xff\xff\xff\x74\0\0\0\x2a\0\x09\x16\0\x02\0\0\x16\x10\0\0\0\0\0\0\0\0\0\0\x02\0\x06\0H_size\0.?AUH_size@@\0";
+/// Three types: a pointer, a list of arguments with a false count, and a structure.
+const TYPES: &[&[u8]] = &[
+    b"\x02\x10\x74\0\0\0\x0c\0\x01\0",
+    b"\x01\x12\xff\xff\xff\xff\x74\0\0\0",
+    b"\x09\x16\0\x02\0\0\x16\x10\0\0\0\0\0\0\0\0\0\0\x02\0\x06\0H_size\0.?AUH_size@@\0",
+];
 
-/// A table of two ids: a text, and what a module was built with, with a false count.
-const IDS: &[u8] =
-    b"\0\0\0\0\x38\0\0\0\x00\x10\0\0\x02\x10\0\0\0\0\0\0\0\0\0\0\0\0\0\0\0\0\0\0\0\0\0\0\0\0\0\0\0\0\0\0\0\0\0\0\0\0\0\0\0\0\0\0\x08\0\x05\x16\0\0\0\0a\0\x08\0\x03\x16\x03\0\x01\x10\0\0";
+/// Two ids: a text, and what a module was built with, with a false count.
+const IDS: &[&[u8]] = &[b"\x05\x16\0\0\0\0a\0", b"\x03\x16\x03\0\x01\x10\0\0"];
 
 /// Whether a type is the expected one: at 0x1000 the pointer, at 0x74 a primitive type, and at
 /// 0x1002 the structure.
@@ -259,17 +262,9 @@ fn are_ids_read(alloc: Global, table: &IdInformation) -> bool {
     is_id(alloc, walk.next(), 0x1000, true) && is_id(alloc, walk.next(), 0x1001, false)
 }
 
-const NAMES: &[u8] = b"\xfe\xef\xfe\xef\x01\0\0\0\x07\0\0\0\0foo\0ba\0";
-
-const OMAP: &[u8] = b"\x00\x10\0\0\0\0\0\0\x08\x10\0\0\x44\x5d\x01\0";
-
 /// Two new frames, at 0x10 and 0x30.
 const FRAMES: &[u8] =
     b"\x10\0\0\0\x08\0\0\0\0\0\0\0\0\0\0\0\0\0\0\0\0\0\0\0\0\0\0\0\0\0\0\0\x30\0\0\0\x08\0\0\0\0\0\0\0\0\0\0\0\0\0\0\0\0\0\0\0\0\0\0\0\0\0\0\0";
-
-/// A section at 0x1000 of 0x100 bytes.
-const SECTION: &[u8] =
-    b".data\0\0\0\0\x01\0\0\0\x10\0\0\0\x01\0\0\0\0\0\0\0\0\0\0\0\0\0\0\0\0\0\0\0\0\0\0\0";
 
 /// Whether a name of this length was read, or the table ends too soon for any.
 fn is_name(name: Result<RawString<'_>>, wanted: Option<usize>) -> bool {
@@ -314,7 +309,7 @@ fn are_frames(frames: &FrameTable) -> bool {
 
 /// Whether a section has the expected name, and places in it are found as expected.
 fn are_sections(sections: Vec<ImageSectionHeader>) -> bool {
-    let is_section = matches!(sections.as_slice(), [section] if section.name() == ".data");
+    let is_section = matches!(sections.as_slice(), [section] if section.name() == ".text");
     is_section && is_placed(&AddressMap::new(sections, None, None, None))
 }
 
@@ -340,6 +335,8 @@ enum Fixture {
     Section(&'static [u8]),
     /// A stream of these bytes.
     Stream(&'static [u8], Kind),
+    /// A stream that is the table of these records.
+    Table(&'static [&'static [u8]], Kind),
 }
 
 /// The fixtures, each with a name.
@@ -349,12 +346,12 @@ const FIXTURES: &[(&str, Fixture)] = rows! {
     "within page numbers", Fixture::Directory(24, &[(3, true)]);
     "a directory", Fixture::Directory(32, &[(2, false), (4, false)]);
     "pages", Fixture::Pages(&[0, 1, 4, 5, 2, 2]);
-    "a section", Fixture::Section(SECTION);
+    "a section", Fixture::Section(ORIGINAL);
     "bytes", Fixture::Stream(BYTES, Kind::Bytes);
-    "types", Fixture::Stream(TYPES, Kind::Types);
-    "ids", Fixture::Stream(IDS, Kind::Ids);
-    "names", Fixture::Stream(NAMES, Kind::Names);
-    "moved addresses", Fixture::Stream(OMAP, Kind::Moved);
+    "types", Fixture::Table(TYPES, Kind::Types);
+    "ids", Fixture::Table(IDS, Kind::Ids);
+    "names", Fixture::Stream(STRINGS, Kind::Names);
+    "moved addresses", Fixture::Stream(MOVES, Kind::Moved);
     "frames", Fixture::Stream(FRAMES, Kind::Frames);
 };
 
@@ -400,7 +397,7 @@ fn has_directory(alloc: Global, size: u8, refused: &[(u32, bool)], calls: bool) 
 }
 
 fn has_pages(alloc: Global, pages: &[u32], calls: bool) -> Result<bool> {
-    let list = list_of(alloc, pages)?;
+    let list = pages_of(alloc, pages)?;
     Ok(!calls || is_list_cut(list))
 }
 
@@ -410,9 +407,8 @@ fn has_section(alloc: Global, bytes: &[u8], calls: bool) -> Result<bool> {
     Ok(!calls || are_sections(sections))
 }
 
-fn has_stream(alloc: Global, bytes: &[u8], kind: &Kind, calls: bool) -> Result<bool> {
-    let stream = stream_of(Vec::from_slice(alloc, bytes)?)?;
-    is_stream(alloc, stream, kind, calls)
+fn has_stream(alloc: Global, bytes: Vec<u8>, kind: &Kind, calls: bool) -> Result<bool> {
+    is_stream(alloc, stream_of(bytes)?, kind, calls)
 }
 
 /// Whether a fixture can be made and has the expected results. Without `calls`, nothing is called
@@ -422,7 +418,10 @@ fn has(alloc: Global, fixture: &Fixture, calls: bool) -> Result<bool> {
         Fixture::Directory(size, refused) => has_directory(alloc, *size, refused, calls),
         Fixture::Pages(pages) => has_pages(alloc, pages, calls),
         Fixture::Section(bytes) => has_section(alloc, bytes, calls),
-        Fixture::Stream(bytes, kind) => has_stream(alloc, bytes, kind, calls),
+        Fixture::Stream(bytes, kind) => {
+            has_stream(alloc, Vec::from_slice(alloc, bytes)?, kind, calls)
+        }
+        Fixture::Table(records, kind) => has_stream(alloc, table_of(alloc, records)?, kind, calls),
     }
 }
 

@@ -1,10 +1,9 @@
 //! Calls for programs in other languages over a file of which a byte is wrong: each error is that of
 //! the first fault, and never `OutOfMemory`, since there is plenty of memory.
 
-use super::write_at;
 use pdb_base::Error;
-use pdb_fixtures::file_of;
 use pdb_fixtures::roles::{INFORMATION, NONE, debug_of};
+use pdb_fixtures::{file_of, with_bytes};
 use pdb_handles::Fault;
 use pdb_handles::file::{addresses_in, frames_in, layout_in, named_stream_in};
 use pdb_handles::information::{information_in, stream_names_in};
@@ -130,8 +129,7 @@ fn is_fault(error: &Error, status: u32, number: u32) -> bool {
 /// Whether a call fails with the error of its case.
 fn is_refused(rt: &impl Abort, alloc: Global, row: &Row) -> bool {
     let (place, byte, call, status, number) = *row;
-    let mut file = file(rt, alloc);
-    write_at(&mut file, place, byte);
+    let file = with_bytes(file(rt, alloc), &[(place, byte)]);
     match error_of(alloc, &file, call) {
         Some(error) => is_fault(&error, status, number),
         None => false,

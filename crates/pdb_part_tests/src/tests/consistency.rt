@@ -1,13 +1,12 @@
 //! Small files, tables and lists, of which each breaks one relation. The bytes are written by hand.
 
-use super::bytes_with;
 use pdb_base::{Stream, TypeIndex};
 use pdb_consistency::{
     Extent, Inconsistency, Mismatch, check_buckets, check_debug_sizes, check_hashes, check_pages,
     check_section_order, check_type_records,
 };
 use pdb_file::section_headers::section_headers;
-use pdb_fixtures::file_of;
+use pdb_fixtures::{file_of, stream_of, with_bytes};
 use pdb_tpi::{OpenTable, TypeInformation};
 use std::alloc::Global;
 use std::process::Abort;
@@ -92,20 +91,15 @@ const DAMAGES: &[Damage] = rows! {
     Buckets, 0x12, 4, 5, None, 0x26, Inconsistency::BucketsCut;
 };
 
-/// Returns a stream of these bytes, of which there are at most 512.
-fn stream(rt: &impl Abort, alloc: Global, bytes: &[u8]) -> Stream {
-    assert!(rt; bytes.len() <= 512, "a long stream");
-    Stream::new(Vec::from_slice(alloc, bytes).expect(rt, "memory"))
-}
-
-/// Returns a stream of these bytes, of which one is replaced.
-fn stream_with(rt: &impl Abort, alloc: Global, bytes: &[u8], offset: usize, byte: u8) -> Stream {
-    stream(rt, alloc, &bytes_with(rt, alloc, bytes, offset, byte))
+/// Returns a stream of these bytes, of which some are replaced.
+fn stream(rt: &impl Abort, alloc: Global, bytes: &[u8], edits: &[(usize, u8)]) -> Stream {
+    let bytes = Vec::from_slice(alloc, bytes).expect(rt, "memory");
+    stream_of(with_bytes(bytes, edits)).expect(rt, "a short stream")
 }
 
 /// Returns the table of types.
 fn types(rt: &impl Abort, alloc: Global, bytes: &[u8]) -> TypeInformation {
-    TypeInformation::parse(stream(rt, alloc, bytes)).expect(rt, "a table")
+    TypeInformation::parse(stream(rt, alloc, bytes, &[])).expect(rt, "a table")
 }
 
 /// Returns what is inconsistent between the records of a table of types.
@@ -167,7 +161,7 @@ fn is_whole(rt: &impl Abort, alloc: Global, checked: Checked) -> bool {
 /// Whether bytes of which one is replaced have the mismatch of a case alone.
 fn is_found(rt: &impl Abort, alloc: Global, row: &Damage) -> bool {
     let (checked, offset, byte, stream, index, place, what) = *row;
-    let bytes = bytes_with(rt, alloc, &checked.bytes(rt, alloc), offset, byte);
+    let bytes = with_bytes(checked.bytes(rt, alloc), &[(offset, byte)]);
     let wanted = Mismatch {
         stream: Some(stream),
         index,
@@ -202,8 +196,8 @@ fn section_mismatches(rt: &impl Abort, alloc: Global, stream: &Stream) -> Vec<Mi
 
 /// Whether the sections overlap once the first one is a byte longer, and not before.
 fn do_sections_overlap(rt: &impl Abort, alloc: Global) -> bool {
-    let whole = section_mismatches(rt, alloc, &stream(rt, alloc, SECTIONS));
-    let found = section_mismatches(rt, alloc, &stream_with(rt, alloc, SECTIONS, 8, 1));
+    let whole = section_mismatches(rt, alloc, &stream(rt, alloc, SECTIONS, &[]));
+    let found = section_mismatches(rt, alloc, &stream(rt, alloc, SECTIONS, &[(8, 1)]));
     let overlap = Inconsistency::SectionsOverlap;
     whole.is_empty()
         && matches!(found.as_slice(), [it] if it.what == overlap && it.index == Some(1))
@@ -213,7 +207,7 @@ fn do_sections_overlap(rt: &impl Abort, alloc: Global) -> bool {
 #[test]
 fn counts_and_sizes(rt: HostRuntime) {
     assert!(rt; has_few_hashes(&rt, rt.alloc()) && do_sections_overlap(&rt, rt.alloc()));
-    assert!(rt; check_debug_sizes(&stream(&rt, rt.alloc(), DEBUG)).is_none());
-    let found = check_debug_sizes(&stream_with(&rt, rt.alloc(), DEBUG, 28, 1));
+    assert!(rt; check_debug_sizes(&stream(&rt, rt.alloc(), DEBUG, &[])).is_none());
+    let found = check_debug_sizes(&stream(&rt, rt.alloc(), DEBUG, &[(28, 1)]));
     assert!(rt; matches!(found, Some(mismatch) if mismatch.what == Inconsistency::DebugSizes));
 }

@@ -1,8 +1,8 @@
 //! Types of a small table. The bytes and the answers are written by hand, from the records of
 //! Microsoft's cvinfo.h.
 
-use pdb_base::{Stream, TypeIndex};
-use pdb_fixtures::table_of;
+use pdb_base::TypeIndex;
+use pdb_fixtures::{stream_of, table_of};
 use pdb_tpi::{OpenTable, TypeInformation};
 use pdb_types::{Definitions, Gap, GapKind, Layout, LayoutField, Span};
 use std::alloc::Global;
@@ -115,11 +115,11 @@ const TYPES: &[(u32, Option<u64>, Option<u32>)] = &[
     (0x100c, None, None),
 ];
 
-/// Opens the table of these records, which has at most 4,096 bytes.
+/// Opens the table of these records.
 fn open_table(rt: &impl Abort, alloc: Global, records: &[&[u8]]) -> OpenTable<TypeIndex> {
     let bytes = table_of(alloc, records).expect(rt, "memory");
-    assert!(rt; bytes.len() <= 4096, "a long table");
-    let table = TypeInformation::parse(Stream::new(bytes)).expect(rt, "a table");
+    let stream = stream_of(bytes).expect(rt, "a short table");
+    let table = TypeInformation::parse(stream).expect(rt, "a table");
     let mut types = OpenTable::new(alloc, table).expect(rt, "an open table");
     types.learn(TypeIndex(0x1013));
     types
@@ -220,12 +220,11 @@ const LAID_OUT: &[Laid] = rows! {
 /// Whether these are the bits of some fields, in order.
 fn are_bits(fields: &[LayoutField<'_>], bits: &[(u128, u128)]) -> bool {
     for (field, (start, end)) in fields.iter().zip(bits) {
-        if field.bits()
-            != (Span {
-                start: *start,
-                end: *end,
-            })
-        {
+        let Span {
+            start: from,
+            end: to,
+        } = field.bits();
+        if (from, to) != (*start, *end) {
             return false;
         }
     }
@@ -235,11 +234,7 @@ fn are_bits(fields: &[LayoutField<'_>], bits: &[(u128, u128)]) -> bool {
 /// Whether these are some gaps, in order.
 fn are_gaps(gaps: &[Gap], wanted: &[(GapKind, u128, u128)]) -> bool {
     for (gap, (kind, start, end)) in gaps.iter().zip(wanted) {
-        let bits = Span {
-            start: *start,
-            end: *end,
-        };
-        if *gap != (Gap { kind: *kind, bits }) {
+        if gap.kind != *kind || (gap.bits.start, gap.bits.end) != (*start, *end) {
             return false;
         }
     }

@@ -1,10 +1,11 @@
 //! Channels: inputs that are slow, interrupted, failing or too long, and outputs that are slow or
-//! failing.
+//! failing. An error of a channel has a text of its own, which is printed unchanged. The input is
+//! read before the words are looked at, so that where it fails, bad words are not reported.
 
 use super::printed::ABSENT_2;
 use pdb_base::{Error, Result};
 use pdb_cli::{read_all, read_within, serve};
-use pdb_fixtures::{STREAM_1_LINES, s1};
+use pdb_fixtures::{GONE, STREAM_1_LINES, s1};
 use pdb_output::Output;
 use std::alloc::Global;
 use std::env::Args;
@@ -25,7 +26,7 @@ impl Read for Sevens {
         if let Some((bytes, kind)) = self.fault {
             if self.left <= bytes {
                 self.fault = None;
-                return Err(io::Error::from(kind));
+                return Err(io::Error::new(kind, GONE));
             }
         }
         let count = self.left.min(self.at_once).min(room.len());
@@ -134,7 +135,7 @@ impl Write for Slow {
     fn write(&mut self, bytes: &[u8]) -> io::Result<usize> {
         let count = bytes.len().min(self.at_once).min(self.room);
         if count == 0 && !bytes.is_empty() {
-            return Err(io::Error::from(ErrorKind::StorageFull));
+            return Err(io::Error::new(ErrorKind::StorageFull, GONE));
         }
         self.taken.extend_from_slice(&bytes[..count])?;
         self.room -= count;
@@ -156,12 +157,16 @@ impl Slow {
     }
 }
 
+/// How the line of an error of the system begins, and the line of one of a channel.
 const IO_ERROR: &str = "IO error while reading PDB: ";
+
+const TOLD: &str = "IO error while reading PDB: the disk is gone\n";
 
 /// What the system hands over: words, or an error.
 pub(crate) type Words = std::result::Result<&'static [&'static str], ErrorKind>;
 
 /// What is read.
+#[derive(Clone, Copy)]
 enum Source {
     /// No byte.
     Empty,
@@ -188,17 +193,32 @@ const CALLS: &[Call] = rows! {
     Ok(&["stream", "3"]), Example, (3, 100, "68656c6c6f\n"), (5, 200, ""), 0;
     Ok(&["stream", "2"]), Example, (3, 100, ""), (5, 200, ABSENT_2), 1;
     Ok(&["stream"]), Example, (3, 100, ""), (5, 200, "usage: pdbq "), 2;
-    Ok(&["stream", "3"]), Example, (3, 10, "68656c6c6f"), (5, 200, IO_ERROR), 1;
-    Ok(&["stream", "3"]), Example, (3, 0, ""), (5, 200, IO_ERROR), 1;
+    Ok(&["stream", "3"]), Example, (3, 10, "68656c6c6f"), (5, 200, TOLD), 1;
+    Ok(&["stream", "3"]), Example, (3, 0, ""), (5, 200, TOLD), 1;
     Ok(&[]), Hundred(None), (1000, 10_000, STREAM_1_LINES), (1000, 10_000, ""), 0;
+    Ok(&[]), Hundred(None), (1000, 0, ""), (1000, 200, TOLD), 1;
     Err(ErrorKind::InvalidData), Empty, (100, 100, ""), (100, 200, "usage: pdbq "), 2;
     Err(ErrorKind::OutOfMemory), Empty, (100, 100, ""), (100, 200, "OutOfMemory\n"), 1;
     Err(DENIED), Empty, (100, 100, ""), (100, 200, IO_ERROR), 1;
-    Ok(&["stream", "1"]), Hundred(Some((50, DENIED))), (100, 100, ""), (100, 200, IO_ERROR), 1;
-    Ok(&["stream"]), Hundred(Some((50, DENIED))), (100, 100, ""), (100, 200, IO_ERROR), 1;
-    Err(ErrorKind::InvalidData), Hundred(Some((50, DENIED))), (100, 100, ""), (100, 200, IO_ERROR), 1;
     Ok(&["stream"]), Empty, (100, 100, ""), (100, 0, ""), 2;
 };
+
+/// Words, good and bad, with which an input is read that fails.
+const UNREAD: &[Words] = &[
+    Ok(&["stream", "1"]),
+    Ok(&["stream"]),
+    Ok(&["streams", "3"]),
+    Ok(&["stream", "-1"]),
+    Ok(&["stream", "4294967296"]),
+    Ok(&[""]),
+    Err(ErrorKind::InvalidData),
+];
+
+/// Whether a call with these words prints the error of an input that fails at a read.
+fn is_unread(alloc: Global, words: &Words) -> Result<bool> {
+    let input = Hundred(Some((50, DENIED)));
+    is_called(alloc, &(*words, input, (100, 100, ""), (100, 200, TOLD), 1))
+}
 
 /// What the system hands over, behind the program's name.
 pub(crate) fn arguments(alloc: Global, words: &Words) -> Result<io::Result<Args>> {
@@ -214,9 +234,14 @@ pub(crate) fn arguments(alloc: Global, words: &Words) -> Result<io::Result<Args>
     Ok(Ok(call.into_iter()))
 }
 
-/// Whether a channel of errors got something that begins so, or nothing if nothing is wanted.
-fn begins(got: &[u8], wanted: &str) -> bool {
-    got.starts_with(wanted.as_bytes()) && got.is_empty() == wanted.is_empty()
+/// Whether a channel of errors got this line, or something that begins so if no whole line is
+/// wanted, or nothing if nothing is.
+fn is_told(got: &[u8], wanted: &str) -> bool {
+    if wanted.is_empty() || wanted.ends_with("\n") {
+        got == wanted.as_bytes()
+    } else {
+        got.starts_with(wanted.as_bytes())
+    }
 }
 
 /// Whether a call over an input ends, and writes, as its case says.
@@ -231,7 +256,7 @@ fn is_served<I: Read>(alloc: Global, row: &Call, input: &mut I) -> Result<bool> 
         ended == *status
             && err.has_failed() != has_room
             && out.into_inner().taken.as_slice() == wanted.as_bytes()
-            && begins(&err.into_inner().taken, told),
+            && is_told(&err.into_inner().taken, told),
     )
 }
 
@@ -265,6 +290,9 @@ fn is_called(alloc: Global, row: &Call) -> Result<bool> {
 fn calls(rt: HostRuntime) -> std::result::Result<(), Fail> {
     for row in CALLS {
         assert!(rt; is_called(rt.alloc(), row)?, "status {}, {}", row.4, row.3.2);
+    }
+    for words in UNREAD {
+        assert!(rt; is_unread(rt.alloc(), words)?, "{words:?}");
     }
     Ok(())
 }

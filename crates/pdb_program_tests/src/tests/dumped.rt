@@ -1,7 +1,7 @@
 //! What is listed of small files, case by case: S1 with other bytes as its stream 3.
 
 use pdb_container::Result;
-use pdb_fixtures::s1_with;
+use pdb_fixtures::{s1, s1_with, with_bytes};
 use pdb_output::Output;
 use pdbdump_cli::{Call, Command, Task, any_is, call_of, list, plain_words};
 use pdbdump_rows::Form;
@@ -39,6 +39,14 @@ const NAMES: &[u8] = b"\xfe\xef\xfe\xef\x01\0\0\0\x05\0\0\0\0a\"\0b";
 /// parameters.
 const FRAME: &[u8] = b"\0\x10\0\0\x10\0\0\0\x01\0\0\0\x02\0\x05\x13";
 
+/// A section header with an alignment.
+const ALIGNED: &[u8] =
+    b".text\0\0\0\x0a\0\0\0\0\x10\0\0\0\x02\0\0\0\x04\0\0\0\0\0\0\0\0\0\0\0\0\0\0\x20\0\x50\x60";
+
+/// A record of the newer frame format.
+const NEW_FRAME: &[u8] =
+    b"\0\x10\0\0\x10\0\0\0\x08\0\0\0\x04\0\0\0\0\0\0\0\x20\0\0\0\x03\0\0\0\x06\0\0\0";
+
 /// What is written of the sections of S1 with a header as its stream 3.
 const SECTION_LINE: &str =
     "1 .text virtual_address=0x1000 virtual_size=133 pointer_to_raw_data=0x400 size_of_raw_data=512 \
@@ -53,6 +61,16 @@ const LISTED: &[Listed] = rows! {
         table=4 error=The requested stream (4) is not stored in this file\n",
         "";
     &["sections", "--stream", "3", "small.pdb"], SECTION, SECTION_LINE, "UnexpectedEof";
+    &["sections", "--stream", "3", "small.pdb"], ALIGNED,
+        "1 .text virtual_address=0x1000 virtual_size=10 pointer_to_raw_data=0x400 size_of_raw_data=512 \
+        pointer_to_relocations=0x0 number_of_relocations=0 pointer_to_line_numbers=0x0 number_of_line_numbers=0 \
+        characteristics=[executable,execute,read] alignment=16\n",
+        "";
+    &["sections", "--stream", "3", "small.pdb", "--json"], ALIGNED,
+        "{\"number\":1,\"name\":\".text\",\"virtual_address\":4096,\"virtual_size\":10,\"pointer_to_raw_data\":1024,\
+        \"size_of_raw_data\":512,\"pointer_to_relocations\":0,\"number_of_relocations\":0,\"pointer_to_line_numbers\":0,\
+        \"number_of_line_numbers\":0,\"characteristics\":[\"executable\",\"execute\",\"read\"],\"alignment\":16}\n",
+        "";
     &["omap", "small.pdb", "--stream", "3"], OMAP,
         "source_address=0x2000 target_address=0x1000\nsource_address=0x1000 target_address=0x0\nis_sorted=false\n", "";
     &["omap", "--stream", "0x3", "--json", "small.pdb"], b"\0\x20\0\0\0\x10\0\0",
@@ -65,6 +83,15 @@ const LISTED: &[Listed] = rows! {
     &["frames", "--old", "3", "small.pdb"], FRAME,
         "code_start=0x1000 code_size=16 locals_size=4 params_size=8 prolog_size=5 saved_regs_size=12 ty=fpo \
         has_structured_eh=false has_cpp_eh=false is_function_start=false uses_base_pointer=true\n",
+        "";
+    &["frames", "--new", "3", "small.pdb"], NEW_FRAME,
+        "code_start=0x1000 code_size=16 locals_size=8 params_size=4 prolog_size=3 saved_regs_size=0 max_stack_size=0 ty=fdata \
+        has_structured_eh=false has_cpp_eh=true is_function_start=true uses_base_pointer=false program=0x20\n",
+        "";
+    &["frames", "--new", "3", "small.pdb", "--json"], NEW_FRAME,
+        "{\"code_start\":4096,\"code_size\":16,\"locals_size\":8,\"params_size\":4,\"prolog_size\":3,\"saved_regs_size\":0,\
+        \"max_stack_size\":0,\"ty\":\"fdata\",\"has_structured_eh\":false,\"has_cpp_eh\":true,\"is_function_start\":true,\
+        \"uses_base_pointer\":false,\"program\":32}\n",
         "";
     &["frames", "small.pdb"], FRAME, "", "Unimplemented PDB feature: ancient DBI header";
     &["frames", "--new", "2", "small.pdb"], FRAME, "", "The requested stream (2) is not stored in this file";
@@ -136,10 +163,7 @@ const NO_DIRECTORY: &str =
 
 /// Whether the summary of S1 says that its directory can't be read.
 fn is_directory_told(alloc: Global) -> Result<bool> {
-    let mut file = s1_with(alloc, b"hello")?;
-    if let Some(at) = file.get_mut(PAGE_OF_DIRECTORY) {
-        *at = 9;
-    }
+    let file = with_bytes(s1(alloc)?, &[(PAGE_OF_DIRECTORY, 9)]);
     let mut out = Output::new(Vec::new(alloc));
     list(alloc, file, Command::Summary, Form::Text, &mut out)?;
     Ok(out.into_inner().as_slice() == NO_DIRECTORY.as_bytes())

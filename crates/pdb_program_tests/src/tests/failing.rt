@@ -1,7 +1,7 @@
 //! Outputs and inputs that fail at each of their calls in turn.
 
 use super::channels::arguments;
-use super::uses::file::build_file;
+use super::uses::build_file;
 use pdb_base::Result;
 use pdb_output::Output;
 use pdbdump_cli::{

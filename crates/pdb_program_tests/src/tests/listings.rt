@@ -1,7 +1,7 @@
 //! Tables as lines, and records in full. Each expected text is written from the definitions.
 
 use pdb_base::{Error, Result, Stream};
-use pdb_fixtures::table_of;
+use pdb_fixtures::{stream_of, table_of};
 use pdb_output::Output;
 use pdbdump_rows::Form;
 use pdbdump_tables::{id_at, ids, type_at, types};
@@ -142,6 +142,30 @@ const SHORT: &[&[u8]] = &[&[1, 0x10, 0, 0x10, 0, 0, 3, 0], &[7]];
 /// The line of the first.
 const MODIFIER: &str = "0x1000 LF_MODIFIER underlying_type=0x1000 modifiers=[constant,volatile]\n";
 
+/// A structure whose name has a line feed and quotes, and whose list of fields is not there.
+const ESCAPED: &[&[u8]] = &[
+    b"\x05\x15\x01\0\x80\x02\x01\x10\0\0\0\0\0\0\0\0\0\0\x04\0S\n\"x\"\0.?AUS@@\0",
+];
+
+/// That structure as a line of text, as a line of JSON, and in full.
+const ESCAPED_LINE: &str =
+    r#"0x1000 LF_STRUCTURE S\n"x" count=1 properties=[forward_reference,has_unique_name] fields=0x1001 size=4 unique_name=.?AUS@@
+"#;
+
+const ESCAPED_OBJECT: &str =
+    r#"{"index":4096,"kind":"LF_STRUCTURE","name":"S\n\"x\"","count":1,"properties":["forward_reference","has_unique_name"],"fields":4097,"size":4,"unique_name":".?AUS@@"}
+"#;
+
+const ESCAPED_IN_FULL: &str = r#"index: 0x1000
+kind: LF_STRUCTURE
+name: S\n"x"
+count: 1
+properties: [forward_reference,has_unique_name]
+fields: 0x1001
+size: 4
+unique_name: .?AUS@@
+"#;
+
 /// A query of a table of these records.
 enum Asked {
     /// The lines of all types.
@@ -175,21 +199,15 @@ const LISTED: &[Listed] = rows! {
     TYPES, Asked::Type(0x100a), Form::Text, METHODS, End::Whole;
     TYPES, Asked::Type(0x674), Form::Text, PRIMITIVE, End::Whole;
     IDS, Asked::Id(0x1004), Form::Text, TEXT, End::Whole;
+    ESCAPED, Asked::Types, Form::Text, ESCAPED_LINE, End::Whole;
+    ESCAPED, Asked::Types, Form::Json, ESCAPED_OBJECT, End::Whole;
+    ESCAPED, Asked::Type(0x1000), Form::Text, ESCAPED_IN_FULL, End::Refused;
     SHORT, Asked::Types, Form::Text, MODIFIER, End::TooShort;
     TYPES, Asked::Type(0x1001), Form::Json, UNION, End::Refused;
     TYPES, Asked::Type(0x100f), Form::Text, CUT_STRUCTURE, End::Refused;
     IDS, Asked::Id(0x1007), Form::Json, NO_ID, End::Refused;
     TYPES, Asked::Type(0xfff), Form::Text, "", End::Refused;
 };
-
-/// The stream of a table of these records.
-fn stream_of(alloc: Global, records: &[&[u8]]) -> Result<Stream> {
-    let bytes = table_of(alloc, records)?;
-    if bytes.len() >= 0xffff_ffff {
-        return Err(Error::UnimplementedFeature("a long table"));
-    }
-    Ok(Stream::new(bytes))
-}
 
 /// Writes the answer to a query.
 fn write(
@@ -220,7 +238,7 @@ fn ends(answer: Result<()>, end: &End) -> bool {
 /// Whether what is written, and how it ends, is as the case says.
 fn is_listed(alloc: Global, row: &Listed) -> Result<bool> {
     let (records, asked, form, wanted, end) = row;
-    let stream = stream_of(alloc, records)?;
+    let stream = stream_of(table_of(alloc, records)?)?;
     let mut out = Output::new(Vec::new(alloc));
     let is_ended = ends(write(alloc, stream, asked, *form, &mut out), end);
     Ok(is_ended && out.into_inner().as_slice() == wanted.as_bytes())

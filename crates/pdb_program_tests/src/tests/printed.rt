@@ -2,7 +2,10 @@
 
 use pdb_base::Result;
 use pdb_cli::{Outcome, act};
-use pdb_fixtures::{STREAM_1_LINES, item_table, s1, s1_with};
+use pdb_fixtures::{
+    FAR_LISTS, MOVES, STREAM_1_LINES, STRINGS, item_table, items_of, s1, s1_with, table_of,
+    with_bytes,
+};
 use std::alloc::Global;
 use std::test::Fail;
 
@@ -18,82 +21,43 @@ const NO_OMAP: &str = "OMAP stream has an invalid length or alignment for its re
 /// How the line of an error of the source begins. The system's own text follows it.
 const IO_ERROR: &str = "IO error while reading PDB: ";
 
-/// The lines of the first 513 bytes of stream 1.
-const LIMITED: &str = "\
-6161616161616161616161616161616161616161616161616161616161616161\n\
-6161616161616161616161616161616161616161616161616161616161616161\n\
-6161616161616161616161616161616161616161616161616161616161616161\n\
-6161616161616161616161616161616161616161616161616161616161616161\n\
-6161616161616161616161616161616161616161616161616161616161616161\n\
-6161616161616161616161616161616161616161616161616161616161616161\n\
-6161616161616161616161616161616161616161616161616161616161616161\n\
-6161616161616161616161616161616161616161616161616161616161616161\n\
-6161616161616161616161616161616161616161616161616161616161616161\n\
-6161616161616161616161616161616161616161616161616161616161616161\n\
-6161616161616161616161616161616161616161616161616161616161616161\n\
-6161616161616161616161616161616161616161616161616161616161616161\n\
-6161616161616161616161616161616161616161616161616161616161616161\n\
-6161616161616161616161616161616161616161616161616161616161616161\n\
-6161616161616161616161616161616161616161616161616161616161616161\n\
-6161616161616161616161616161616161616161616161616161616161616161\n\
-62\n";
-
-const MODIFIER: &[u8] = b"\x0a\x00\x01\x10\x74\x00\x00\x00\x01\x00\xf2\xf1";
+/// Records: a modifier, a class, a text, and what a module was built with.
+const MODIFIER: &[u8] = b"\x01\x10\x74\x00\x00\x00\x01\x00\xf2\xf1";
 
 const CLASS: &[u8] =
-    b"\x2a\x00\x09\x16\x00\x02\x00\x00\x16\x10\x00\x00\x00\x00\x00\x00\x00\x00\x00\x00\x02\x00\x06\x00H_size\x00.?AUH_size@@\x00";
+    b"\x09\x16\x00\x02\x00\x00\x16\x10\x00\x00\x00\x00\x00\x00\x00\x00\x00\x00\x02\x00\x06\x00H_size\x00.?AUH_size@@\x00";
 
+const TEXT: &[u8] = b"\x05\x16\x00\x00\x00\x00a\x00";
+
+const BUILD_INFO: &[u8] = b"\x03\x16\x02\x00\x01\x10\x00\x00\x02\x10\x00\x00";
+
+/// An item that ends within its record.
 const CUT_CLASS: &[u8] = b"\x2a\x00\x09\x16";
 
-const TEXT: &[u8] = b"\x08\x00\x05\x16\x00\x00\x00\x00a\x00";
+/// Lists of fields: B; A, and then those of 0x1000; C, and then those of 0x1001; A, and then those
+/// of itself; A, and then those of a primitive type; and a list of an empty list of methods, which
+/// has no name.
+const LIST_B: &[u8] = b"\x03\x12\x02\x15\x03\x00\x01\x00B\x00\xf2\xf1";
 
-const BUILD_INFO: &[u8] = b"\x0c\x00\x03\x16\x02\x00\x01\x10\x00\x00\x02\x10\x00\x00";
+const LIST_A: &[u8] = b"\x03\x12\x02\x15\x03\x00\x00\x00A\x00\x04\x14\x00\x00\x00\x10\x00\x00";
 
-/// Nine items of two bytes.
-const SHORT: &[u8] =
-    b"\x02\x00\x01\x10\x02\x00\x01\x10\x02\x00\x01\x10\x02\x00\x01\x10\x02\x00\x01\x10\x02\x00\x01\x10\x02\x00\x01\x10\x02\x00\x01\x10\x02\x00\x01\x10";
+const LIST_C: &[u8] = b"\x03\x12\x02\x15\x03\x00\x02\x00C\x00\x04\x14\x00\x00\x01\x10\x00\x00";
 
-/// Nine items of two bytes, of which the third has a length of 1.
-const SHORT_LENGTH: &[u8] =
-    b"\x02\x00\x01\x10\x02\x00\x01\x10\x01\x00\x01\x10\x02\x00\x01\x10\x02\x00\x01\x10\x02\x00\x01\x10\x02\x00\x01\x10\x02\x00\x01\x10\x02\x00\x01\x10";
+const OWN_LIST: &[u8] = b"\x03\x12\x02\x15\x03\x00\x00\x00A\x00\x04\x14\x00\x00\x01\x10\x00\x00";
 
-/// A list of the field B, and one of the field A that continues in the list 0x1000.
-const LISTS: &[u8] =
-    b"\x0c\x00\x03\x12\x02\x15\x03\x00\x01\x00B\x00\xf2\xf1\x12\x00\x03\x12\x02\x15\x03\x00\x00\x00A\x00\x04\x14\x00\x00\x00\x10\x00\x00";
+const NO_LIST: &[u8] = b"\x03\x12\x02\x15\x03\x00\x00\x00A\x00\x04\x14\x00\x00\xff\x0f\x00\x00";
 
-/// The two lists, and after them a list of the field C that continues in the list 0x1001.
-const THREE_LISTS: &[u8] =
-    b"\x0c\x00\x03\x12\x02\x15\x03\x00\x01\x00B\x00\xf2\xf1\x12\x00\x03\x12\x02\x15\x03\x00\x00\x00A\x00\x04\x14\x00\x00\x00\x10\x00\x00\x12\x00\x03\x12\x02\x15\x03\x00\x02\x00C\x00\x04\x14\x00\x00\x01\x10\x00\x00";
+const NAMELESS: &[u8] = b"\x03\x12\x06\x12";
 
-/// The two lists, where the second continues in itself.
-const OWN_LIST: &[u8] =
-    b"\x0c\x00\x03\x12\x02\x15\x03\x00\x01\x00B\x00\xf2\xf1\x12\x00\x03\x12\x02\x15\x03\x00\x00\x00A\x00\x04\x14\x00\x00\x01\x10\x00\x00";
-
-/// The two lists, where the second continues in a primitive type.
-const NO_LIST: &[u8] =
-    b"\x0c\x00\x03\x12\x02\x15\x03\x00\x01\x00B\x00\xf2\xf1\x12\x00\x03\x12\x02\x15\x03\x00\x00\x00A\x00\x04\x14\x00\x00\xff\x0f\x00\x00";
-
-/// The two lists, with an entry after the continuation of the second whose record kind is not read.
+/// The list of A with an entry after its continuation whose record kind is not read.
 const FAULT_BEHIND: &[u8] =
-    b"\x0c\x00\x03\x12\x02\x15\x03\x00\x01\x00B\x00\xf2\xf1\x14\x00\x03\x12\x02\x15\x03\x00\x00\x00A\x00\x04\x14\x00\x00\x00\x10\x00\x00\x34\x12";
-
-/// The list of B, seven empty lists, and in another block of the table one of A that continues in
-/// the first.
-const FAR_LISTS: &[u8] =
-    b"\x0c\x00\x03\x12\x02\x15\x03\x00\x01\x00B\x00\xf2\xf1\x02\x00\x03\x12\x02\x00\x03\x12\x02\x00\x03\x12\x02\x00\x03\x12\x02\x00\x03\x12\x02\x00\x03\x12\x02\x00\x03\x12\x12\x00\x03\x12\x02\x15\x03\x00\x00\x00A\x00\x04\x14\x00\x00\x00\x10\x00\x00";
-
-/// A list of an empty list of methods, which has no name.
-const NAMELESS: &[u8] = b"\x04\x00\x03\x12\x06\x12";
+    b"\x03\x12\x02\x15\x03\x00\x00\x00A\x00\x04\x14\x00\x00\x00\x10\x00\x00\x34\x12";
 
 const NOT_BELOW: &str = "Unimplemented PDB feature: field list continuation not below its list\n";
 
 const PRIMITIVE: &str = "Support for types of kind 0xffff is not implemented\n";
 
-const NAMES: &[u8] = b"\xfe\xef\xfe\xef\x01\x00\x00\x00\x07\x00\x00\x00\x00foo\x00ba\x00";
-
 const BROKEN: &[u8] = b"\xfe\xef\xfe\xef\x01\x00\x00\x00\x04\x00\x00\x00f\xffo\x00";
-
-const OMAP: &[u8] = b"\x00\x10\x00\x00\x00\x00\x00\x00\x08\x10\x00\x00\x44\x5d\x01\x00";
 
 /// A table of two types, whose least index and maximum are 0xffffffff.
 const LAST: &[u8] =
@@ -107,11 +71,16 @@ enum File {
     Cut,
     /// S1 with these bytes as its stream 3.
     With(&'static [u8]),
+    /// S1 with a table of these records as its stream 3, from index 0x1000 on.
+    Records(&'static [&'static [u8]]),
     /// S1 with a table of these items as its stream 3, from index 0x1000 up to below a maximum.
     Table(&'static [u8], u32),
+    /// S1 with a table of nine items of two bytes as its stream 3, up to below a maximum, of which
+    /// one may be too short.
+    Nine(u32, Option<u8>),
 }
 
-use File::{Cut, Example, Table, With};
+use File::{Cut, Example, Nine, Records, Table, With};
 
 /// A file and the words for it; and the answer: the status and both outputs.
 type Row = (
@@ -143,44 +112,46 @@ const STREAMS: &[Row] = rows! {
     Example, &[], 0, STREAM_1_LINES, "";
     Example, &["stream", "1"], 0, STREAM_1_LINES, "";
     Example, &["stream", "0x00000001", "0xFFFFFFFF"], 0, STREAM_1_LINES, "";
-    Example, &["stream", "1", "513"], 0, LIMITED, "";
 };
 
 /// Types, ids, and fields of lists.
 const TABLES: &[Row] = rows! {
-    Table(MODIFIER, 0x1001), &["type", "3", "0x1000"], 0, "0x1000 0x1001 -\n", "";
-    Table(MODIFIER, 0x1001), &["type", "3", "0x74"], 0, "0x74 0xffff -\n", "";
-    Table(MODIFIER, 0x1001), &["type", "3", "0x1001"], 1, "", "Type 4097 not found\n";
-    Table(MODIFIER, 0x1001), &["type", "2", "0x1001"], 1, "", ABSENT_2;
-    Table(CLASS, 0x1001), &["type", "3", "4096"], 0, "0x1000 0x1609 H_size\n", "";
+    Records(&[MODIFIER]), &["type", "3", "0x1000"], 0, "0x1000 0x1001 -\n", "";
+    Records(&[MODIFIER]), &["type", "3", "0x74"], 0, "0x74 0xffff -\n", "";
+    Records(&[MODIFIER]), &["type", "3", "0x1001"], 1, "", "Type 4097 not found\n";
+    Records(&[MODIFIER]), &["type", "2", "0x1001"], 1, "", ABSENT_2;
+    Records(&[CLASS]), &["type", "3", "4096"], 0, "0x1000 0x1609 H_size\n", "";
     Table(CUT_CLASS, 0x1001), &["type", "3", "0x1000"], 1, "", "UnexpectedEof\n";
-    Table(SHORT, 0x2000), &["type", "3", "0x1500"], 1, "", "UnexpectedEof\n";
-    Table(SHORT_LENGTH, 0x1009), &["type", "3", "0x1005"], 1, "", "TypeTooShort\n";
-    Table(BUILD_INFO, 0x1001), &["id", "3", "0x1000"], 0, "0x1000 0x1603 -\n", "";
-    Table(TEXT, 0x1001), &["id", "3", "0x1000"], 0, "0x1000 0x1605 a\n", "";
-    Table(TEXT, 0x1001), &["type", "3", "0x1000"], 1, "", "Support for types of kind 0x1605 is not implemented\n";
-    Table(LISTS, 0x1002), &["fields", "3", "0x1001"], 0, "A\nB\n", "";
-    Table(LISTS, 0x1002), &["fields", "3", "0x1000"], 0, "B\n", "";
-    Table(LISTS, 0x1002), &["fields", "3", "0x74"], 1, "", PRIMITIVE;
-    Table(LISTS, 0x1002), &["fields", "3", "0x1002"], 1, "", "Type 4098 not found\n";
-    Table(THREE_LISTS, 0x1003), &["fields", "3", "0x1002"], 0, "C\nA\nB\n", "";
-    Table(OWN_LIST, 0x1002), &["fields", "3", "0x1001"], 1, "", NOT_BELOW;
-    Table(NO_LIST, 0x1002), &["fields", "3", "0x1001"], 1, "", PRIMITIVE;
-    Table(FAULT_BEHIND, 0x1002), &["fields", "3", "0x1001"], 1, "", "Support for types of kind 0x1234 is not implemented\n";
+    Nine(0x2000, None), &["type", "3", "0x1500"], 1, "", "UnexpectedEof\n";
+    Nine(0x1009, Some(2)), &["type", "3", "0x1005"], 1, "", "TypeTooShort\n";
+    Records(&[BUILD_INFO]), &["id", "3", "0x1000"], 0, "0x1000 0x1603 -\n", "";
+    Records(&[TEXT]), &["id", "3", "0x1000"], 0, "0x1000 0x1605 a\n", "";
+    Records(&[TEXT]), &["type", "3", "0x1000"], 1, "",
+        "Support for types of kind 0x1605 is not implemented\n";
+    Records(&[LIST_B, LIST_A]), &["fields", "3", "0x1001"], 0, "A\nB\n", "";
+    Records(&[LIST_B, LIST_A]), &["fields", "3", "0x1000"], 0, "B\n", "";
+    Records(&[LIST_B, LIST_A]), &["fields", "3", "0x74"], 1, "", PRIMITIVE;
+    Records(&[LIST_B, LIST_A]), &["fields", "3", "0x1002"], 1, "", "Type 4098 not found\n";
+    Records(&[LIST_B, LIST_A, LIST_C]), &["fields", "3", "0x1002"], 0, "C\nA\nB\n", "";
+    Records(&[LIST_B, OWN_LIST]), &["fields", "3", "0x1001"], 1, "", NOT_BELOW;
+    Records(&[LIST_B, NO_LIST]), &["fields", "3", "0x1001"], 1, "", PRIMITIVE;
+    Records(&[LIST_B, FAULT_BEHIND]), &["fields", "3", "0x1001"], 1, "",
+        "Support for types of kind 0x1234 is not implemented\n";
     Table(FAR_LISTS, 0x1009), &["fields", "3", "0x1008"], 0, "A\nB\n", "";
-    Table(NAMELESS, 0x1001), &["fields", "3", "0x1000"], 0, "-\n", "";
-    Table(MODIFIER, 0x1001), &["fields", "3", "0x1000"], 1, "", "Support for types of kind 0x1001 is not implemented\n";
+    Records(&[NAMELESS]), &["fields", "3", "0x1000"], 0, "-\n", "";
+    Records(&[MODIFIER]), &["fields", "3", "0x1000"], 1, "",
+        "Support for types of kind 0x1001 is not implemented\n";
 };
 
 /// Names, ranges, and a type that is not there.
 const NAMES_AND_RANGES: &[Row] = rows! {
-    With(NAMES), &["name", "3", "1"], 0, "foo\n", "";
-    With(NAMES), &["name", "3", "0"], 0, "\n", "";
-    With(NAMES), &["name", "3", "5"], 1, "", "UnexpectedEof\n";
+    With(STRINGS), &["name", "3", "1"], 0, "foo\n", "";
+    With(STRINGS), &["name", "3", "0"], 0, "\n", "";
+    With(STRINGS), &["name", "3", "5"], 1, "", "UnexpectedEof\n";
     With(BROKEN), &["name", "3", "0"], 0, "f\u{fffd}o\n", "";
-    With(OMAP), &["ranges", "3", "0", "0x1010"], 0, "0x15d44..0x15d4c\n", "";
-    With(OMAP), &["ranges", "3", "0", "0x1008"], 0, "", "";
-    With(OMAP), &["ranges", "4", "0", "0x1010"], 1, "", ABSENT_4;
+    With(MOVES), &["ranges", "3", "0", "0x1010"], 0, "0x15d44..0x15d4c\n", "";
+    With(MOVES), &["ranges", "3", "0", "0x1008"], 0, "", "";
+    With(MOVES), &["ranges", "4", "0", "0x1010"], 1, "", ABSENT_4;
     With(b"hello"), &["ranges", "3", "0", "0x1010"], 1, "", NO_OMAP;
     With(&[0; 12]), &["ranges", "3", "0", "1"], 1, "", NO_OMAP;
     With(LAST), &["type", "3", "0xffffffff"], 1, "", "Type 4294967295 not found\n";
@@ -188,15 +159,6 @@ const NAMES_AND_RANGES: &[Row] = rows! {
 
 /// The position of the page number of the last stream of S1.
 const LAST_PAGE: usize = 1052;
-
-/// S1 whose last stream lies behind its end.
-fn cut_file(alloc: Global) -> Result<Vec<u8>> {
-    let mut file = s1(alloc)?;
-    if let Some(page) = file.get_mut(LAST_PAGE) {
-        *page = 8;
-    }
-    Ok(file)
-}
 
 /// S1 with a table as its stream 3.
 fn with_table(alloc: Global, items: &[u8], maximum: u32) -> Result<Vec<u8>> {
@@ -208,9 +170,11 @@ fn with_table(alloc: Global, items: &[u8], maximum: u32) -> Result<Vec<u8>> {
 fn bytes_of(alloc: Global, file: &File) -> Result<Vec<u8>> {
     match file {
         Example => s1(alloc),
-        Cut => cut_file(alloc),
+        Cut => Ok(with_bytes(s1(alloc)?, &[(LAST_PAGE, 8)])),
         With(stream) => s1_with(alloc, stream),
+        Records(records) => s1_with(alloc, &table_of(alloc, records)?),
         Table(items, maximum) => with_table(alloc, items, *maximum),
+        Nine(maximum, short) => with_table(alloc, &items_of(alloc, 9, *short)?, *maximum),
     }
 }
 
@@ -237,6 +201,19 @@ fn is_printed(alloc: Global, row: &Row) -> Result<bool> {
     Ok(is_written(&outcome, row))
 }
 
+/// Whether the first 513 bytes of stream 1 are printed as the first 16 of all its lines, of which
+/// each has 64 digits, and a line of one byte.
+fn is_limited(alloc: Global) -> Result<bool> {
+    let outcome = act(alloc, &["stream", "1", "513"], s1(alloc)?)?;
+    let lines = outcome.out.strip_suffix(b"62\n".as_slice()).unwrap_or(b"");
+    Ok(
+        outcome.status == 0
+            && outcome.err.is_empty()
+            && lines.len() == 16 * 65
+            && STREAM_1_LINES.as_bytes().starts_with(lines),
+    )
+}
+
 #[test]
 fn printed(rt: HostRuntime) -> std::result::Result<(), Fail> {
     for rows in [STREAMS, TABLES, NAMES_AND_RANGES] {
@@ -244,5 +221,6 @@ fn printed(rt: HostRuntime) -> std::result::Result<(), Fail> {
             assert!(rt; is_printed(rt.alloc(), row)?, "{:?}", row.1);
         }
     }
+    assert!(rt; is_limited(rt.alloc())?);
     Ok(())
 }

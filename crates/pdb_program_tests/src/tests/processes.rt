@@ -2,7 +2,7 @@
 
 use super::identities::whole_file;
 use super::printed::{ABSENT_2, USAGE};
-use super::uses::file::build_file;
+use super::uses::build_file;
 use pdb_fixtures::s1_with;
 use std::alloc::{AllocError, Allocator, Global};
 use std::cell::RefCell;

@@ -1,8 +1,5 @@
 //! Each use, over one file of eleven streams, of which one is absent.
 
-pub(crate) mod file;
-
-use file::build_file;
 use pdb_container::{
     AddressMap, FrameData, FrameType, Msf, PdbInternalRva, PdbInternalSectionOffset, Result, Rva,
     Stream, StringRef, TypeData, TypeFinder, TypeIndex, TypeInformation, open_msf,
@@ -11,22 +8,30 @@ use pdb_examples::{
     class_fields, finder_of, frames_at, map_of, name_at, stream_and_views, stream_sizes,
     there_and_back, types_named,
 };
+use pdb_fixtures::roles::{Frames, NONE, file_with};
 use std::alloc::Global;
 use std::test::Fail;
 
-/// The streams, and the bytes of each.
-const SIZES: &[(u32, usize)] = &[
-    (0, 0),
-    (1, 74),
-    (2, 96),
-    (3, 86),
-    (4, 17),
-    (5, 40),
-    (6, 40),
-    (7, 8),
-    (8, 8),
-    (10, 16),
+/// The types of stream 2: 0x1000, a list of the field `x`, a 4-byte integer, and 0x1001, the struct
+/// `S` of that field.
+const TYPES: &[&[u8]] = &[
+    b"\x03\x12\x0d\x15\x03\0\x74\0\0\0\0\0x\0",
+    b"\x05\x15\x01\0\0\0\0\x10\0\0\0\0\0\0\0\0\0\0\x04\0S\0",
 ];
+
+/// The roles of streams 10, 7, 8, 6 and 5: frames of the older format, OMAP to source and from
+/// source, section headers and the original ones.
+const ROLES: [u16; 11] = [10, NONE, NONE, 7, 8, 6, NONE, NONE, NONE, NONE, 5];
+
+/// The file that the uses are tried on, of whose streams the tenth is absent.
+pub(crate) fn build_file(alloc: Global) -> Result<Vec<u8>> {
+    file_with(alloc, &ROLES, TYPES, Frames::OldAlone)
+}
+
+/// The streams, and the bytes of each.
+const SIZES: &[(u32, usize)] = rows! {
+    0, 0; 1, 74; 2, 96; 3, 86; 4, 17; 5, 40; 6, 40; 7, 8; 8, 8; 10, 16;
+};
 
 /// Whether a type is the member `x`, a 4-byte integer.
 fn is_x(value: &TypeData<'_>) -> bool {
@@ -94,6 +99,7 @@ fn is_viewed(given: Result<(Stream, u64)>) -> bool {
 }
 
 /// A use of the file.
+#[derive(Clone, Copy, Debug)]
 enum Use {
     Streams,
     Types,
@@ -104,46 +110,40 @@ enum Use {
     Sources,
 }
 
-const USES: &[(&str, Use)] = rows! {
-    "streams", Use::Streams;
-    "types", Use::Types;
-    "fields", Use::Fields;
-    "addresses", Use::Addresses;
-    "frames", Use::Frames;
-    "names", Use::Names;
-    "sources", Use::Sources;
-};
+use Use::{Addresses, Fields, Names, Sources, Streams, Types};
 
 /// Whether a use of the file answers as it should.
-fn is_answered(alloc: Global, asked: &Use, file: Vec<u8>) -> bool {
+fn is_answered(alloc: Global, asked: Use, file: Vec<u8>) -> bool {
     match asked {
-        Use::Streams => {
-            matches!(stream_sizes(alloc, file), Ok(sizes) if sizes.as_slice() == SIZES)
-        }
-        Use::Types => {
+        Streams => { matches!(stream_sizes(alloc, file), Ok(sizes) if sizes.as_slice() == SIZES) }
+        Types => {
             let found = types_named(alloc, file, b"S");
             matches!(found, Ok(found) if found.as_slice() == [TypeIndex(0x1001)].as_slice())
         }
-        Use::Fields => is_class_of_x(alloc, types_in(alloc, file)),
-        Use::Addresses => is_moved(map_of(alloc, file)),
+        Fields => is_class_of_x(alloc, types_in(alloc, file)),
+        Addresses => is_moved(map_of(alloc, file)),
         Use::Frames => is_frame(frames_at(alloc, file, PdbInternalRva(0x13))),
-        Use::Names => {
+        Names => {
             let name = name_at(alloc, file, StringRef(1));
             matches!(name, Ok(name) if name.as_slice() == b"foo".as_slice())
         }
-        Use::Sources => is_viewed(stream_and_views(alloc, file, 7)),
+        Sources => is_viewed(stream_and_views(alloc, file, 7)),
     }
-}
-
-/// Whether a use answers so over the file that is built.
-fn is_used(alloc: Global, asked: &Use) -> Result<bool> {
-    Ok(is_answered(alloc, asked, build_file(alloc)?))
 }
 
 #[test]
 fn uses(rt: HostRuntime) -> std::result::Result<(), Fail> {
-    for (name, asked) in USES {
-        assert!(rt; is_used(rt.alloc(), asked)?, "{name}");
+    for asked in [
+        Streams,
+        Types,
+        Fields,
+        Addresses,
+        Use::Frames,
+        Names,
+        Sources,
+    ] {
+        let file = build_file(rt.alloc())?;
+        assert!(rt; is_answered(rt.alloc(), asked, file), "{asked:?}");
     }
     Ok(())
 }

@@ -1,7 +1,7 @@
 //! Records of ids. Each field has a value of its own, so that one read in the place of another
 //! shows.
 
-use super::read::{Wanted, is_cut, is_same, is_wanted, join_bytes, table_of};
+use super::read::{Wanted, is_cut, is_same, is_wanted, join_bytes, stream_with};
 use pdb_base::{Error, IdIndex, RawString, TypeIndex};
 use pdb_records::parse_id_data;
 use pdb_space::StringRef;
@@ -58,15 +58,15 @@ const ROWS: &[(&[u8], Said)] = rows! {
 
 /// Where the type 0x1000 is declared.
 fn source_id(source_file: UserDefinedTypeSourceFileRef, line: u32) -> IdData<'static> {
+    let udt = TypeIndex(0x1000);
     IdData::UserDefinedTypeSource(UserDefinedTypeSourceId {
-        udt: TypeIndex(0x1000),
+        udt,
         source_file,
         line,
     })
 }
 
-/// A function or a method, or where a type is declared; or the text `a`, with no first parts where
-/// nothing is said of them.
+/// What a record without a list of ids says.
 fn plain_id(said: &Said) -> IdData<'static> {
     match said {
         Said::Function(scope, function_type, name) => IdData::Function(FunctionId {
@@ -79,14 +79,15 @@ fn plain_id(said: &Said) -> IdData<'static> {
             function_type: TypeIndex(*function_type),
             name: RawString::from(*name),
         }),
-        Said::Local(file, line) => source_id(
-            UserDefinedTypeSourceFileRef::Local(IdIndex(*file)),
-            *line,
-        ),
-        Said::Remote(module, name, line) => source_id(
-            UserDefinedTypeSourceFileRef::Remote(*module, StringRef(*name)),
-            *line,
-        ),
+        Said::Local(file, line) => {
+            source_id(UserDefinedTypeSourceFileRef::Local(IdIndex(*file)), *line)
+        }
+        Said::Remote(module, name, line) => {
+            source_id(
+                UserDefinedTypeSourceFileRef::Remote(*module, StringRef(*name)),
+                *line,
+            )
+        }
         Said::Text(substrings) => text_id(*substrings),
         _ => text_id(None),
     }
@@ -94,10 +95,8 @@ fn plain_id(said: &Said) -> IdData<'static> {
 
 /// The text `a`.
 fn text_id(substrings: Option<IdIndex>) -> IdData<'static> {
-    IdData::String(StringId {
-        substrings,
-        name: RawString::from("a"),
-    })
+    let name = RawString::from("a");
+    IdData::String(StringId { substrings, name })
 }
 
 /// What a record says.
@@ -115,21 +114,10 @@ fn expected_id(rt: &impl Abort, alloc: Global, said: &Said) -> IdData<'static> {
 
 /// Whether the id of a record is what is wanted, in a table whose one item is the record.
 fn is_read(rt: &impl Abort, alloc: Global, record: &[u8], want: Wanted<'_, IdData<'_>>) -> bool {
-    let table = IdInformation::parse(table_of(rt, alloc, record)).expect(rt, "a table");
+    let table = IdInformation::parse(stream_with(rt, alloc, record)).expect(rt, "a table");
     let finder = table.finder(alloc).expect(rt, "a finder");
     let item = finder.find(IdIndex(0x1000)).expect(rt, "an item");
     is_wanted(item.parse(alloc), want)
-}
-
-/// Whether the id of a record with more bytes behind it is this one.
-fn is_read_with(
-    rt: &impl Abort,
-    alloc: Global,
-    record: &[u8],
-    more: &[u8],
-    want: &IdData<'_>,
-) -> bool {
-    is_read(rt, alloc, &join_bytes(rt, alloc, record, more), Ok(want))
 }
 
 /// Whether each proper prefix of a record ends too soon.
@@ -166,9 +154,19 @@ fn is_parsed(rt: &impl Abort, alloc: Global, record: &[u8], want: &IdData<'_>) -
 /// Whether a record says this with padding behind it too, and with another byte behind that, and
 /// each proper prefix of it ends too soon.
 fn is_told(rt: &impl Abort, alloc: Global, record: &[u8], want: &IdData<'_>) -> bool {
-    is_read_with(rt, alloc, record, b"\xf2\xf1", want)
-        && is_read_with(rt, alloc, record, b"\xf2\xf1\x41", want)
-        && is_read(rt, alloc, record, Ok(want))
+    is_read(rt, alloc, record, Ok(want))
+        && is_read(
+            rt,
+            alloc,
+            &join_bytes(rt, alloc, record, b"\xf2\xf1"),
+            Ok(want),
+        )
+        && is_read(
+            rt,
+            alloc,
+            &join_bytes(rt, alloc, record, b"\xf2\xf1\x41"),
+            Ok(want),
+        )
         && ends_soon(alloc, record)
 }
 

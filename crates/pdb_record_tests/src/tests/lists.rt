@@ -1,32 +1,15 @@
 //! Records with a list: arrays, arguments, methods and fields.
 
-use super::equal::method_list;
-use super::read::{ends_soon, is_parsed, is_read, is_same, is_value_copied, types_of, types_with};
-use pdb_base::{Error, ParseBuffer, RawString, TypeIndex, Variant};
+use super::read::{ends_soon, is_parsed, is_read, is_same, types_of, types_with};
+use pdb_base::{Error, RawString, TypeIndex, Variant};
 use pdb_flags::FieldAttributes;
-use pdb_records::{skip_arguments, skip_field_list};
 use pdb_values::{
     ArgumentList, ArrayType, BaseClassType, ClassKind, EnumerateType, FieldList, MemberType,
-    NestedType, TypeData, VirtualFunctionTablePointerType, VirtualTableShapeType,
+    MethodList, MethodListEntry, NestedType, TypeData, VirtualFunctionTablePointerType,
+    VirtualTableShapeType,
 };
 use std::alloc::Global;
 use std::process::Abort;
-
-/// What holds of a list, beside what it says.
-enum Also {
-    /// Nothing more.
-    Nothing,
-
-    /// It says the same with padding behind it, and is an error with another byte behind that, or
-    /// where it is cut.
-    Padded,
-
-    /// So many bytes are left behind its arguments, once they are skipped.
-    Left(usize),
-
-    /// The list that continues it is found where its fields are skipped.
-    GoesOn(Option<TypeIndex>),
-}
 
 /// A method: its attributes, its type, and its offset in the table of virtual functions.
 type Method = (u16, u32, Option<u32>);
@@ -35,19 +18,14 @@ type Method = (u16, u32, Option<u32>);
 enum Field {
     /// An array: the type of an element, the stride and the dimensions.
     Array(u32, Option<u32>, &'static [u32]),
-
     /// A list of arguments.
     Arguments(&'static [TypeIndex]),
-
     /// A list of methods.
     Methods(&'static [Method]),
-
     /// A value of an enumeration, and its name.
     Enumerate(Variant, &'static str),
-
     /// A shape of a table of virtual functions: its count, and the bytes of its descriptors.
     TableShape(u16, &'static [u8]),
-
     /// The first four members of the class: a base class, the pointer to a table of virtual functions, a
     /// data member and a nested type.
     Base,
@@ -60,13 +38,15 @@ enum Field {
 enum Said {
     /// A type that is no list of fields.
     One(Field),
-
     /// A list of fields, and the list that it goes on in.
     Fields(&'static [Field], Option<TypeIndex>),
 }
 
-/// The bytes of a record, what they say, and what else holds of them.
-type Row = (&'static [u8], Said, Also);
+use Field::{Arguments, Array, Base, Enumerate, Member, Methods, Nested, TablePointer, TableShape};
+use Said::{Fields, One};
+
+/// The bytes of a record, and what they say.
+type Row = (&'static [u8], Said);
 
 /// The bytes of a list of a class's members, each of another kind and padded or not: a base class,
 /// a table pointer, a data member, a nested type and the value of an enumeration.
@@ -76,65 +56,61 @@ const MEMBERS: &[u8] =
 /// A list of one field that continues in another, as LLVM writes it.
 const CONTINUED: &[u8] = b"\x03\x12\x02\x15\x03\x00\x00\x00A\x00\x04\x14\x00\x00\x00\x10\x00\x00";
 
+/// Arrays without padding: of the dimensions 0xdabd and 0x40, with a stride of 0x118, of the
+/// dimension 0xffff_ffff, and of three dimensions. They say the same with padding behind them, and
+/// nothing with another byte behind that, or where they are cut.
+const BARE_ARRAYS: &[Row] = rows! {
+    b"\x03\x15\x77\x13\x00\x00\x23\x00\x00\x00\x02\x80\xbd\xda\x00",
+        One(Array(0x1377, None, &[0xdabd]));
+    b"\x03\x10\x77\x13\x00\x00\x23\x00\x00\x00\x40\x00\x00", One(Array(0x1377, None, &[0x40]));
+    b"\x16\x15\x77\x13\x00\x00\x23\x00\x00\x00\x18\x01\x00\x00\x40\x00\x00",
+        One(Array(0x1377, Some(0x118), &[0x40]));
+    b"\x03\x15\x77\x13\x00\x00\x23\x00\x00\x00\x04\x80\xff\xff\xff\xff\x00",
+        One(Array(0x1377, None, &[0xffffffff]));
+    b"\x03\x15\x77\x13\x00\x00\x23\x00\x00\x00\x00\x01\x0a\x80\x03\x00\x00\x00\x00\x00\x00\x00\x02\x00\x00",
+        One(Array(0x1377, None, &[0x100, 0x3, 0x2]));
+};
+
 /// Records of lists.
 const ROWS: &[Row] = rows! {
     // Arrays with padding, of the dimensions 0x40, 0x250 and 0xdabd.
-    b"\x03\x15\xa0\xdc\x0b\x00\x23\x00\x00\x00\x40\x00\x00\xf1", Said::One(Field::Array(0xbdca0, None, &[0x40])), Also::Nothing;
-    b"\x03\x15\xa9\x12\x00\x00\x23\x00\x00\x00\x50\x02\x00\xf1", Said::One(Field::Array(0x12a9, None, &[0x250])), Also::Nothing;
-    b"\x03\x15\x77\x13\x00\x00\x23\x00\x00\x00\x02\x80\xbd\xda\x00\xf3\xf2\xf1", Said::One(Field::Array(0x1377, None, &[0xdabd])),
-        Also::Nothing;
-    // Arrays without padding: of the dimensions 0xdabd and 0x40, with a stride of 0x118, of the
-    // dimension 0xffff_ffff, and of three dimensions.
-    b"\x03\x15\x77\x13\x00\x00\x23\x00\x00\x00\x02\x80\xbd\xda\x00", Said::One(Field::Array(0x1377, None, &[0xdabd])),
-        Also::Padded;
-    b"\x03\x10\x77\x13\x00\x00\x23\x00\x00\x00\x40\x00\x00", Said::One(Field::Array(0x1377, None, &[0x40])), Also::Padded;
-    b"\x16\x15\x77\x13\x00\x00\x23\x00\x00\x00\x18\x01\x00\x00\x40\x00\x00",
-        Said::One(Field::Array(0x1377, Some(0x118), &[0x40])), Also::Padded;
-    b"\x03\x15\x77\x13\x00\x00\x23\x00\x00\x00\x04\x80\xff\xff\xff\xff\x00", Said::One(Field::Array(0x1377, None, &[0xffffffff])),
-        Also::Padded;
-    b"\x03\x15\x77\x13\x00\x00\x23\x00\x00\x00\x00\x01\x0a\x80\x03\x00\x00\x00\x00\x00\x00\x00\x02\x00\x00",
-        Said::One(Field::Array(0x1377, None, &[0x100, 0x3, 0x2])), Also::Padded;
+    b"\x03\x15\xa0\xdc\x0b\x00\x23\x00\x00\x00\x40\x00\x00\xf1", One(Array(0xbdca0, None, &[0x40]));
+    b"\x03\x15\xa9\x12\x00\x00\x23\x00\x00\x00\x50\x02\x00\xf1", One(Array(0x12a9, None, &[0x250]));
+    b"\x03\x15\x77\x13\x00\x00\x23\x00\x00\x00\x02\x80\xbd\xda\x00\xf3\xf2\xf1",
+        One(Array(0x1377, None, &[0xdabd]));
     // Lists of arguments, the last two with a byte behind them.
-    b"\x01\x12\x00\x00\x00\x00", Said::One(Field::Arguments(&[])), Also::Nothing;
-    b"\x01\x12\x01\x00\x00\x00\x74\x00\x00\x00", Said::One(Field::Arguments(&[TypeIndex(0x74)])), Also::Nothing;
+    b"\x01\x12\x00\x00\x00\x00", One(Arguments(&[]));
+    b"\x01\x12\x01\x00\x00\x00\x74\x00\x00\x00", One(Arguments(&[TypeIndex(0x74)]));
     b"\x01\x12\x02\x00\x00\x00\x2e\x10\x00\x00\x2f\x10\x00\x00\x41",
-        Said::One(Field::Arguments(&[TypeIndex(0x102e), TypeIndex(0x102f)])), Also::Nothing;
+        One(Arguments(&[TypeIndex(0x102e), TypeIndex(0x102f)]));
     b"\x01\x12\x02\x00\x00\x00\x74\x00\x00\x00\x75\x00\x00\x00\x41",
-        Said::One(Field::Arguments(&[TypeIndex(0x74), TypeIndex(0x75)])), Also::Left(1);
+        One(Arguments(&[TypeIndex(0x74), TypeIndex(0x75)]));
     // Lists of no method, of one that introduces a place in the table of virtual functions, and of that one
     // and one that is not virtual.
-    b"\x06\x12", Said::One(Field::Methods(&[])), Also::Nothing;
-    b"\x06\x12\x13\x00\xcd\xab\x30\x10\x00\x00\x18\x01\x00\x00", Said::One(Field::Methods(&[(0x13, 0x1030, Some(0x118))])),
-        Also::Nothing;
+    b"\x06\x12", One(Methods(&[]));
+    b"\x06\x12\x13\x00\xcd\xab\x30\x10\x00\x00\x18\x01\x00\x00",
+        One(Methods(&[(0x13, 0x1030, Some(0x118))]));
     b"\x06\x12\x13\x00\xcd\xab\x30\x10\x00\x00\x18\x01\x00\x00\x03\x00\xff\xff\x31\x10\x00\x00",
-        Said::One(Field::Methods(&[(0x13, 0x1030, Some(0x118)), (0x3, 0x1031, None)])), Also::Nothing;
+        One(Methods(&[(0x13, 0x1030, Some(0x118)), (0x3, 0x1031, None)]));
     // Lists of fields.
-    b"\x03\x12", Said::Fields(&[], None), Also::GoesOn(None);
-    b"\x03\x12\x04\x14\x00\x00\x34\x12\x00\x00", Said::Fields(&[], Some(TypeIndex(0x1234))),
-        Also::GoesOn(Some(TypeIndex(0x1234)));
-    b"\x03\x12\x04\x14\xcd\xab\x34\x12\x00\x00", Said::Fields(&[], Some(TypeIndex(0x1234))),
-        Also::GoesOn(Some(TypeIndex(0x1234)));
+    b"\x03\x12", Fields(&[], None);
+    b"\x03\x12\x04\x14\x00\x00\x34\x12\x00\x00", Fields(&[], Some(TypeIndex(0x1234)));
+    b"\x03\x12\x04\x14\xcd\xab\x34\x12\x00\x00", Fields(&[], Some(TypeIndex(0x1234)));
     b"\x03\x12\x0a\x00\x03\x00\x55\x05\xf2\xf1\x04\x14\x00\x00\x34\x12\x00\x00\x0a\x00\x00\x00",
-        Said::Fields(&[Field::TableShape(3, b"\x55\x05"), Field::TableShape(0, b"")], Some(TypeIndex(0x1234))),
-        Also::GoesOn(Some(TypeIndex(0x1234)));
-    CONTINUED, Said::Fields(&[Field::Enumerate(Variant::U16(0), "A")], Some(TypeIndex(0x1000))),
-        Also::GoesOn(Some(TypeIndex(0x1000)));
-    MEMBERS,
-        Said::Fields(&[Field::Base, Field::TablePointer, Field::Member, Field::Nested, Field::Enumerate(Variant::U8(5), "A")], None),
-        Also::GoesOn(None);
+        Fields(&[TableShape(3, b"\x55\x05"), TableShape(0, b"")], Some(TypeIndex(0x1234)));
+    CONTINUED, Fields(&[Enumerate(Variant::U16(0), "A")], Some(TypeIndex(0x1000)));
+    MEMBERS, Fields(&[Base, TablePointer, Member, Nested, Enumerate(Variant::U8(5), "A")], None);
     b"\x03\x12\x02\x15\x03\x00\x00\x00A\x00\x02\x15\x03\x00\x01\x80\xff\xffB\x00\xf2\xf1",
-        Said::Fields(&[Field::Enumerate(Variant::U16(0), "A"), Field::Enumerate(Variant::I16(-1), "B")], None),
-        Also::GoesOn(None);
+        Fields(&[Enumerate(Variant::U16(0), "A"), Enumerate(Variant::I16(-1), "B")], None);
     b"\x03\x12\x04\x14\xff\xff\x35\x12\x00\x00\xf1\x02\x15\x03\x00\x05\x00A\x00\x04\x14\x00\x00\x34\x12\x00\x00\xf2\xf1",
-        Said::Fields(&[Field::Enumerate(Variant::U16(5), "A")], Some(TypeIndex(0x1234))), Also::GoesOn(Some(TypeIndex(0x1234)));
-    b"\x03\x12\x06\x12", Said::Fields(&[Field::Methods(&[])], None), Also::GoesOn(None);
+        Fields(&[Enumerate(Variant::U16(5), "A")], Some(TypeIndex(0x1234)));
+    b"\x03\x12\x06\x12", Fields(&[Methods(&[])], None);
     b"\x03\x12\x06\x12\x13\x00\xcd\xab\x30\x10\x00\x00\x18\x01\x00\x00\x03\x00\xff\xff\x31\x10\x00\x00",
-        Said::Fields(&[Field::Methods(&[(0x13, 0x1030, Some(0x118)), (0x3, 0x1031, None)])], None), Also::GoesOn(None);
+        Fields(&[Methods(&[(0x13, 0x1030, Some(0x118)), (0x3, 0x1031, None)])], None);
     b"\x03\x12\x03\x15\x77\x13\x00\x00\x23\x00\x00\x00\x40\x00\x00\xf1",
-        Said::Fields(&[Field::Array(0x1377, None, &[0x40])], None), Also::GoesOn(None);
+        Fields(&[Array(0x1377, None, &[0x40])], None);
     b"\x03\x12\x01\x12\x02\x00\x00\x00\x74\x00\x00\x00\x75\x00\x00\x00\x02\x15\x03\x00\x05\x00A\x00",
-        Said::Fields(&[Field::Arguments(&[TypeIndex(0x74), TypeIndex(0x75)]), Field::Enumerate(Variant::U16(5), "A")], None),
-        Also::GoesOn(None);
+        Fields(&[Arguments(&[TypeIndex(0x74), TypeIndex(0x75)]), Enumerate(Variant::U16(5), "A")], None);
 };
 
 /// What a type is that has no list; the pointer to a table of virtual functions, if it has one.
@@ -172,6 +148,20 @@ fn field_value<'t>(field: &Field) -> TypeData<'t> {
             table: TypeIndex(0x102a),
         }),
     }
+}
+
+/// A list of methods.
+fn method_list(rt: &impl Abort, alloc: Global, entries: &[Method]) -> MethodList {
+    let mut methods = Vec::new(alloc);
+    for (attributes, method_type, vtable_offset) in entries {
+        let entry = MethodListEntry {
+            attributes: FieldAttributes::new(*attributes),
+            method_type: TypeIndex(*method_type),
+            vtable_offset: *vtable_offset,
+        };
+        methods.push(entry).expect(rt, "memory");
+    }
+    MethodList { methods }
 }
 
 /// What a type is that is no list of fields.
@@ -224,12 +214,13 @@ fn is_list_copied(alloc: Global, data: &TypeData<'_>) -> bool {
 
 /// Whether a copy is equal, of the whole and of its list.
 fn is_copied(alloc: Global, data: &TypeData<'_>) -> bool {
-    is_list_copied(alloc, data) && is_value_copied(alloc, data)
+    is_list_copied(alloc, data) && is_same(data.clone(alloc), data)
 }
 
 /// Whether a record says the same with padding behind it, and is an error with another byte behind
 /// that, or where it is cut.
-fn is_padded(rt: &impl Abort, alloc: Global, record: &[u8], said: &Said) -> bool {
+fn is_padded(rt: &impl Abort, alloc: Global, row: &Row) -> bool {
+    let (record, said) = row;
     let padded = types_with(rt, alloc, record, b"\xf3\xf2\xf1\xf0");
     let longer = types_with(rt, alloc, record, b"\xf3\xf2\xf1\xf0\x41");
     let want = value_said(rt, alloc, said);
@@ -239,46 +230,26 @@ fn is_padded(rt: &impl Abort, alloc: Global, record: &[u8], said: &Said) -> bool
         && ends_soon(alloc, record)
 }
 
-/// How many bytes are left of a record of a list of arguments, once they are skipped.
-fn left_behind(rt: &impl Abort, record: &[u8]) -> usize {
-    let mut buffer = ParseBuffer::from(record);
-    buffer.parse_u16().expect(rt, "a kind");
-    skip_arguments(&mut buffer).expect(rt, "arguments");
-    buffer.len()
-}
-
-/// Which list continues the one in a record.
-fn continuation_of(rt: &impl Abort, alloc: Global, record: &[u8]) -> Option<TypeIndex> {
-    let mut buffer = ParseBuffer::from(record);
-    buffer.parse_u16().expect(rt, "a kind");
-    skip_field_list(alloc, &mut buffer).expect(rt, "fields")
-}
-
-/// Whether what else holds of a list that says this does hold.
-fn does_hold(rt: &impl Abort, alloc: Global, record: &[u8], said: &Said, also: &Also) -> bool {
-    match also {
-        Also::Nothing => true,
-        Also::Padded => is_padded(rt, alloc, record, said),
-        Also::Left(length) => left_behind(rt, record) == *length,
-        Also::GoesOn(index) => continuation_of(rt, alloc, record) == *index,
-    }
-}
-
 /// Whether a record says what its case has, in a table and alone, and what it says is copied.
 fn is_row(rt: &impl Abort, alloc: Global, row: &Row) -> bool {
-    let (record, said, also) = row;
+    let (record, said) = row;
     let table = types_of(rt, alloc, record);
     let want = value_said(rt, alloc, said);
     is_read(rt, alloc, &table, Ok(&want))
         && is_parsed(rt, alloc, record, &want)
         && is_copied(alloc, &want)
-        && does_hold(rt, alloc, record, said, also)
 }
 
 #[test]
 fn lists(rt: HostRuntime) {
     for row in ROWS {
-        let (record, ..) = row;
-        assert!(rt; is_row(&rt, rt.alloc(), row), "{record:?}");
+        assert!(rt; is_row(&rt, rt.alloc(), row), "{:?}", row.0);
+    }
+    for row in BARE_ARRAYS {
+        assert!(rt;
+            is_row(&rt, rt.alloc(), row) && is_padded(&rt, rt.alloc(), row),
+            "{:?}",
+            row.0
+        );
     }
 }

@@ -1,10 +1,9 @@
 //! Records, as the one item of a table.
 
-use super::{is_error, stream};
 use pdb_base::{Error, Stream, TypeIndex};
-use pdb_fixtures::item_table;
+use pdb_fixtures::{is_error, stream_of, table_of};
 use pdb_records::parse_type_data;
-use pdb_tpi::{TypeFinder, TypeInformation};
+use pdb_tpi::TypeInformation;
 use pdb_values::TypeData;
 use std::alloc::Global;
 use std::process::Abort;
@@ -16,18 +15,15 @@ pub(crate) fn join_bytes(rt: &impl Abort, alloc: Global, bytes: &[u8], more: &[u
     longer
 }
 
-/// A table of at most 512 bytes, whose header has 56 bytes, and whose one item, of index 0x1000, is
-/// this record.
-pub(crate) fn table_of(rt: &impl Abort, alloc: Global, record: &[u8]) -> Stream {
-    let length = u16::try_from(record.len()).expect(rt, "a short record");
-    let item = join_bytes(rt, alloc, &length.to_le_bytes(), record);
-    let bytes = item_table(alloc, 56, 0x1000, 0x1001, &item).expect(rt, "memory");
-    stream(rt, bytes)
+/// The stream of a table whose one item, of index 0x1000, is this record.
+pub(crate) fn stream_with(rt: &impl Abort, alloc: Global, record: &[u8]) -> Stream {
+    let bytes = table_of(alloc, &[record]).expect(rt, "memory");
+    stream_of(bytes).expect(rt, "a short table")
 }
 
 /// The types of that table.
 pub(crate) fn types_of(rt: &impl Abort, alloc: Global, record: &[u8]) -> TypeInformation {
-    TypeInformation::parse(table_of(rt, alloc, record)).expect(rt, "a table")
+    TypeInformation::parse(stream_with(rt, alloc, record)).expect(rt, "a table")
 }
 
 /// The types of such a table, whose record has more bytes behind it.
@@ -66,31 +62,6 @@ pub(crate) fn is_cut<T: Drop>(read: pdb_base::Result<T>) -> bool {
     matches!(read, Err(Error::UnexpectedEof))
 }
 
-/// Whether the type of an index of a finder's table is what is wanted.
-fn is_found<'t>(
-    alloc: Global,
-    finder: &TypeFinder<'t>,
-    index: u32,
-    want: Wanted<'_, TypeData<'t>>,
-) -> bool {
-    match finder.find(TypeIndex(index)) {
-        Ok(item) => is_wanted(item.parse(alloc), want),
-        Err(error) => matches!(want, Err(same) if is_error(&error, same)),
-    }
-}
-
-/// Whether the type of an index of a table is what is wanted.
-pub(crate) fn is_read_at<'t>(
-    rt: &impl Abort,
-    alloc: Global,
-    table: &'t TypeInformation,
-    index: u32,
-    want: Wanted<'_, TypeData<'t>>,
-) -> bool {
-    let finder = table.finder(alloc).expect(rt, "a finder");
-    is_found(alloc, &finder, index, want)
-}
-
 /// Whether the type of a table's one item is what is wanted.
 pub(crate) fn is_read<'t>(
     rt: &impl Abort,
@@ -98,7 +69,9 @@ pub(crate) fn is_read<'t>(
     table: &'t TypeInformation,
     want: Wanted<'_, TypeData<'t>>,
 ) -> bool {
-    is_read_at(rt, alloc, table, 0x1000, want)
+    let finder = table.finder(alloc).expect(rt, "a finder");
+    let item = finder.find(TypeIndex(0x1000)).expect(rt, "an item");
+    is_wanted(item.parse(alloc), want)
 }
 
 /// Whether a record that is in no table says this, and does so again.
@@ -121,9 +94,4 @@ pub(crate) fn ends_soon(alloc: Global, record: &[u8]) -> bool {
         }
     }
     true
-}
-
-/// Whether a copy of a value is equal.
-pub(crate) fn is_value_copied(alloc: Global, data: &TypeData<'_>) -> bool {
-    is_same(data.clone(alloc), data)
 }

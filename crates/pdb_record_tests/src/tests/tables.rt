@@ -4,11 +4,8 @@ ghost use Rattle.std.specs.Prelude.{◌≡◌};
 
 use super::open_tables::{OpenAsk, opened_tells};
 use super::read::is_same;
-use super::{is_error, stream};
-use pdb_base::{
-    Count, Error, FallibleIterator, IdIndex, Result as Answer, Stream, TypeIndex, Variant,
-};
-use pdb_fixtures::item_table;
+use pdb_base::{Count, Error, FallibleIterator, IdIndex, Result as Answer, TypeIndex, Variant};
+use pdb_fixtures::{FAR_LISTS, TWO_LISTS, is_error, item_table, items_of, stream_of};
 use pdb_tpi::{
     Header, IdFinder, IdInformation, IdIter, RecordPlace, Slice, Type, TypeFinder, TypeInformation,
     TypeIter,
@@ -16,6 +13,7 @@ use pdb_tpi::{
 use pdb_values::{PrimitiveKind, PrimitiveType, TypeData};
 use std::alloc::Global;
 use std::process::Abort;
+use std::test::Fail;
 
 /// The stream of a table.
 enum Source {
@@ -25,6 +23,9 @@ enum Source {
     Table(u32, u32, u32, &'static [u8]),
     /// Such a header, and zeros behind it up to so many bytes.
     Zeros(u32, u32, u32, usize),
+    /// Items of two bytes, of the kinds 0x1000, 0x1001 and so on, from index 0x1000 on: their
+    /// maximum, how many there are, and the one whose length is 1.
+    Items(u32, u8, Option<u8>),
 }
 
 /// What a step or a look-up gives.
@@ -126,41 +127,6 @@ const HEADER: Header = Header {
 /// The largest index.
 const LAST: u32 = 0xffff_ffff;
 
-/// Nine items of two bytes: the kinds 0x1000, 0x1001 and so on.
-const NINE: &[u8] = &[
-    2, 0, 0, 0x10, 2, 0, 1, 0x10, 2, 0, 2, 0x10, 2, 0, 3, 0x10, 2, 0, 4, 0x10, 2, 0, 5, 0x10, 2, 0,
-    6, 0x10, 2, 0, 7, 0x10, 2, 0, 8, 0x10,
-];
-
-/// Nine items of two bytes, of which the third has a length of 1.
-const NINE_SHORT: &[u8] = &[
-    2, 0, 0, 0x10, 2, 0, 1, 0x10, 1, 0, 2, 0x10, 2, 0, 3, 0x10, 2, 0, 4, 0x10, 2, 0, 5, 0x10, 2, 0,
-    6, 0x10, 2, 0, 7, 0x10, 2, 0, 8, 0x10,
-];
-
-/// The first eight of the nine.
-const EIGHT: &[u8] = &[
-    2, 0, 0, 0x10, 2, 0, 1, 0x10, 2, 0, 2, 0x10, 2, 0, 3, 0x10, 2, 0, 4, 0x10, 2, 0, 5, 0x10, 2, 0,
-    6, 0x10, 2, 0, 7, 0x10,
-];
-
-/// Twenty items of two bytes: the kinds 0x1000, 0x1001 and so on.
-const TWENTY: &[u8] = &[
-    2, 0, 0, 0x10, 2, 0, 1, 0x10, 2, 0, 2, 0x10, 2, 0, 3, 0x10, 2, 0, 4, 0x10, 2, 0, 5, 0x10, 2, 0,
-    6, 0x10, 2, 0, 7, 0x10, 2, 0, 8, 0x10, 2, 0, 9, 0x10, 2, 0, 10, 0x10, 2, 0, 11, 0x10, 2, 0, 12,
-    0x10, 2, 0, 13, 0x10, 2, 0, 14, 0x10, 2, 0, 15, 0x10, 2, 0, 16, 0x10, 2, 0, 17, 0x10, 2, 0, 18,
-    0x10, 2, 0, 19, 0x10,
-];
-
-/// The list of the field B at 0x1000, and one of the field A at 0x1001 that continues in the first.
-const TWO_LISTS: &[u8] =
-    b"\x0c\x00\x03\x12\x02\x15\x03\x00\x01\x00B\x00\xf2\xf1\x12\x00\x03\x12\x02\x15\x03\x00\x00\x00A\x00\x04\x14\x00\x00\x00\x10\x00\x00";
-
-/// The list of the field B at 0x1000, seven empty lists, and at 0x1008 a list of the field A that
-/// continues in the first.
-const LISTS: &[u8] =
-    b"\x0c\x00\x03\x12\x02\x15\x03\x00\x01\x00B\x00\xf2\xf1\x02\x00\x03\x12\x02\x00\x03\x12\x02\x00\x03\x12\x02\x00\x03\x12\x02\x00\x03\x12\x02\x00\x03\x12\x02\x00\x03\x12\x12\x00\x03\x12\x02\x15\x03\x00\x00\x00A\x00\x04\x14\x00\x00\x00\x10\x00\x00";
-
 /// The places of the records of the two lists in their table.
 const LIST_OF_B: RecordPlace = RecordPlace {
     offset: 58,
@@ -212,9 +178,9 @@ const TABLES: &[(&str, Source, Ask)] = rows! {
         Ask::Walk(&[Item(0x1000, 0x1001), Item(0x1001, 0x1002), End, End]);
     "a third length of 1", Source::Table(56, 0x1000, 0x1000, b"\x02\x00\x01\x10\x02\x00\x02\x10\x01\x00\x02\x00"),
         Ask::Walk(&[Item(0x1000, 0x1001), Item(0x1001, 0x1002), SHORT, SHORT, SHORT]);
-    "a third length of 1, of nine", Source::Table(56, 0x1000, 0x1009, NINE_SHORT),
+    "a third length of 1, of nine", Source::Items(0x1009, 9, Some(2)),
         Ask::Walk(&[Item(0x1000, 0x1000), Item(0x1001, 0x1001), SHORT, SHORT]);
-    "nine items", Source::Table(56, 0x1000, 0x1009, NINE),
+    "nine items", Source::Items(0x1009, 9, None),
         Ask::Finder(&[FinderAsk::Last(0x1007), FinderAsk::Find(0x1000, Item(0x1000, 0x1000), 1),
             FinderAsk::Find(0x1007, Item(0x1007, 0x1007), 8), FinderAsk::Find(0x1008, NOT_INDEXED, 0),
             FinderAsk::Find(0x1009, Step::Error(Error::TypeNotFound(0x1009)), 0),
@@ -222,11 +188,11 @@ const TABLES: &[(&str, Source, Ask)] = rows! {
             FinderAsk::Shown(&[1, 2, 3, 4, 5, 6, 7, 8]), FinderAsk::Last(0x1008),
             FinderAsk::Find(0x1007, Item(0x1007, 0x1007), 8), FinderAsk::Find(0x1008, Item(0x1008, 0x1008), 1),
             FinderAsk::Count(18), FinderAsk::Integer(0x74)]);
-    "nine items, of which the last two are looked up", Source::Table(56, 0x1000, 0x1009, NINE),
+    "nine items, of which the last two are looked up", Source::Items(0x1009, 9, None),
         Ask::Finder(&[FinderAsk::Find(0x1007, Item(0x1007, 0x1007), 8), FinderAsk::Count(8),
             FinderAsk::Shown(&[1, 2, 3, 4, 5, 6, 7, 8]), FinderAsk::Find(0x1008, Item(0x1008, 0x1008), 1),
             FinderAsk::Count(9), FinderAsk::Integer(0x74), FinderAsk::Count(9)]);
-    "look-ups behind a third length of 1", Source::Table(56, 0x1000, 0x1009, NINE_SHORT),
+    "look-ups behind a third length of 1", Source::Items(0x1009, 9, Some(2)),
         Ask::Finder(&[FinderAsk::Last(0x1007), FinderAsk::Find(0x1001, Item(0x1001, 0x1001), 2),
             FinderAsk::Find(0x1002, SHORT, 3), FinderAsk::Find(0x1005, SHORT, 3)]);
     "one item of a large claim", Source::Table(56, 0x1000, 0xffff_ffff, b"\x02\x00\x01\x10"),
@@ -234,23 +200,23 @@ const TABLES: &[(&str, Source, Ask)] = rows! {
             FinderAsk::Find(0x1001, ENDS, 1), FinderAsk::Find(0x1008, NOT_INDEXED, 0)]);
     "finders take no memory for that claim: by it, these would take 2^47 bytes",
         Source::Table(56, 0x1000, 0xffff_ffff, b"\x02\x00\x01\x10"), Ask::Finders(100_000);
-    "a block at the end of the bytes", Source::Table(56, 0x1000, 0x1009, EIGHT),
+    "a block at the end of the bytes", Source::Items(0x1009, 8, None),
         Ask::Finder(&[FinderAsk::Shown(&[1, 2, 3, 4, 5, 6, 7, 8]), FinderAsk::Last(0x1008),
             FinderAsk::Find(0x1008, ENDS, 0), FinderAsk::Find(0x1007, Item(0x1007, 0x1007), 8)]);
-    "no index", Source::Table(56, 0x1000, 0x1000, NINE),
+    "no index", Source::Items(0x1000, 9, None),
         Ask::Finder(&[FinderAsk::Shown(&[1, 2, 3, 4, 5, 6, 7, 8, 9]), FinderAsk::Last(0),
             FinderAsk::Find(0x1000, Step::Error(Error::TypeNotFound(0x1000)), 0),
             FinderAsk::Find(0xfff, Item(0xfff, 0xffff), 0)]);
-    "iterators of later places, none and two", Source::Table(56, 0x1000, 0x1014, TWENTY),
+    "iterators of later places, none and two", Source::Items(0x1014, 20, None),
         Ask::Finder(&[FinderAsk::Shown(&[16]), FinderAsk::Last(0x1007), FinderAsk::ShownNone, FinderAsk::Last(0x1007),
             FinderAsk::ShownBoth(8, 16), FinderAsk::Last(0x1013), FinderAsk::Len(0x1008, 2)]);
-    "each of sixteen steps", Source::Table(56, 0x1000, 0x1014, TWENTY),
+    "each of sixteen steps", Source::Items(0x1014, 20, None),
         Ask::Finder(&[FinderAsk::Shown(&[1, 2, 3, 4, 5, 6, 7, 8]), FinderAsk::Last(0x100f),
             FinderAsk::Shown(&[9, 10, 11, 12, 13, 14, 15, 16]), FinderAsk::Last(0x1013),
             FinderAsk::Find(0x1008, Item(0x1008, 0x1008), 1), FinderAsk::Find(0x1013, Item(0x1013, 0x1013), 4)]);
     "fields joined in one block", Source::Table(56, 0x1000, 0x1002, TWO_LISTS),
         Ask::Finder(&[FinderAsk::Fields(0x1001, Fields::AAndB)]);
-    "fields joined in two blocks", Source::Table(56, 0x1000, 0x1009, LISTS),
+    "fields joined in two blocks", Source::Table(56, 0x1000, 0x1009, FAR_LISTS),
         Ask::Finder(&[FinderAsk::Fields(0x1008, Fields::Error(Error::TypeNotIndexed(0x1008, 0x1007))),
             FinderAsk::Shown(&[1, 2, 3, 4, 5, 6, 7, 8]), FinderAsk::Fields(0x1008, Fields::AAndB)]);
     "a table that stays open", Source::Table(56, 0x1000, 0x1002, TWO_LISTS),
@@ -260,32 +226,28 @@ const TABLES: &[(&str, Source, Ask)] = rows! {
             OpenAsk::Len(0x1001, 18), OpenAsk::Bytes(0x74, b"\xff\xff"), OpenAsk::Fields(0x1001, Fields::AAndB)]);
 };
 
-/// The bytes of a header, and zeros up to so many bytes.
-fn zeros(rt: &impl Abort, bytes: Vec<u8>, len: usize) -> Vec<u8> {
-    let mut bytes = bytes;
-    bytes.resize(len, 0).expect(rt, "memory");
-    bytes
-}
-
 /// The bytes of a stream.
-fn bytes_of(rt: &impl Abort, alloc: Global, source: &Source) -> Vec<u8> {
+fn bytes_of(alloc: Global, source: &Source) -> Answer<Vec<u8>> {
     match source {
-        Source::Bytes(bytes) => Vec::from_slice(alloc, bytes).expect(rt, "memory"),
+        Source::Bytes(bytes) => Ok(Vec::from_slice(alloc, bytes)?),
         Source::Table(size, minimum, maximum, items) => {
-            item_table(alloc, *size, *minimum, *maximum, items).expect(rt, "memory")
+            item_table(alloc, *size, *minimum, *maximum, items)
         }
         Source::Zeros(size, minimum, maximum, len) => {
-            let header = item_table(alloc, *size, *minimum, *maximum, b"").expect(rt, "memory");
-            zeros(rt, header, *len)
+            let mut bytes = item_table(alloc, *size, *minimum, *maximum, b"")?;
+            bytes.resize(*len, 0)?;
+            Ok(bytes)
+        }
+        Source::Items(maximum, count, short) => {
+            let items = items_of(alloc, *count, *short)?;
+            item_table(alloc, 56, 0x1000, *maximum, &items)
         }
     }
 }
 
-/// The table of a stream, of which there are less than 2^32 - 1 bytes.
-fn parse_table(rt: &impl Abort, alloc: Global, source: &Source) -> Answer<TypeInformation> {
-    let bytes = bytes_of(rt, alloc, source);
-    assert!(rt; bytes.len() < 0xffff_ffff);
-    TypeInformation::parse(Stream::new(bytes))
+/// The table of a stream.
+fn parse_table(alloc: Global, source: &Source) -> Answer<TypeInformation> {
+    TypeInformation::parse(stream_of(bytes_of(alloc, source)?)?)
 }
 
 /// Whether a step gives this.
@@ -535,7 +497,7 @@ fn is_refusal(error: &Error, ask: &Ask) -> bool {
 
 /// Whether the table of a stream answers so, or has the expected error.
 fn is_row(rt: &impl Abort, alloc: Global, source: &Source, ask: &Ask) -> bool {
-    match parse_table(rt, alloc, source) {
+    match parse_table(alloc, source) {
         Ok(table) => owned_answers(rt, alloc, table, ask),
         Err(error) => is_refusal(&error, ask),
     }
@@ -553,37 +515,27 @@ fn is_refused(ids: &IdFinder<'_>, index: u32) -> bool {
     matches!(ids.find(IdIndex(index)), Err(Error::TypeNotFound(bad)) if bad == index)
 }
 
-/// Whether the last index that a finder covers is 0, and look-ups of 0 and 4097 fail.
-fn finds_none(ids: &IdFinder<'_>) -> bool {
-    ids.max_index() == IdIndex(0) && is_refused(ids, 0) && is_refused(ids, 4097)
-}
-
-/// Whether a table counts no ids, and a walk gives none.
-fn lists_none(empty: &IdInformation) -> bool {
-    let mut ids: IdIter<'_> = empty.iter();
-    empty.len() == 0 && empty.is_empty() && matches!(ids.next(), Ok(None))
-}
-
-/// Whether a table has no ids, and its finder finds none.
+/// Whether a table has no ids: it counts none, a walk gives none, and its finder, which covers
+/// none, finds none.
 fn has_none(rt: &impl Abort, alloc: Global, empty: &IdInformation) -> bool {
     let ids = empty.finder(alloc).expect(rt, "a finder");
-    finds_none(&ids) && lists_none(empty)
+    let mut walk: IdIter<'_> = empty.iter();
+    empty.len() == 0
+        && empty.is_empty()
+        && matches!(walk.next(), Ok(None))
+        && ids.max_index() == IdIndex(0)
+        && (is_refused(&ids, 0) && is_refused(&ids, 4097))
 }
 
-/// Whether the table of an empty stream has no ids.
-fn is_empty_table(rt: &impl Abort, alloc: Global) -> bool {
-    let empty = IdInformation::parse(Stream::new(Vec::new(alloc))).expect(rt, "a table");
-    has_none(rt, alloc, &empty)
-}
-
-/// Whether a table of ids is headed as one of types is.
-fn is_table_of_ids(rt: &impl Abort, alloc: Global) -> bool {
-    let bytes = Vec::from_slice(alloc, &FIELDS).expect(rt, "memory");
-    let ids = IdInformation::parse(stream(rt, bytes)).expect(rt, "a table");
-    ids.header() == HEADER && ids.len() == 0xff0f0eff - 0x0c0b0a09 && !ids.is_empty()
+/// The table of ids of these bytes.
+fn ids_of(alloc: Global, bytes: &[u8]) -> Answer<IdInformation> {
+    IdInformation::parse(stream_of(Vec::from_slice(alloc, bytes)?)?)
 }
 
 #[test]
-fn ids(rt: HostRuntime) {
-    assert!(rt; is_table_of_ids(&rt, rt.alloc()) && is_empty_table(&rt, rt.alloc()));
+fn ids(rt: HostRuntime) -> Result<(), Fail> {
+    let ids = ids_of(rt.alloc(), &FIELDS)?;
+    assert!(rt; ids.header() == HEADER && ids.len() == 0xff0f0eff - 0x0c0b0a09 && !ids.is_empty());
+    assert!(rt; has_none(&rt, rt.alloc(), &ids_of(rt.alloc(), b"")?));
+    Ok(())
 }

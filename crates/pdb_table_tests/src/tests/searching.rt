@@ -1,7 +1,8 @@
-//! Searches by halving, each compared with a search that looks at all records in their order: over
-//! all small tables, and over tables of frames as long as each way to search them takes.
+//! Searches by halving, each compared with a search that looks at all records in their order, over
+//! all small tables.
 
 use pdb_base::{Count, FallibleIterator, Stream};
+use pdb_fixtures::stream_of;
 use pdb_frames::{FrameDataIter, FrameTable};
 use pdb_space::{OMAPTable, PdbInternalRva};
 use std::alloc::Global;
@@ -9,20 +10,23 @@ use std::ops::Range;
 use std::test::Fail;
 
 /// The stream of pairs of numbers, each followed by the same bytes.
-pub(super) fn stream(alloc: Global, pairs: &[(u32, u32)], others: &[u8]) -> Result<Stream, Fail> {
+pub(super) fn pairs_of(
+    alloc: Global,
+    pairs: &[(u32, u32)],
+    others: &[u8],
+) -> pdb_base::Result<Stream> {
     let mut bytes = Vec::new(alloc);
     for (first, second) in pairs {
         bytes.extend_from_slice(&first.to_le_bytes())?;
         bytes.extend_from_slice(&second.to_le_bytes())?;
         bytes.extend_from_slice(others)?;
     }
-    bytes.truncate(0x100_0000);
-    Ok(Stream::new(bytes))
+    stream_of(bytes)
 }
 
 /// The OMAP table of these records, each a source and a target.
 pub(super) fn omap(alloc: Global, records: &[(u32, u32)]) -> Result<OMAPTable, Fail> {
-    Ok(OMAPTable::parse(stream(alloc, records, &[])?)?)
+    Ok(OMAPTable::parse(pairs_of(alloc, records, &[])?)?)
 }
 
 /// The ranges that a table answers of a start and an end.
@@ -197,8 +201,8 @@ fn gives(table: &FrameTable, address: u32, want: &[(u32, u32)]) -> Result<bool, 
 
 /// Whether frames are given alike from either format.
 fn frames_alike(alloc: Global, frames: &[(u32, u32)]) -> Result<bool, Fail> {
-    let old = FrameTable::parse(Some(stream(alloc, frames, &[0; 8])?), None)?;
-    let new = FrameTable::parse(None, Some(stream(alloc, frames, &[0; 24])?))?;
+    let old = FrameTable::parse(Some(pairs_of(alloc, frames, &[0; 8])?), None)?;
+    let new = FrameTable::parse(None, Some(pairs_of(alloc, frames, &[0; 24])?))?;
     for address in ADDRESSES {
         let want = plain_frames(frames, address);
         if !gives(&old, address, want)? || !gives(&new, address, want)? {
@@ -213,72 +217,6 @@ fn small_frame_tables(rt: HostRuntime) -> Result<(), Fail> {
     for code in 0..625 {
         let frames = increasing(rt.alloc(), code)?;
         assert!(rt; frames_alike(rt.alloc(), &frames)?, "{code}");
-    }
-    Ok(())
-}
-
-/// Frames that begin eight bytes apart, of 0 to 10 bytes: some end before the next begins, and some
-/// overlap with it.
-fn regular(alloc: Global, len: u32) -> Result<Vec<(u32, u32)>, Fail> {
-    let mut frames = Vec::new(alloc);
-    for place in 0..len {
-        frames.push((place.saturating_mul(8), place % 11))?;
-    }
-    Ok(frames)
-}
-
-/// Whether a table gives these frames first from an address on.
-fn begins(table: &FrameTable, address: u32, want: &[(u32, u32)]) -> Result<bool, Fail> {
-    let mut frames = table.iter_at_rva(PdbInternalRva(address));
-    let first = step(&mut frames)?;
-    let second = step(&mut frames)?;
-    Ok(first == want.first().copied() && second == want.get(1).copied())
-}
-
-/// Whether frames are found alike in either format around a frame: at its start, at its last byte,
-/// behind it, and before the next one.
-fn around_alike(
-    old: &FrameTable,
-    new: &FrameTable,
-    frames: &[(u32, u32)],
-    frame: (u32, u32),
-) -> Result<bool, Fail> {
-    let (start, size) = frame;
-    for address in [
-        start,
-        start.saturating_add(size).saturating_sub(1),
-        start.saturating_add(size),
-        start.saturating_add(7),
-    ] {
-        let want = plain_frames(frames, address);
-        if !begins(old, address, want)? || !begins(new, address, want)? {
-            return Ok(false);
-        }
-    }
-    Ok(true)
-}
-
-/// Whether a long table of frames is searched alike in either format: around 128 frames all along
-/// it, among which are those that halve it, halve a half of it, and so on.
-fn long_table_alike(alloc: Global, len: u32) -> Result<bool, Fail> {
-    let frames = regular(alloc, len)?;
-    let old = FrameTable::parse(Some(stream(alloc, &frames, &[0; 8])?), None)?;
-    let new = FrameTable::parse(None, Some(stream(alloc, &frames, &[0; 24])?))?;
-    for part in 0..128usize {
-        let place = frames.len().saturating_mul(part) / 128;
-        if let Some(frame) = frames.get(place) {
-            if !around_alike(&old, &new, &frames, *frame)? {
-                return Ok(false);
-            }
-        }
-    }
-    Ok(true)
-}
-
-#[test]
-fn long_frame_tables(rt: HostRuntime) -> Result<(), Fail> {
-    for len in [8, 9, 16, 300, 140_000] {
-        assert!(rt; long_table_alike(rt.alloc(), len)?, "{len} frames");
     }
     Ok(())
 }

@@ -1,13 +1,11 @@
 //! String tables, and the names in them.
 
-use super::{is_error, stream};
+use super::stream;
 use pdb_base::Error;
+use pdb_fixtures::{STRINGS, is_error};
 use pdb_space::{StringRef, StringTable};
 use std::alloc::Global;
 use std::test::Fail;
-
-/// Seven bytes of names, the last of which has no NUL among them, and a NUL behind.
-const TABLE: &[u8] = b"\xfe\xef\xfe\xef\x01\0\0\0\x07\0\0\0\0foo\0ba\0";
 
 /// A name that is not UTF-8.
 const BROKEN: &[u8] = b"\xfe\xef\xfe\xef\x02\0\0\0\x04\0\0\0f\xffo\0";
@@ -32,7 +30,7 @@ enum Answer {
 
 /// The bytes of tables, and what is answered.
 const ROWS: &[(&[u8], Answer)] = rows! {
-    TABLE, Answer::Parsed;
+    STRINGS, Answer::Parsed;
     BROKEN, Answer::Parsed;
     b"\xfe\xef\xfe\xef\x01\0\0\0\0\0\0\0", Answer::Parsed;
     b"\xfe\xef\xfe\xef\x01\0\0\0\x08\0\0\0\0foo\0ba\0", Answer::Parsed;
@@ -45,15 +43,15 @@ const ROWS: &[(&[u8], Answer)] = rows! {
     b"\xfe\xef\xfe\xef\x03\0\0\0\xff\xff\xff\xff\0foo\0ba\0", Answer::Refused(ENDS);
     b"\xfe\xef\xfe\xef\x03\0\0\0\x07\0\0\0\0foo\0ba\0", Answer::Refused(OTHER_VERSION);
     b"\xfe\xef\xfe\xef\0\0\0\0\0\0\0\0", Answer::Refused(OTHER_VERSION);
-    TABLE, Answer::Name(0, b"", "");
-    TABLE, Answer::Name(1, b"foo", "foo");
-    TABLE, Answer::Name(2, b"oo", "oo");
-    TABLE, Answer::Name(4, b"", "");
-    TABLE, Answer::Ends(5);
-    TABLE, Answer::Ends(6);
-    TABLE, Answer::Ends(7);
-    TABLE, Answer::Ends(8);
-    TABLE, Answer::Ends(0xffff_ffff);
+    STRINGS, Answer::Name(0, b"", "");
+    STRINGS, Answer::Name(1, b"foo", "foo");
+    STRINGS, Answer::Name(2, b"oo", "oo");
+    STRINGS, Answer::Name(4, b"", "");
+    STRINGS, Answer::Ends(5);
+    STRINGS, Answer::Ends(6);
+    STRINGS, Answer::Ends(7);
+    STRINGS, Answer::Ends(8);
+    STRINGS, Answer::Ends(0xffff_ffff);
     BROKEN, Answer::Name(0, b"f\xffo", "f\u{fffd}o");
 };
 

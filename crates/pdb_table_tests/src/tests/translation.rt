@@ -201,66 +201,6 @@ fn is_word(bytes: &[u8], want: SectionCharacteristics) -> bool {
         && SectionCharacteristics::new(want.bits()) == want
 }
 
-/// The masks of the tests of a word, from the lowest bit on.
-const FLAGS: [u32; 20] = [
-    0x20,
-    0x40,
-    0x80,
-    0x100,
-    0x200,
-    0x800,
-    0x1000,
-    0x4000,
-    0x8000,
-    0x2_0000,
-    0x4_0000,
-    0x8_0000,
-    0x100_0000,
-    0x200_0000,
-    0x400_0000,
-    0x800_0000,
-    0x1000_0000,
-    0x2000_0000,
-    0x4000_0000,
-    0x8000_0000,
-];
-
-/// What each test of a word answers, from the lowest bit on.
-fn flags_of(word: SectionCharacteristics) -> [bool; 20] {
-    [
-        word.executable(),
-        word.initialized_data(),
-        word.uninitialized_data(),
-        word.other(),
-        word.info(),
-        word.remove(),
-        word.comdat(),
-        word.defer_speculative_exceptions(),
-        word.global_pointer_relative(),
-        word.purgeable(),
-        word.locked(),
-        word.preload(),
-        word.lnk_nreloc_ovfl(),
-        word.discardable(),
-        word.not_cached(),
-        word.not_paged(),
-        word.shared(),
-        word.execute(),
-        word.read(),
-        word.write(),
-    ]
-}
-
-/// Whether the test of a word at this place alone answers yes.
-fn has_only(word: SectionCharacteristics, place: usize) -> bool {
-    for (other, set) in flags_of(word).iter().enumerate() {
-        if *set != (other == place) {
-            return false;
-        }
-    }
-    true
-}
-
 /// A query of a section or its characteristics, and its answer.
 enum SectionRow {
     /// A name as it is stored: as it reads.
@@ -347,9 +287,6 @@ fn is_so(alloc: Global, row: &SectionRow) -> Result<bool, Fail> {
 fn sections(rt: HostRuntime) -> Result<(), Fail> {
     assert!(rt; is_header(HEADER, &FIELDS) && ends_soon(&HEADER[..39]));
     assert!(rt; is_data(WORD) && is_word(&HEADER[36..], WORD));
-    for (place, mask) in FLAGS.iter().enumerate() {
-        assert!(rt; has_only(SectionCharacteristics(*mask), place), "{mask:x}");
-    }
     for (place, row) in SECTIONS.iter().enumerate() {
         assert!(rt; is_so(rt.alloc(), row)?, "row {place}");
     }

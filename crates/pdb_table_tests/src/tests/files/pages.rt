@@ -1,29 +1,8 @@
 //! Pages that are joined.
 
+use pdb_fixtures::{are_slices, pages_of};
 use pdb_msf::{PageList, SourceSlice};
-use std::alloc::Global;
 use std::test::Fail;
-
-/// Pages of 4096 bytes, added in turn.
-fn list_of(alloc: Global, pages: &[u32]) -> pdb_base::Result<PageList> {
-    let mut list = PageList::new(alloc, 4096);
-    for page in pages {
-        if !list.is_truncated() && list.len() < 0x10000 {
-            list.push(*page)?;
-        }
-    }
-    Ok(list)
-}
-
-/// Whether slices begin at these places and have these sizes.
-pub(crate) fn are_slices(slices: &[SourceSlice], want: &[(u64, usize)]) -> bool {
-    for (slice, (offset, size)) in slices.iter().zip(want) {
-        if slice.offset != *offset || slice.size != *size {
-            return false;
-        }
-    }
-    slices.len() == want.len()
-}
 
 /// Whether a list has so many bytes, in these slices, and is cut or not.
 fn is_list(list: &PageList, len: usize, slices: &[(u64, usize)], cut: bool) -> bool {
@@ -44,17 +23,6 @@ const JOINED: &[(&[u32], usize, &[(u64, usize)])] = rows! {
     &[0xffff_ffff, 0xffff_ffff], 8192, &[(LAST, 4096), (LAST, 4096)];
     &[0xffff_fffe, 0xffff_ffff, 0], 12288, &[(LAST - 4096, 8192), (0, 4096)];
 };
-
-/// Whether pages of 4096 bytes are joined into these slices, of so many bytes in all.
-fn joins(
-    alloc: Global,
-    pages: &[u32],
-    len: usize,
-    slices: &[(u64, usize)],
-) -> pdb_base::Result<bool> {
-    let list = list_of(alloc, pages)?;
-    Ok(is_list(&list, len, slices, false))
-}
 
 /// To how many bytes pages 0, 1, 4, 5, 2 and 2 are cut, one cut after another, how many are left,
 /// and in which slices.
@@ -77,11 +45,21 @@ fn are_cuts(mut list: PageList, cuts: &[(usize, usize, &[(u64, usize)])]) -> boo
     true
 }
 
+/// A part of a source, and parts that differ from it in their offset, in their size, and in both.
+const SLICE: SourceSlice = SourceSlice { offset: 1, size: 2 };
+
+const OTHERS: &[(u64, usize)] = &[(0x1_0000_0001, 2), (1, 0x1_0000_0002), (2, 1)];
+
 #[test]
 fn page_lists(rt: HostRuntime) -> Result<(), Fail> {
     for (pages, len, slices) in JOINED {
-        assert!(rt; joins(rt.alloc(), pages, *len, slices)?, "{pages:?}");
+        let list = pages_of(rt.alloc(), pages)?;
+        assert!(rt; is_list(&list, *len, slices, false), "{pages:?}");
     }
-    assert!(rt; are_cuts(list_of(rt.alloc(), &[0, 1, 4, 5, 2, 2])?, CUTS));
+    assert!(rt; are_cuts(pages_of(rt.alloc(), &[0, 1, 4, 5, 2, 2])?, CUTS));
+    for (offset, size) in OTHERS {
+        let (offset, size) = (*offset, *size);
+        assert!(rt; SLICE != SourceSlice { offset, size }, "{offset}, {size}");
+    }
     Ok(())
 }

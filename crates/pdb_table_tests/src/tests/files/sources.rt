@@ -1,8 +1,7 @@
-//! Sources, also those that note and fail.
+//! Sources, also one that notes its views.
 
-use super::{Made, STREAM_1, answers, are_views, bytes_in, bytes_of};
-use pdb_base::Error;
-use pdb_fixtures::{Failing, Noting, s1};
+use super::{are_views, bytes_in};
+use pdb_fixtures::{Noting, s1, with_bytes};
 use pdb_msf::{BigMSF, Msf, ReadView, Source, SourceSlice, SourceView, open_msf};
 use std::alloc::Global;
 use std::io;
@@ -45,12 +44,6 @@ const OF_TWO_BYTES: Views = rows! {
     &[slice!(u64::MAX, 2)], None;
 };
 
-/// Sources, and views of them.
-const SOURCES: &[(&str, Made, Views)] = rows! {
-    "six bytes", Made::Filled(b"abcdef", 6), OF_SIX_BYTES;
-    "two bytes that are not 0", Made::Zeros(4096, &[(42, 42), (88, 88)]), OF_TWO_BYTES;
-};
-
 /// Whether a view has these bytes, or fails because the source ends too soon if there are none.
 fn is_view(view: io::Result<ReadView>, want: Option<&[u8]>) -> bool {
     match want {
@@ -70,18 +63,23 @@ fn sees<S: Source>(alloc: Global, source: &mut S, views: Views) -> bool {
 }
 
 /// Whether the views of bytes are these, owned and borrowed.
-fn are_seen(alloc: Global, source: &Made, views: Views) -> pdb_base::Result<bool> {
-    let mut owned = bytes_of(alloc, source)?;
-    let seen = sees(alloc, &mut owned, views);
-    Ok(seen && sees(alloc, &mut owned.as_slice(), views))
+fn are_seen(alloc: Global, mut owned: Vec<u8>, views: Views) -> bool {
+    sees(alloc, &mut owned, views) && sees(alloc, &mut owned.as_slice(), views)
 }
 
 #[test]
 fn views(rt: HostRuntime) -> Result<(), Fail> {
-    for (name, source, views) in SOURCES {
-        assert!(rt; are_seen(rt.alloc(), source, views)?, "{name}");
-    }
-    let view = ReadView::new(Vec::from_slice(rt.alloc(), b"xy")?);
+    let alloc = rt.alloc();
+    assert!(rt; are_seen(alloc, Vec::from_slice(alloc, b"abcdef")?, OF_SIX_BYTES));
+    let zeros = vec![in alloc; 0; 4096]?;
+    assert!(rt;
+        are_seen(
+            alloc,
+            with_bytes(zeros, &[(42, 42), (88, 88)]),
+            OF_TWO_BYTES
+        )
+    );
+    let view = ReadView::new(Vec::from_slice(alloc, b"xy")?);
     assert!(rt; view.as_slice() == b"xy".as_slice());
     Ok(())
 }
@@ -141,48 +139,5 @@ fn noted_views(rt: HostRuntime) -> Result<(), Fail> {
     let mut file = open_msf(alloc, Noting::new(alloc, s1(alloc)?))?;
     assert!(rt; asks_in_turn(alloc, &mut file));
     assert!(rt; are_views(file.source().notes(), NOTED));
-    Ok(())
-}
-
-/// S1 behind a source whose view of this number fails with this kind.
-fn failing(alloc: Global, n: u64, kind: ErrorKind) -> pdb_base::Result<Failing> {
-    let file = s1(alloc)?;
-    Ok(if kind == ErrorKind::Other {
-        Failing::new(file, n)
-    } else {
-        Failing::denying(file, n)
-    })
-}
-
-/// Whether a call fails with an error of the source of this kind.
-fn is_fault<T: Drop>(answer: pdb_base::Result<T>, kind: ErrorKind) -> bool {
-    matches!(answer, Err(Error::IoError(error)) if error.kind() == kind)
-}
-
-/// Whether reading stream 1 fails with an error of the source of this kind, which leaves the file
-/// located or not, and the next call reads the whole stream.
-fn recovers(alloc: Global, mut file: BigMSF<Failing>, kind: ErrorKind, located: bool) -> bool {
-    let refused = is_fault(file.get(alloc, 1, None), kind);
-    let stays = file.located() == located;
-    let again = answers(file.get(alloc, 1, None), &STREAM_1);
-    refused && stays && again && file.located()
-}
-
-/// Whether a file recovers when this view fails. The directory is located by the third.
-fn recovers_from(alloc: Global, n: u64, kind: ErrorKind) -> pdb_base::Result<bool> {
-    let file = open_msf(alloc, failing(alloc, n, kind)?)?;
-    Ok(recovers(alloc, file, kind, n > 3))
-}
-
-#[test]
-fn failing_views(rt: HostRuntime) -> Result<(), Fail> {
-    let alloc = rt.alloc();
-    for kind in [ErrorKind::Other, ErrorKind::PermissionDenied] {
-        for n in 2..5u64 {
-            assert!(rt; recovers_from(alloc, n, kind)?, "view {n}, {kind:?}");
-        }
-        let refused = failing(alloc, 1, kind)?;
-        assert!(rt; is_fault(open_msf(alloc, refused), kind), "{kind:?}");
-    }
     Ok(())
 }

@@ -4,16 +4,12 @@
 ghost use Rattle.pdb_fixtures.specs.Failing.{state_of};
 
 use super::{Note, are_views, bytes_in};
-use pdb_base::Error;
-use pdb_fixtures::Failing;
+use pdb_fixtures::{Failing, GONE, is_gone};
 use pdb_msf::{BigMSF, Msf, ReadView, Source, SourceSlice, open_msf};
 use std::alloc::{AllocError, Global};
 use std::io;
 use std::io::ErrorKind;
 use std::test::Fail;
-
-/// The text of each error of a source.
-const GONE: &str = "the disk is gone";
 
 /// A source of which one view fails, and which notes each view, the failed one too. Its errors have
 /// a text of their own.
@@ -24,9 +20,9 @@ pub(crate) struct Watched<'n> {
 }
 
 impl<'n> Watched<'n> {
-    /// The source of these bytes whose view of this number fails, or none if the number is 0.
+    /// The source of these bytes whose view of this number is denied, or none if the number is 0.
     pub(crate) fn new(bytes: Vec<u8>, n: u64, notes: &'n mut Vec<Note>) -> Self {
-        let source = Failing::denying(bytes, n);
+        let source = Failing::of_kind(bytes, n, ErrorKind::PermissionDenied);
         Watched { source, notes }
     }
 }
@@ -160,43 +156,6 @@ const ROWS: &[Row] = rows! {
     Ended, FAILED_2, true, &[OPENING, LOCATION, OF_DIRECTORY, OF_STREAM_2];
 };
 
-/// A watched source of which one view is interrupted.
-#[derive(Drop)]
-struct InterruptedSource<'n>(Watched<'n>);
-
-impl<'n> Source for InterruptedSource<'n> {
-    ghost use Rattle.std.specs.Prelude.{Some};
-    ghost use Rattle.std.specs.declared.io.ErrorKind.TheVariants.{Interrupted};
-
-    ghost state = { λ source. record (state_of source.0.source) { last_fault = Some Interrupted } };
-
-    fn view(&mut self, alloc: Global, slices: &[SourceSlice]) -> io::Result<ReadView> {
-        match self.0.view(alloc, slices) {
-            Ok(view) => Ok(view),
-            Err(error) => match error.kind() {
-                ErrorKind::UnexpectedEof | ErrorKind::OutOfMemory => Err(error),
-                _ => Err(io::Error::new(ErrorKind::Interrupted, GONE)),
-            },
-        }
-    }
-}
-
-/// Whether an error is that of the source, with this kind and its text unchanged.
-fn is_fault(alloc: Global, error: &Error, kind: ErrorKind) -> bool {
-    match error {
-        Error::IoError(fault) => {
-            fault.kind() == kind
-                && matches!(fault.to_string(alloc), Ok(text) if text.as_str() == GONE)
-        }
-        _ => false,
-    }
-}
-
-/// Whether an error is that of the source, with its kind and its text unchanged.
-pub(crate) fn is_gone(alloc: Global, error: &Error) -> bool {
-    is_fault(alloc, error, ErrorKind::PermissionDenied)
-}
-
 /// Whether a call answers so many bytes, or the error of the source, which is of this kind.
 fn answers(
     alloc: Global,
@@ -206,7 +165,7 @@ fn answers(
 ) -> bool {
     match (answer, want) {
         (Ok(stream), Some(len)) => stream.as_slice().len() == len,
-        (Err(error), None) => is_fault(alloc, &error, kind),
+        (Err(error), None) => is_gone(alloc, &error, kind),
         _ => false,
     }
 }
@@ -235,52 +194,34 @@ fn ask_case<S: Source + Drop>(
     kind: ErrorKind,
 ) -> (bool, Option<u64>) {
     let (_, calls, is_consumed, _) = row;
-    match open_msf(alloc, source) {
-        Err(error) => (is_fault(alloc, &error, kind), Some(0)),
-        Ok(file) if *is_consumed => match calls {
-            [(number, limit, want)] => {
-                (
-                    answers(alloc, file.into_stream(alloc, *number, *limit), *want, kind),
-                    None,
-                )
-            }
-            _ => (false, None),
-        },
-        Ok(mut file) => (
+    match (open_msf(alloc, source), calls) {
+        (Err(error), _) => (is_gone(alloc, &error, kind), Some(0)),
+        (Ok(file), [(number, limit, want)]) if *is_consumed => {
+            let answer = file.into_stream(alloc, *number, *limit);
+            (answers(alloc, answer, *want, kind), None)
+        }
+        (Ok(mut file), _) => (
             answers_each(alloc, &mut file, calls, kind),
             Some(file.asked()),
         ),
     }
 }
 
-/// Asks the calls of a case over the source that fails so.
-fn ask_failing(
-    alloc: Global,
-    row: &Row,
-    notes: &mut Vec<Note>,
-) -> pdb_base::Result<(bool, Option<u64>)> {
+/// The file as a source that fails so, and the kind of its error.
+fn failing(alloc: Global, fault: &Fault) -> pdb_base::Result<(Failing, ErrorKind)> {
     let mut bytes = file(alloc)?;
-    Ok(match row.0 {
-        Denied(n) => {
-            ask_case(
-                alloc,
-                Watched::new(bytes, n, notes),
-                row,
-                ErrorKind::PermissionDenied,
-            )
-        }
-        Interrupted(n) => {
-            let source = InterruptedSource(Watched::new(bytes, n, notes));
-            ask_case(alloc, source, row, ErrorKind::Interrupted)
-        }
+    Ok(match fault {
+        Denied(n) => (
+            Failing::of_kind(bytes, *n, ErrorKind::PermissionDenied),
+            ErrorKind::PermissionDenied,
+        ),
+        Interrupted(n) => (
+            Failing::of_kind(bytes, *n, ErrorKind::Interrupted),
+            ErrorKind::Interrupted,
+        ),
         Ended => {
             bytes.truncate(12 * PAGE_SIZE + 1);
-            ask_case(
-                alloc,
-                Watched::new(bytes, 0, notes),
-                row,
-                ErrorKind::UnexpectedEof,
-            )
+            (Failing::new(bytes, 0), ErrorKind::UnexpectedEof)
         }
     })
 }
@@ -289,7 +230,12 @@ fn ask_failing(
 /// all views but the first.
 fn is_row(alloc: Global, row: &Row) -> pdb_base::Result<bool> {
     let mut notes = Vec::new(alloc);
-    let (are_answered, counted) = ask_failing(alloc, row, &mut notes)?;
+    let (source, kind) = failing(alloc, &row.0)?;
+    let source = Watched {
+        source,
+        notes: &mut notes,
+    };
+    let (are_answered, counted) = ask_case(alloc, source, row, kind);
     let viewed = bytes_in(&notes);
     Ok(are_answered && counted.unwrap_or(viewed) == viewed && are_views(&notes, row.3))
 }

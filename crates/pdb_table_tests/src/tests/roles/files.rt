@@ -1,19 +1,13 @@
 //! What a file says by the roles and the names of its streams.
 
-use super::super::is_error;
 use pdb_base::{Error, FallibleIterator, Result as Answer};
 use pdb_file::PDB;
-use pdb_fixtures::file_of;
-use pdb_fixtures::roles::{
-    FROM_SOURCE, INFORMATION, NAMES, NONE, OLD_FRAME, ORIGINAL, SECTIONS, TO_SOURCE, debug_of,
-};
+use pdb_fixtures::is_error;
+use pdb_fixtures::roles::{Frames, NAMES, NONE, file_with};
 use pdb_frames::FrameDataIter;
 use pdb_space::{AddressMap, PdbInternalRva, Rva, StringRef};
 use std::alloc::Global;
 use std::test::Fail;
-
-/// A frame of the newer format, from 0x20 on.
-const NEW_FRAME: &[u8] = b"\x20\0\0\0\x04\0\0\0\0\0\0\0\0\0\0\0\0\0\0\0\0\0\0\0\0\0\0\0\0\0\0\0";
 
 /// The streams of some roles. The others have none.
 #[derive(Drop)]
@@ -86,21 +80,7 @@ fn numbers(roles: &Roles) -> [u16; 11] {
 
 /// The bytes of a file of eleven streams with these roles, of which stream 2 is absent.
 pub(crate) fn bytes_of(alloc: Global, roles: &Roles) -> Answer<Vec<u8>> {
-    let debug = debug_of(alloc, &numbers(roles))?;
-    let streams = [
-        Some(b"".as_slice()),
-        Some(INFORMATION),
-        None,
-        Some(debug.as_slice()),
-        Some(NAMES),
-        Some(ORIGINAL),
-        Some(SECTIONS),
-        Some(TO_SOURCE),
-        Some(FROM_SOURCE),
-        Some(OLD_FRAME),
-        Some(NEW_FRAME),
-    ];
-    file_of(alloc, &streams)
+    file_with(alloc, &numbers(roles), &[], Frames::Both)
 }
 
 /// A file with these roles.

@@ -4,6 +4,7 @@ use super::super::stream;
 use super::front;
 use pdb_base::{Error, Result as Answer, Stream, StreamIndex};
 use pdb_file::{DBIExtraStreams, DBIHeader};
+use pdb_fixtures::is_error;
 use std::alloc::Global;
 use std::test::Fail;
 
@@ -133,15 +134,13 @@ fn has_second() -> bool {
     matches!(answer, Ok(roles) if roles.fpo.is_none() && roles.exception == StreamIndex(0xfffe))
 }
 
-/// Whether an error says that the format is the oldest one.
-fn is_ancient(error: &Error) -> bool {
-    matches!(error, Error::UnimplementedFeature(feature) if *feature == "ancient DBI header")
-}
+/// The error of a stream of the oldest format.
+const REFUSED: Error = Error::UnimplementedFeature("ancient DBI header");
 
-/// Whether the error of a stream is that it is of the oldest format.
+/// Whether that is the error of a stream.
 fn is_refused(stream: &Stream) -> bool {
-    let header = matches!(DBIHeader::parse(stream), Err(error) if is_ancient(&error));
-    header && matches!(DBIExtraStreams::new(stream), Err(error) if is_ancient(&error))
+    matches!(DBIHeader::parse(stream), Err(error) if is_error(&error, &REFUSED))
+        && matches!(DBIExtraStreams::new(stream), Err(error) if is_error(&error, &REFUSED))
 }
 
 /// Streams that are as old as that.

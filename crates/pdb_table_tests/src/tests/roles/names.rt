@@ -1,9 +1,10 @@
 //! The header of stream 1, and the names of streams.
 
-use super::super::{is_error, stream};
+use super::super::stream;
 use super::front;
 use pdb_base::{Error, RawString, Result as Answer, StreamIndex};
 use pdb_file::{PDBInformation, StreamName, StreamNames};
+use pdb_fixtures::is_error;
 use std::alloc::Global;
 use std::test::Fail;
 

@@ -2,14 +2,15 @@
 //! that of the first fault, and never `OutOfMemory`, since there is plenty of memory. Calls over a
 //! source that fails: the error is the source's own.
 
-use super::super::files::watched::{Watched, is_gone};
-use super::super::is_error;
+use super::super::files::watched::Watched;
 use super::files::{Roles, bytes_of};
 use pdb_base::Error;
 use pdb_file::PDB;
 use pdb_fixtures::roles::NONE;
+use pdb_fixtures::{is_error, is_gone, with_bytes};
 use pdb_msf::Source;
 use std::alloc::Global;
+use std::io::ErrorKind;
 use std::test::Fail;
 
 /// A call.
@@ -76,19 +77,11 @@ fn is_refused(alloc: Global, file: &mut PDB<Vec<u8>>, call: &Call, want: &Error)
     matches!(error_of(alloc, file, call), Some(error) if is_error(&error, want))
 }
 
-/// A file with a byte set to another.
-fn change_byte(alloc: Global, place: usize, byte: u8) -> Result<PDB<Vec<u8>>, Fail> {
-    let mut bytes = bytes_of(alloc, &Roles::Frames([NONE, NONE]))?;
-    if let Some(at) = bytes.get_mut(place) {
-        *at = byte;
-    }
-    Ok(PDB::open(alloc, bytes)?)
-}
-
 /// Whether a call fails so, and once more so.
 fn is_row(alloc: Global, row: &(usize, u8, Call, Error)) -> Result<bool, Fail> {
     let (place, byte, call, want) = row;
-    let mut file = change_byte(alloc, *place, *byte)?;
+    let bytes = bytes_of(alloc, &Roles::Frames([NONE, NONE]))?;
+    let mut file = PDB::open(alloc, with_bytes(bytes, &[(*place, *byte)]))?;
     let once = is_refused(alloc, &mut file, call, want);
     Ok(once && is_refused(alloc, &mut file, call, want))
 }
@@ -106,17 +99,20 @@ const VIEWED: &[(Roles, Call, u64)] = &[
     (Roles::Frames([9, 10]), Call::Frames, 6),
 ];
 
+/// The kind of the error of the source.
+const DENIED: ErrorKind = ErrorKind::PermissionDenied;
+
 /// Whether a file isn't opened where the first view fails, with the error of the source.
 fn is_unopened(alloc: Global) -> Result<bool, Fail> {
     let mut notes = Vec::new(alloc);
     let bytes = bytes_of(alloc, &Roles::Frames([NONE, NONE]))?;
     let opened = PDB::open(alloc, Watched::new(bytes, 1, &mut notes));
-    Ok(matches!(opened, Err(error) if is_gone(alloc, &error)))
+    Ok(matches!(opened, Err(error) if is_gone(alloc, &error, DENIED)))
 }
 
 /// Whether a call for a file fails with the error of the source.
 fn is_failed<S: Source>(alloc: Global, file: &mut PDB<S>, call: &Call) -> bool {
-    matches!(error_of(alloc, file, call), Some(error) if is_gone(alloc, &error))
+    matches!(error_of(alloc, file, call), Some(error) if is_gone(alloc, &error, DENIED))
 }
 
 /// Whether a call fails where the view of this number does, and then no more.
