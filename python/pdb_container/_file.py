@@ -171,7 +171,8 @@ class AddressMap(_Ranges):
     """The address map of a file: its sections, and the OMAP tables of a tool that rearranged the image."""
 
     def __init__(self, lent: Lent):
-        self._map = Opened(library().pdb_bytes_addresses, lent.at, lent.length)
+        with lent as place:
+            self._map = Opened(library().pdb_bytes_addresses, *place)
 
     def _translate(self, form: AddressForm, section: int, offset: int) -> Translation:
         numbers = unsigned(section, 16), unsigned(offset)
@@ -212,7 +213,8 @@ class Frames:
     """The frame table of a file, of both formats."""
 
     def __init__(self, lent: Lent):
-        self._table = Opened(library().pdb_bytes_frames, lent.at, lent.length)
+        with lent as place:
+            self._table = Opened(library().pdb_bytes_frames, *place)
 
     def at(self, address: int) -> Optional[Frame]:
         """The first frame from an address of the original image on: the one at the address, or else the first above."""
@@ -291,34 +293,68 @@ class Streams(Sequence[Stream]):
             number += self._count
         if not 0 <= number < self._count:
             raise IndexError("the file has no stream of this number")
-        self._pdb._open()
+        return Stream(self._pdb, number, self._pdb._source.size(number))
+
+
+class _Source:
+    """The bytes of a file, and its directory."""
+
+    def __init__(self, data: Buffer):
+        self.lent = Lent(data)
         try:
-            size: Optional[int] = written(c_uint32, library().pdb_file_stream_size, self._pdb._file.handle, number).value
-        except PdbError as error:
-            if error.status != Status.STREAM_NOT_FOUND:
-                raise
-            size = None
-        return Stream(self._pdb, number, size)
+            with self.lent as place:
+                self._file = Opened(library().pdb_bytes_open, *place)
+        except BaseException:
+            self.lent.release()
+            raise
+        self.page_size: int = written(c_uint32, library().pdb_file_page_size, self._file.handle).value
+        self.stream_count: int = written(c_uint32, library().pdb_file_stream_count, self._file.handle).value
+
+    def close(self) -> None:
+        """Gives the bytes back, and forgets the types."""
+        self.lent.release()
+        self._file.close()
+        self.__dict__.pop("types", None)
+
+    def size(self, number: int) -> Optional[int]:
+        """The size of a stream, None if it is absent."""
+        with self.lent:
+            try:
+                size: int = written(c_uint32, library().pdb_file_stream_size, self._file.handle, number).value
+                return size
+            except PdbError as error:
+                if error.status != Status.STREAM_NOT_FOUND:
+                    raise
+                return None
+
+    def read(self, number: int, limit: Optional[int] = None) -> Room:
+        """The bytes of a stream."""
+        most = 2**64 - 1 if limit is None else unsigned(limit, 64)
+        with self.lent as place:
+            return items(c_uint8, library().pdb_bytes_stream, self._file.handle, *place, unsigned(number), most, stream=number)
+
+    @cached_property
+    def types(self) -> Types:
+        """The table of types."""
+        room = self.read(TYPES)
+        return Types(_view(room), room)
 
 
 class Pdb:
     """A program database over the bytes of any object that has a buffer, which are not copied."""
 
     def __init__(self, data: Buffer):
-        self._mapping: Optional[mmap.mmap] = None
-        self._lent: Optional[Lent] = Lent(data)
-        try:
-            self._file = Opened(library().pdb_bytes_open, self._lent.at, self._lent.length)
-        except BaseException:
-            self._lent.release()
-            raise
-        self.page_size: int = written(c_uint32, library().pdb_file_page_size, self._file.handle).value
-        self._stream_count: int = written(c_uint32, library().pdb_file_stream_count, self._file.handle).value
+        self._source = _Source(data)
+
+    @property
+    def page_size(self) -> int:
+        """The size of its pages in bytes."""
+        return self._source.page_size
 
     @property
     def streams(self) -> "Streams":
         """The streams, by their numbers."""
-        return Streams(self, self._stream_count)
+        return Streams(self, self._source.stream_count)
 
     def __enter__(self) -> "Pdb":
         return self
@@ -329,38 +365,18 @@ class Pdb:
     def close(self) -> None:
         """Gives the bytes back to whom they belong, and forgets the tables. A table that the caller still has stays as it
         is. Closing again does nothing."""
-        if self._lent is None:
-            return
-        self._file.close()
-        self._lent.release()
-        self._lent = None
+        self._source.close()
         for name in _KEPT & self.__dict__.keys():
-            del self.__dict__[name]
-        if self._mapping is not None:
-            self._mapping.close()
-
-    def _open(self) -> Lent:
-        if self._lent is None:
-            raise ValueError("the program database is closed")
-        return self._lent
-
-    def _bytes(self) -> Tuple[int, int]:
-        lent = self._open()
-        return lent.at, lent.length
-
-    def _read(self, number: int, limit: Optional[int] = None) -> Room:
-        most = 2**64 - 1 if limit is None else unsigned(limit, 64)
-        words = self._file.handle, *self._bytes(), unsigned(number), most
-        return items(c_uint8, library().pdb_bytes_stream, *words, stream=number)
+            self.__dict__.pop(name, None)
 
     def _in_role(self, role: str) -> Tuple[Optional[int], Room, memoryview]:
         number = getattr(self.roles, role)
-        room = None if number is None else self._read(number)
+        room = None if number is None else self._source.read(number)
         return number, room, _view(room) if room is not None else memoryview(b"")
 
     def stream(self, number: int, limit: Optional[int] = None) -> memoryview:
         """The bytes of a stream, at most `limit` of them."""
-        return _view(self._read(number, limit))
+        return _view(self._source.read(number, limit))
 
     def named_stream(self, name: Union[str, bytes]) -> memoryview:
         """The bytes of the first stream with this name, such as `/names`."""
@@ -368,23 +384,27 @@ class Pdb:
 
     def _named(self, name: Union[str, bytes]) -> Room:
         word = name.encode() if isinstance(name, str) else bytes(name)
-        return items(c_uint8, library().pdb_bytes_named_stream, *self._bytes(), word, len(word))
+        with self._source.lent as place:
+            return items(c_uint8, library().pdb_bytes_named_stream, *place, word, len(word))
 
     @cached_property
     def information(self) -> Information:
         """The numbers in stream 1, which identify the file."""
-        it = written(_sys.Information, library().pdb_bytes_information, *self._bytes())
+        with self._source.lent as place:
+            it = written(_sys.Information, library().pdb_bytes_information, *place)
         return Information(it.version, it.signature, it.age, uuid.UUID(bytes_le=bytes(it.guid)))
 
     @cached_property
     def identity(self) -> Identity:
         """What identifies the file, and its key."""
-        return identity_of(*self._bytes())
+        with self._source.lent as place:
+            return identity_of(*place)
 
     @cached_property
     def named_streams(self) -> Dict[str, Optional[int]]:
         """The number of the first stream of each name, None if the file gives none, in the file's order."""
-        found = named_items(_sys.NamedStream, library().pdb_bytes_stream_names, *self._bytes())
+        with self._source.lent as place:
+            found = named_items(_sys.NamedStream, library().pdb_bytes_stream_names, *place)
         rows, count, names = found or ([], 0, bytearray())
         streams: Dict[str, Optional[int]] = {}
         at = 0
@@ -397,21 +417,21 @@ class Pdb:
     @cached_property
     def roles(self) -> Roles:
         """The numbers of the streams in eleven roles."""
-        it = written(_sys.Roles, library().pdb_bytes_roles, *self._bytes())
+        with self._source.lent as place:
+            it = written(_sys.Roles, library().pdb_bytes_roles, *place)
         numbers = {field.name: getattr(it, field.name) for field in fields(Roles)}
         return Roles(**{name: None if number == NO_STREAM else number for name, number in numbers.items()})
 
-    @cached_property
+    @property
     def types(self) -> Types:
         """The table of types, which is stream 2."""
-        room = self._read(TYPES)
-        return Types(_view(room), room)
+        return self._source.types
 
     @cached_property
     def ids(self) -> Ids:
         """The table of ids, which is stream 4."""
-        room = self._read(IDS)
-        return Ids(_view(room), room)
+        room, source = self._source.read(IDS), self._source
+        return Ids(_view(room), room, lambda: source.types)
 
     @cached_property
     def names(self) -> Names:
@@ -453,12 +473,12 @@ class Pdb:
     @cached_property
     def address_map(self) -> AddressMap:
         """The sections, and the OMAP tables of a tool that rearranged the image."""
-        return AddressMap(self._open())
+        return AddressMap(self._source.lent)
 
     @cached_property
     def frames(self) -> Frames:
         """The frame table."""
-        return Frames(self._open())
+        return Frames(self._source.lent)
 
 
 # What a file keeps once it was asked for.
@@ -475,12 +495,9 @@ def open(path: "Union[str, bytes, os.PathLike[str], os.PathLike[bytes]]") -> Pdb
         # Only what has a size can be mapped: no empty file, and no pipe.
         size = os.fstat(file.fileno()).st_size
         data = mmap.mmap(file.fileno(), 0, access=mmap.ACCESS_READ) if size else file.read()
-    mapping = data if isinstance(data, mmap.mmap) else None
     try:
-        pdb = Pdb(data)
+        return Pdb(data)
     except BaseException:
-        if mapping is not None:
-            mapping.close()
+        if isinstance(data, mmap.mmap):
+            data.close()
         raise
-    pdb._mapping = mapping
-    return pdb

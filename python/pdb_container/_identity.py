@@ -45,7 +45,6 @@ def identity_of(*place: int) -> Identity:
 def format_of(data: Buffer) -> Format:
     """What a file is that begins with these bytes. The first 42 bytes decide."""
     lent = Lent(data)
-    try:
-        return Format(library().pdb_format_of(lent.at, lent.length))
-    finally:
+    with lent as place:
         lent.release()
+        return Format(library().pdb_format_of(*place))
