@@ -2,23 +2,28 @@
 
 from ctypes import c_uint8, c_uint32
 from enum import IntEnum
-from typing import TYPE_CHECKING, ClassVar, Dict, List, Optional
+from typing import TYPE_CHECKING, Dict, List, Optional
 
 from ._library import library
-from ._rows import HAS, SHAPE, Number, Raw, Record, number, optional
+from ._rows import HAS, SHAPE, Getter, Number, Record, number, optional
 from ._sys import IdShape
 from ._types import Type
 
 if TYPE_CHECKING:
     from ._tables import Ids
 
+_SHAPES = list(IdShape)
+
 
 def _type(about: str, header_name: str = "") -> Number[Type]:
-    return Number(about, header_name, lambda place, _: lambda it: it._table.types[it._raw[place]], False)
+    return Number(about, Type, lambda place, _: lambda it: it._table.types[it._raw[place]], header_name, False)
 
 
 def _optional_id(about: str, header_name: str = "") -> "Number[Optional[Id]]":
-    return Number(about, header_name, lambda place, bit: lambda it: it._table[it._raw[place]] if it._raw[HAS] & bit else None, False)
+    def reader(place: int, bit: int) -> Getter:
+        return lambda it: it._table[it._raw[place]] if it._raw[HAS] & bit else None
+
+    return Number(about, "Optional[Id]", reader, header_name, False)
 
 
 class Id(Record):
@@ -27,12 +32,15 @@ class Id(Record):
 
     __slots__ = ()
     _table: "Ids"
-    shape: ClassVar[Optional[IdShape]] = None
 
     @classmethod
     def _register(cls, shape: IntEnum) -> None:
-        cls.shape = IdShape(shape)
-        IDS[shape] = cls
+        CLASSES[shape] = cls
+
+    @property
+    def shape(self) -> Optional[IdShape]:
+        """What shape it has, None if its record can't be read."""
+        return None if self._raw[3] else _SHAPES[self._raw[SHAPE]]
 
     @property
     def name(self) -> Optional[str]:
@@ -46,7 +54,7 @@ class Id(Record):
         return list(self._items(c_uint32, library().pdb_id_list) or ())
 
 
-IDS: "Dict[int, type[Id]]" = {}  # the class of each shape
+CLASSES: "Dict[int, type[Id]]" = {}  # the class of each shape
 
 
 class UnreadableId(Id):
@@ -149,8 +157,3 @@ class UdtSource(Id, shape=IdShape.TYPE_SOURCE):
     file = _optional_id("The id of the source's name, if that is an id.", "file_id")
     file_name_offset = optional("The offset of the source's name in the string table, if it is there.", "file_name")
     module = optional("The number of the module, if the name is in the string table.")
-
-
-def id_of(table: "Ids", raw: Raw) -> Id:
-    """The id of a record that was read, or could not be."""
-    return (UnreadableId if raw[3] else IDS[raw[SHAPE]])(table, raw)

@@ -28,40 +28,43 @@ def raw_of(row: _sys.Row) -> Raw:
     return _ROW.unpack(row)
 
 
-class Number(Generic[_T_co]):
-    """A number of a row, by the name that it has in the header or by one of a class of records. It becomes a property."""
+# The bit that says whether a row has the number of a place.
+_BITS = {place: int(Has[name.upper()]) for name, place in NUMBERS["row"].items()}
 
-    def __init__(self, about: str, header_name: str, getter: Callable[[int, int], Getter], is_shown: bool = True):
-        self.about, self.header_name, self.getter, self.is_shown = about, header_name, getter, is_shown
+
+class Number(Generic[_T_co]):
+    """What a number of a record says, which becomes a property: its type, and what reads it, given its place and its bit. The
+    place is that of its name in the header, which may have `_index` behind it here."""
+
+    def __init__(self, about: str, kind: Any, reader: Callable[[int, int], Getter], header_name: str = "", is_shown: bool = True):
+        self.about, self.kind, self.reader, self.header_name, self.is_shown = about, kind, reader, header_name, is_shown
 
     if TYPE_CHECKING:
 
         def __get__(self, it: object, owner: object = None) -> _T_co: ...
 
-    def property_of(self, name: str, places: Dict[str, int]) -> property:
+    def property_of(self, cls: "Type[Row]", name: str, places: Dict[str, int]) -> property:
         """The property of this name, by the places of the numbers of its record."""
-        name = self.header_name or (name if name in places else name[: -len("_index")])
-        place = places[name]
-        return property(self.getter(place - NUMBERS_OF_A_ROW, _BITS[place]), doc=self.about)
-
-
-# The bit that says whether a row has the number of a place.
-_BITS = {place: int(Has[name.upper()]) for name, place in NUMBERS["row"].items()}
+        known = self.header_name or (name if name in places else name[: -len("_index")])
+        read = self.reader(places[known] - NUMBERS_OF_A_ROW, _BITS[places[known]])
+        read.__name__, read.__qualname__, read.__module__ = name, f"{cls.__name__}.{name}", cls.__module__
+        read.__doc__, read.__annotations__ = self.about, {"return": self.kind}
+        return property(read)
 
 
 def number(about: str, header_name: str = "") -> Number[int]:
     """A number that each record of the shape has."""
-    return Number(about, header_name, lambda place, _: lambda it: it._raw[place])
+    return Number(about, int, lambda place, _: lambda it: it._raw[place], header_name)
 
 
-def number_as(kind: Callable[[int], _T], about: str, header_name: str = "") -> Number[_T]:
+def number_as(kind: Callable[[int], _T]) -> Callable[[str], Number[_T]]:
     """A number that each record of the shape has, as another type such as that of its flags."""
-    return Number(about, header_name, lambda place, _: lambda it: kind(it._raw[place]))
+    return lambda about: Number(about, kind, lambda place, _: lambda it: kind(it._raw[place]))
 
 
 def optional(about: str, header_name: str = "") -> Number[Optional[int]]:
     """A number that only some records have, None in the others."""
-    return Number(about, header_name, lambda place, bit: lambda it: it._raw[place] if it._raw[HAS] & bit else None)
+    return Number(about, Optional[int], lambda place, bit: lambda it: it._raw[place] if it._raw[HAS] & bit else None, header_name)
 
 
 class Row:
@@ -132,7 +135,7 @@ def _name_numbers(cls: Type[Row], places: Dict[str, int]) -> None:
     """Makes the properties of a class of the numbers that its body names."""
     named = {name: it for name, it in vars(cls).items() if isinstance(it, Number)}
     for name, it in named.items():
-        setattr(cls, name, it.property_of(name, places))
+        setattr(cls, name, it.property_of(cls, name, places))
     cls._shown = (*cls._shown, *(name for name, it in named.items() if it.is_shown))
 
 
@@ -144,7 +147,7 @@ class Record(Row):
 
     __slots__ = ("_table",)
     _table: Any  # the table, which finds the types and ids to which the record refers
-    _shown = ("index",)
+    _shown: ClassVar[Tuple[str, ...]] = ("index",)
 
     def __init__(self, table: Any, raw: Raw):
         self._table, self._raw = table, raw

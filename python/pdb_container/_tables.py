@@ -3,13 +3,13 @@
 from ctypes import Array, addressof, byref, c_size_t, c_uint8, c_uint32
 from typing import Callable, Iterator, List, Optional, Tuple, Union, overload
 
-from . import _sys
-from ._ids import Id, id_of
+from . import _ids, _sys
+from ._ids import Id, UnreadableId
 from ._layouts import Definitions, Layout
 from ._library import Opened, PdbError, library, named_items, unsigned, value, written
 from ._rows import FIELD, NOTHING, TYPE, raw_of
 from ._sys import Fault, Status, StreamNumber
-from ._types import CLASSES, FIELDS, FIRST_RECORD, Field, Type, Unreadable, UserDefinedType, type_of
+from ._types import CLASSES, FIELDS, FIRST_RECORD, NO_SHAPE, Field, Method, Type, UserDefinedType
 
 TYPES, IDS = int(StreamNumber.TYPES_STREAM), int(StreamNumber.IDS_STREAM)  # the streams of both tables
 BATCH = 512  # the records that a walk takes from the library at a time
@@ -51,7 +51,7 @@ class Types:
             while status == Status.OK:
                 status = call(handle, room, BATCH, byref(count), byref(fault))
                 for raw in TYPE.iter_unpack(whole[: count.value * size]):
-                    yield (Unreadable if raw[3] else CLASSES[raw[6]])(self, raw)
+                    yield CLASSES[NO_SHAPE if raw[3] else raw[6]](self, raw)
         finally:
             self._walks.append(walk)
         if status != Status.END:
@@ -80,12 +80,12 @@ class Types:
             if error.status == Status.TYPE_NOT_FOUND:
                 raise KeyError(key) from None
             raise
-        return type_of(self, (key, offset, length, 0, 0, 0, *raw_of(row)))
+        return CLASSES[row.shape](self, (key, offset, length, 0, 0, 0, *raw_of(row)))
 
     def __contains__(self, key: object) -> bool:
         """Whether `types[key]` is a type. What is neither a number nor a text is none."""
         try:
-            self[key]  # type: ignore[index]
+            self[key]  # type: ignore[call-overload]
         except (KeyError, OverflowError, TypeError):
             return False
         return True
@@ -111,6 +111,15 @@ class Types:
                 fields.append(FIELDS[raw[0]](self, raw[:12], name))
                 at = end
         return fields
+
+    def methods(self, list_index: int) -> List[Method]:
+        """The methods of the list of an index."""
+        found = self[list_index]
+        rows = found._items(_sys.Row, library().pdb_type_methods, list_index)
+        if rows is None:
+            fault = Fault(Status.UNIMPLEMENTED_TYPE_KIND, int.from_bytes(found.record[:2], "little"))
+            raise PdbError(fault, self.number, found._raw[1])
+        return [Method(self, raw_of(row), None) for row in rows]
 
     @property
     def definitions(self) -> Definitions:
@@ -160,7 +169,7 @@ class Ids:
                 yield self[self.first_index + at]
             except PdbError as error:
                 fault = int(error.status), error.first, error.second
-                yield id_of(self, (self.first_index + at, *self._places[at], *fault, *NOTHING))
+                yield UnreadableId(self, (self.first_index + at, *self._places[at], *fault, *NOTHING))
         if self._stop.status != Status.END:
             raise PdbError(self._stop, self.number)
 
@@ -176,7 +185,7 @@ class Ids:
             raise KeyError(index)
         offset, length = self._places[index - self.first_index]
         row = written(_sys.Row, library().pdb_id_parse, self._at + offset, length, stream=self.number, offset=offset)
-        return id_of(self, (index, offset, length, 0, 0, 0, *raw_of(row)))
+        return _ids.CLASSES[row.shape](self, (index, offset, length, 0, 0, 0, *raw_of(row)))
 
     def __contains__(self, index: object) -> bool:
         """Whether there is an id of this index. What is no whole number is none."""

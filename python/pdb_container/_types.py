@@ -2,11 +2,10 @@
 
 from ctypes import byref, c_size_t, c_uint8, c_uint32
 from enum import IntEnum
-from typing import TYPE_CHECKING, Callable, ClassVar, Dict, List, Optional, Tuple, TypeVar
+from typing import TYPE_CHECKING, Callable, Dict, List, Optional, Tuple, TypeVar
 
-from . import _sys
 from ._library import PdbError, library
-from ._rows import HAS, SHAPE, Getter, Number, Raw, Record, Row, number, number_as, optional, raw_of
+from ._rows import HAS, SHAPE, Getter, Number, Raw, Record, Row, number, number_as, optional
 from ._sys import PRIMITIVES, ClassKind, Fault, FieldAttribute, FunctionAttribute, ModifierBit, PointerAttribute, Property, Shape, Status
 
 if TYPE_CHECKING:
@@ -18,42 +17,46 @@ _ROOM = c_uint8 * USUAL
 _OK, _TOO_SMALL, _NONE = int(Status.OK), int(Status.TOO_SMALL), int(Status.NONE)
 _FORWARD = int(Property.FORWARD_REFERENCE)
 
+_SHAPES = list(Shape)
 _T = TypeVar("_T")
 
 
 def target(about: str, header_name: str = "") -> "Number[Type]":
     """The type to which each record of the shape refers."""
-    return Number(about, header_name, lambda place, _: lambda it: it._table[it._raw[place]], False)
+    return Number(about, "Type", lambda place, _: lambda it: it._table[it._raw[place]], header_name, False)
 
 
 def optional_target(about: str, header_name: str = "") -> "Number[Optional[Type]]":
     """The type to which only some records refer, None in the others."""
 
-    def getter(place: int, bit: int) -> Getter:
+    def reader(place: int, bit: int) -> Getter:
         return lambda it: it._table[it._raw[place]] if it._raw[HAS] & bit else None
 
-    return Number(about, header_name, getter, False)
+    return Number(about, "Optional[Type]", reader, header_name, False)
 
 
 def bits(kind: Callable[[int], _T], mask: int, about: str) -> Number[_T]:
     """Some of the bits of the attributes, from the lowest one of a mask on."""
     shift = (mask & -mask).bit_length() - 1
-    return Number(about, "attributes", lambda place, _: lambda it: kind((it._raw[place] & mask) >> shift), False)
+    return Number(about, kind, lambda place, _: lambda it: kind((it._raw[place] & mask) >> shift), "attributes", False)
 
 
 class Type(Record):
     """A type: its index, its shape, and the numbers in its record. Each shape has a class of its own, with its numbers by
     their names, and the types to which it refers. These are looked up where they are asked for, so that a damaged file is a
-    `KeyError` or a `PdbError` there."""
+    `KeyError` or a `PdbError` there. In a damaged file a field may stand in place of a type: it is a plain `Type`."""
 
     __slots__ = ()
     _table: "Types"
-    shape: ClassVar[Optional[Shape]] = None
 
     @classmethod
     def _register(cls, shape: IntEnum) -> None:
-        cls.shape = Shape(shape)
         CLASSES[shape] = cls
+
+    @property
+    def shape(self) -> Optional[Shape]:
+        """What shape it has, None if its record can't be read."""
+        return None if self._raw[3] else _SHAPES[self._raw[SHAPE]]
 
     @property
     def name(self) -> Optional[str]:
@@ -83,7 +86,9 @@ class Type(Record):
         return list(self._items(c_uint32, call, self.index) or ())
 
 
-CLASSES: "Dict[int, type[Type]]" = {}  # the class of each shape
+NO_SHAPE = -1
+# The class of each shape, and of types that can't be read.
+CLASSES: "Dict[int, type[Type]]" = dict.fromkeys(Shape, Type)
 
 
 class Unreadable(Type):
@@ -97,14 +102,19 @@ class Unreadable(Type):
         """None."""
 
 
+CLASSES[NO_SHAPE] = Unreadable
+
+
 class Primitive(Type, shape=Shape.PRIMITIVE):
     """A type without a record, such as an `int`, or a pointer to one. Its index says all of it."""
 
     __slots__ = ()
     __match_args__ = ("name",)
-    _shown = ("index", "name")
+    _shown = ("index",)
 
-    kind = Number[int]("The number of the type in TYPE_ENUM_e of cvinfo.h, such as 0x74 for an `int`.", "kind", lambda *_: lambda it: it.index & 0xFF, False)
+    kind = Number[int](
+        "The number of the type in TYPE_ENUM_e of cvinfo.h, such as 0x74 for an `int`.", int, lambda *_: lambda it: it.index & 0xFF
+    )
 
     @property
     def indirection(self) -> int:
@@ -129,7 +139,7 @@ class UserDefinedType(Type):
     __match_args__ = ("name",)
     _shown = ("index", "name")
 
-    properties = number_as(Property, "The bits of its properties.")
+    properties = number_as(Property)("The bits of its properties.")
     field_count = number("How many fields the record counts, 0 if it is only declared.", "count")
 
     @property
@@ -172,7 +182,7 @@ class Class(UserDefinedType, shape=Shape.CLASS):
     __match_args__ = ("name", "size")
 
     size = number("Its size in bytes, 0 if it is only declared.")
-    kind = number_as(ClassKind, "Whether it is a class, a structure or an interface.")
+    kind = number_as(ClassKind)("Whether it is a class, a structure or an interface.")
     derived_from_index = optional("The list of the classes from which it is derived.")
     derived_from = optional_target("The list of the classes from which it is derived.")
     vtable_shape_index = optional("The shape of its table of virtual functions.")
@@ -191,7 +201,7 @@ class Union(UserDefinedType, shape=Shape.UNION):
 
 
 class Enum(UserDefinedType, shape=Shape.ENUMERATION):
-    """An enumeration. Its fields are enumerators."""
+    """An enumeration, whose fields are enumerators."""
 
     __slots__ = ()
 
@@ -206,7 +216,7 @@ class Pointer(Type, shape=Shape.POINTER):
     __slots__ = ()
     __match_args__ = ("target",)
 
-    attributes = number_as(PointerAttribute, "The bits of its attributes.")
+    attributes = number_as(PointerAttribute)("The bits of its attributes.")
     size = bits(int, PointerAttribute.SIZE_MASK, "Its size in bytes.")
     target_index = number("The type that is pointed at.", "underlying_type")
     target = target("The type that is pointed at.", "underlying_type")
@@ -225,7 +235,7 @@ class Modifier(Type, shape=Shape.MODIFIER):
     __slots__ = ()
     __match_args__ = ("underlying_type",)
 
-    modifiers = number_as(ModifierBit, "The bits that say which.")
+    modifiers = number_as(ModifierBit)("The bits that say which.")
     underlying_type_index = number("The type that is modified.")
     underlying_type = target("The type that is modified.")
 
@@ -271,7 +281,7 @@ class Procedure(Type, shape=Shape.PROCEDURE):
     __slots__ = ()
     __match_args__ = ("return_type", "argument_list")
 
-    attributes = number_as(FunctionAttribute, "The bits of its attributes.")
+    attributes = number_as(FunctionAttribute)("The bits of its attributes.")
     calling_convention = bits(int, 0xFF, "The number of its calling convention in CV_call_e of cvinfo.h.")
     parameter_count = number("How many parameters it has.")
     return_type_index = optional("The type that it returns.")
@@ -286,7 +296,7 @@ class MemberFunction(Type, shape=Shape.MEMBER_FUNCTION):
     __slots__ = ()
     __match_args__ = ("class_type", "return_type", "argument_list")
 
-    attributes = number_as(FunctionAttribute, "The bits of its attributes.")
+    attributes = number_as(FunctionAttribute)("The bits of its attributes.")
     calling_convention = bits(int, 0xFF, "The number of its calling convention in CV_call_e of cvinfo.h.")
     parameter_count = number("How many parameters it has.")
     return_type_index = number("The type that it returns.")
@@ -341,8 +351,7 @@ class MethodList(Type, shape=Shape.METHOD_LIST):
     @property
     def methods(self) -> "List[Method]":
         """The methods, in their order."""
-        rows = self._items(_sys.Row, library().pdb_type_methods, self.index)
-        return [Method(self._table, raw_of(row), None) for row in rows or ()]
+        return self._table.methods(self.index)
 
 
 class VirtualTableShape(Type, shape=Shape.VIRTUAL_TABLE_SHAPE):
@@ -354,19 +363,23 @@ class VirtualTableShape(Type, shape=Shape.VIRTUAL_TABLE_SHAPE):
 
 
 class Field(Row):
-    """A field of a list: its shape, its name, and its numbers. Each shape has a class of its own."""
+    """A field of a list: its shape, its name, and its numbers. Each shape has a class of its own. In a damaged file a type may
+    stand in place of a field: it is a plain `Field`."""
 
     __slots__ = ("_table", "_name")
     _shown = ("name",)
-    shape: ClassVar[Shape]
 
     def __init__(self, table: "Types", raw: Raw, name: Optional[str]):
         self._table, self._raw, self._name = table, raw, name
 
     @classmethod
     def _register(cls, shape: IntEnum) -> None:
-        cls.shape = Shape(shape)
         FIELDS[shape] = cls
+
+    @property
+    def shape(self) -> Shape:
+        """What shape it has."""
+        return _SHAPES[self._raw[SHAPE]]
 
     def __eq__(self, other: object) -> bool:
         return isinstance(other, Field) and (self._raw, self._name) == (other._raw, other._name)
@@ -380,7 +393,7 @@ class Field(Row):
         return self._name
 
 
-FIELDS: "Dict[int, type[Field]]" = {}  # the class of each shape
+FIELDS: "Dict[int, type[Field]]" = dict.fromkeys(Shape, Field)  # the class of each shape
 
 
 class _NamedField(Field):
@@ -407,7 +420,7 @@ class Member(_NamedField, shape=Shape.MEMBER):
     offset = number("Its offset in bytes from the start of the class.")
     type_index = number("Its type.", "field_type")
     type = target("Its type.", "field_type")
-    attributes = number_as(FieldAttribute, "The bits of its attributes.")
+    attributes = number_as(FieldAttribute)("The bits of its attributes.")
     access = _access()
 
 
@@ -419,7 +432,7 @@ class StaticMember(_NamedField, shape=Shape.STATIC_MEMBER):
 
     type_index = number("Its type.", "field_type")
     type = target("Its type.", "field_type")
-    attributes = number_as(FieldAttribute, "The bits of its attributes.")
+    attributes = number_as(FieldAttribute)("The bits of its attributes.")
     access = _access()
 
 
@@ -431,7 +444,7 @@ class Nested(_NamedField, shape=Shape.NESTED):
 
     type_index = number("The type.", "nested_type")
     type = target("The type.", "nested_type")
-    attributes = number_as(FieldAttribute, "The bits of its attributes.")
+    attributes = number_as(FieldAttribute)("The bits of its attributes.")
     access = _access()
 
 
@@ -441,9 +454,9 @@ class Enumerator(_NamedField, shape=Shape.ENUMERATE):
     __slots__ = ()
     __match_args__ = ("name", "value")
 
-    is_signed = number_as(bool, "Whether the record gives the value with a sign.")
+    is_signed = number_as(bool)("Whether the record gives the value with a sign.")
     width = number("The number of bytes of the value in the record.")
-    attributes = number_as(FieldAttribute, "The bits of its attributes.")
+    attributes = number_as(FieldAttribute)("The bits of its attributes.")
     access = _access()
 
     @property
@@ -460,10 +473,10 @@ class BaseClass(Field, shape=Shape.BASE_CLASS):
     __match_args__ = ("base_class", "offset")
 
     offset = number("Its offset in bytes from the start of the class.")
-    kind = number_as(ClassKind, "Whether it is a class, a structure or an interface.")
+    kind = number_as(ClassKind)("Whether it is a class, a structure or an interface.")
     base_class_index = number("The base class.")
     base_class = target("The base class.")
-    attributes = number_as(FieldAttribute, "The bits of its attributes.")
+    attributes = number_as(FieldAttribute)("The bits of its attributes.")
     access = _access()
 
 
@@ -473,14 +486,14 @@ class VirtualBaseClass(Field, shape=Shape.VIRTUAL_BASE_CLASS):
     __slots__ = ()
     __match_args__ = ("base_class",)
 
-    is_direct = number_as(bool, "Whether the class itself names it.")
+    is_direct = number_as(bool)("Whether the class itself names it.")
     base_class_index = number("The base class.")
     base_class = target("The base class.")
     base_pointer_index = number("The type of the pointer to the table of virtual bases.")
     base_pointer = target("The type of the pointer to the table of virtual bases.")
     base_pointer_offset = number("The offset of that pointer in bytes from the start of the class.")
     virtual_base_offset = number("The position of the base class in that table.")
-    attributes = number_as(FieldAttribute, "The bits of its attributes.")
+    attributes = number_as(FieldAttribute)("The bits of its attributes.")
     access = _access()
 
 
@@ -503,7 +516,7 @@ class Method(Field, shape=Shape.METHOD):
     type_index = number("Its type.", "method_type")
     type = target("Its type.", "method_type")
     vtable_offset = optional("Its offset in the table of virtual functions, if it is the first of its name there.")
-    attributes = number_as(FieldAttribute, "The bits of its attributes.")
+    attributes = number_as(FieldAttribute)("The bits of its attributes.")
     access = _access()
 
 
@@ -519,18 +532,5 @@ class OverloadedMethod(_NamedField, shape=Shape.OVERLOADED_METHOD):
 
     @property
     def methods(self) -> List[Method]:
-        """The methods. A list that is none raises `TypeError`."""
-        found = self.method_list
-        if not isinstance(found, MethodList):
-            raise TypeError(f"the type {found.index:#x} is no list of methods")
-        return found.methods
-
-
-def type_of(table: "Types", raw: Raw) -> Type:
-    """The type of a record that was read, or could not be."""
-    return (Unreadable if raw[3] else CLASSES[raw[SHAPE]])(table, raw)
-
-
-def field_of(table: "Types", raw: Raw, name: Optional[str]) -> Field:
-    """The field that a row tells of."""
-    return FIELDS[raw[SHAPE]](table, raw, name)
+        """The methods, in their order."""
+        return self._table.methods(self.method_list_index)
