@@ -250,19 +250,17 @@ class Property(IntFlag):
     SCOPED = 0x100
     HAS_UNIQUE_NAME = 0x200
     SEALED = 0x400
-    HFA_MASK = 0x1800
     INTRINSIC = 0x2000
+    HFA_MASK = 0x1800
     MOCOM_MASK = 0xc000
 
 
 class FieldAttribute(IntFlag):
     """The bits of the attributes of a field, as CV_fldattr_t."""
 
-    ACCESS_MASK = 0x3
     PRIVATE = 1
     PROTECTED = 2
     PUBLIC = 3
-    METHOD_MASK = 0x1c
     METHOD_VIRTUAL = 0x4
     METHOD_STATIC = 0x8
     METHOD_FRIEND = 0xc
@@ -274,26 +272,26 @@ class FieldAttribute(IntFlag):
     NO_CONSTRUCT = 0x80
     COMPILER_GENERATED = 0x100
     SEALED = 0x200
+    ACCESS_MASK = 0x3
+    METHOD_MASK = 0x1c
 
 
 class FunctionAttribute(IntFlag):
     """The bits of the attributes of a function: a number of CV_call_e, and those of
     CV_funcattr_t."""
 
-    CALLING_CONVENTION_MASK = 0xff
     CXX_RETURN_UDT = 0x100
     CONSTRUCTOR = 0x200
     CONSTRUCTOR_WITH_VIRTUAL_BASES = 0x400
+    CALLING_CONVENTION_MASK = 0xff
 
 
 class PointerAttribute(IntFlag):
     """The bits of the attributes of a pointer, as lfPointerAttr."""
 
-    KIND_MASK = 0x1f
     KIND_NEAR_32 = 0xa
     KIND_FAR_32 = 0xb
     KIND_64 = 0xc
-    MODE_MASK = 0xe0
     MODE_POINTER = 0
     MODE_LVALUE_REFERENCE = 0x20
     MODE_DATA_MEMBER = 0x40
@@ -304,8 +302,10 @@ class PointerAttribute(IntFlag):
     CONST = 0x400
     UNALIGNED = 0x800
     RESTRICT = 0x1000
-    SIZE_MASK = 0x7e000
     MOCOM = 0x80000
+    KIND_MASK = 0x1f
+    MODE_MASK = 0xe0
+    SIZE_MASK = 0x7e000
 
 
 class ModifierBit(IntFlag):

@@ -105,7 +105,7 @@ class Threads(unittest.TestCase):
                 failed.append(error)
 
         try:
-            for _ in range(30):
+            for _ in range(10):
                 pdb = pdb_container.open(SAMPLE)
                 threads = [threading.Thread(target=read, args=(pdb, call)) for call in calls]
                 for thread in threads:
@@ -115,7 +115,7 @@ class Threads(unittest.TestCase):
                     thread.join()
         finally:
             sys.setswitchinterval(usual)
-        self.assertEqual(len(failed), 30 * len(calls))
+        self.assertEqual(len(failed), 10 * len(calls))
 
 
 class Numbers(unittest.TestCase):
