@@ -30,10 +30,8 @@ def reference(types, base, index):
         name = types.definitions.text_of(index)
         base[name] = {"kind": kind if size else "void", "size": size, "signed": index in SIGNED, "endian": "little"}
         return {"kind": "base", "name": name}
-    if isinstance(it, UserDefinedType):
-        return {"kind": NAMED[type(it)], "name": key_of(it)}
-    if isinstance(it, (Procedure, MemberFunction)):
-        return {"kind": "function"}
+    if isinstance(it, (UserDefinedType, Procedure, MemberFunction)):
+        return {"kind": NAMED[type(it)], "name": key_of(it)} if type(it) in NAMED else {"kind": "function"}
     if it.type_index >= index:
         raise ValueError(f"the type {index:#x} is made of a later one")
     inner = reference(types, base, it.type_index)
@@ -45,8 +43,7 @@ def reference(types, base, index):
 
 
 with pdb_container.open(sys.argv[1]) as pdb:
-    types, users, enums = pdb.types, {}, {}
-    size = 8 if pdb.identity.machine in (0x8664, 0xAA64) else 4
+    types, users, enums, size = pdb.types, {}, {}, 8 if pdb.identity.machine in (0x8664, 0xAA64) else 4
     base = {"pointer": {"kind": "int", "size": size, "signed": False, "endian": "little"}}
     for it in types:
         if isinstance(it, Enum) and it.is_definition:

@@ -11,9 +11,10 @@ from ._sys import NUMBERS, Fault, Has, IdShape
 _T = TypeVar("_T")
 _T_co = TypeVar("_T_co", covariant=True)
 
-# What the library writes of a type and of a field: last come the shape, which numbers there are, and ten numbers.
+# What the library writes of a type: last come the shape, which numbers there are, and ten numbers. Of a field, those, and
+# the length of its name and whether it has one.
 TYPE = struct.Struct("<6I2IQ9I4x")
-FIELD = struct.Struct("<2IQ9I4xQI4x")
+FIELD, FIELD_NAME = struct.Struct("<2IQ9I4x16x"), struct.Struct("<56xQI4x")
 _ROW = struct.Struct("<2IQ9I4x")
 NUMBERS_OF_A_ROW = 12
 SHAPE, HAS = -12, -11

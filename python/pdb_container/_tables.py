@@ -7,7 +7,7 @@ from . import _ids, _sys
 from ._ids import Id, UnreadableId
 from ._layouts import Definitions, Layout
 from ._library import Opened, PdbError, library, named_items, unsigned, value, written
-from ._rows import FIELD, NOTHING, TYPE, raw_of
+from ._rows import FIELD, FIELD_NAME, NOTHING, TYPE, raw_of
 from ._sys import Fault, Status, StreamNumber
 from ._types import CLASSES, FIELDS, FIRST_RECORD, NO_SHAPE, Field, Method, Type, UserDefinedType
 
@@ -105,10 +105,11 @@ class Types:
         at = 0
         if found is not None:
             rows, count, names = found
-            for raw in FIELD.iter_unpack(memoryview(rows).cast("B")[: count * FIELD.size]):
-                end = at + raw[12]
-                name = names[at:end].decode(errors="replace") if raw[13] else None
-                fields.append(FIELDS[raw[0]](self, raw[:12], name))
+            data = memoryview(rows).cast("B")[: count * FIELD.size]
+            for raw, (length, has_name) in zip(FIELD.iter_unpack(data), FIELD_NAME.iter_unpack(data)):
+                end = at + length
+                name = names[at:end].decode(errors="replace") if has_name else None
+                fields.append(FIELDS[raw[0]](self, raw, name))
                 at = end
         return fields
 
