@@ -4,11 +4,12 @@
 
     with pdb_container.open("program.pdb") as pdb:
         for field in pdb.types["Derived"].fields:
-            print(field.shape.name, field.name, field.number)
+            if isinstance(field, pdb_container.Member):
+                print(field.offset, field.name, field.type)
 
-The calls of the library are proved: for any bytes they end, read within the bytes, and give the answer that a written
-grammar of the format gives, or its first error. This package calls them, and is not proved. Any
-thread may use what is open.
+The calls of the library are proved: for any bytes they terminate, read within the bytes, and give the answer that a written
+grammar of the format gives, or its first error. This package calls them, and is not proved. Any thread may use what is
+open.
 """
 
 from ._file import AddressMap, Frame, Frames, Information, Names, Omap, Pdb, Roles, Section, Stream, Streams, Translation, open

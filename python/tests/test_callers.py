@@ -2,6 +2,7 @@
 their own that stay open, and many files in a row."""
 
 import copy
+import gc
 import inspect
 import mmap
 import multiprocessing
@@ -279,7 +280,9 @@ class Closing(unittest.TestCase):
             pdb.close()
 
     def test_files_in_a_row(self):
-        """Files that were closed, or that no one has any more, give back what was read of them."""
+        """Files that were closed, or that no one has any more, give back what was read of them, without a collection."""
+        gc.disable()
+        self.addCleanup(gc.enable)
 
         def peak() -> int:
             return resource.getrusage(resource.RUSAGE_SELF).ru_maxrss
@@ -287,7 +290,7 @@ class Closing(unittest.TestCase):
         def read(count: int, closes: bool):
             for _ in range(count):
                 pdb = pdb_container.open(SAMPLE)
-                str((pdb.types["Derived"], len(pdb.ids), pdb.named_streams, len(pdb.streams)))
+                str((pdb.types["Derived"], list(pdb.types)[5], len(pdb.ids), pdb.ids[0x1000], pdb.named_streams, len(pdb.streams)))
                 if closes:
                     pdb.close()
 
