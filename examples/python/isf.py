@@ -7,12 +7,12 @@ import json
 import sys
 
 import pdb_container
-from pdb_container import Shape
+from pdb_container import Array, Bitfield, Class, Enum, Member, MemberFunction, Pointer, Primitive, Procedure, Union, UserDefinedType
 from publics import publics
 
 CHARACTERS, BOOLEANS, FLOATS = (0x10, 0x20, 0x70, 0x71, 0x7A, 0x7B, 0x7C), range(0x30, 0x34), range(0x40, 0x47)
 SIGNED = {0x08, 0x10, 0x11, 0x12, 0x13, 0x14, 0x68, 0x70, 0x72, 0x74, 0x76, 0x78, *FLOATS}
-NAMED = {Shape.CLASS: "struct", Shape.UNION: "union", Shape.ENUMERATION: "enum"}
+NAMED = {Class: "struct", Union: "union", Enum: "enum"}
 
 
 def key_of(it):
@@ -23,37 +23,36 @@ def key_of(it):
 def reference(types, base, index):
     """A type where it is used. A base type is put among those that were met."""
     it, size = types[index], types.definitions.size_of(index) or 0
-    if it.shape is Shape.PRIMITIVE and index & 0x700:
-        return {"kind": "pointer", "subtype": reference(types, base, index & 0xFF)}
-    if it.shape is Shape.PRIMITIVE:
+    if isinstance(it, Primitive) and it.target:
+        return {"kind": "pointer", "subtype": reference(types, base, it.kind)}
+    if isinstance(it, Primitive):
         kind = "float" if index in FLOATS else "char" if index in CHARACTERS else "bool" if index in BOOLEANS else "int"
         name = types.definitions.text_of(index)
         base[name] = {"kind": kind if size else "void", "size": size, "signed": index in SIGNED, "endian": "little"}
         return {"kind": "base", "name": name}
-    if it.shape in NAMED or it.shape in (Shape.PROCEDURE, Shape.MEMBER_FUNCTION):
-        return {"kind": NAMED[it.shape], "name": key_of(it)} if it.shape in NAMED else {"kind": "function"}
+    if isinstance(it, (UserDefinedType, Procedure, MemberFunction)):
+        return {"kind": NAMED[type(it)], "name": key_of(it)} if type(it) in NAMED else {"kind": "function"}
     if it.type_index >= index:
         raise ValueError(f"the type {index:#x} is made of a later one")
     inner = reference(types, base, it.type_index)
-    if it.shape is Shape.ARRAY:
+    if isinstance(it, Array):
         return {"kind": "array", "count": size // (types.definitions.size_of(it.type_index) or 1), "subtype": inner}
-    if it.shape is Shape.BITFIELD:
-        return {"kind": "bitfield", "bit_position": it.extra, "bit_length": it.count, "type": inner}
-    return {"kind": "pointer", "subtype": inner} if it.shape is Shape.POINTER else inner
+    if isinstance(it, Bitfield):
+        return {"kind": "bitfield", "bit_position": it.position, "bit_length": it.length, "type": inner}
+    return {"kind": "pointer", "subtype": inner} if isinstance(it, Pointer) else inner
 
 
 with pdb_container.open(sys.argv[1]) as pdb:
-    types, users, enums = pdb.types, {}, {}
-    size = 8 if pdb.identity.machine in (0x8664, 0xAA64) else 4
+    types, users, enums, size = pdb.types, {}, {}, 8 if pdb.identity.machine in (0x8664, 0xAA64) else 4
     base = {"pointer": {"kind": "int", "size": size, "signed": False, "endian": "little"}}
     for it in types:
-        if it.shape is Shape.ENUMERATION and it.is_definition:
-            size, of = types.definitions.size_of(it.index), reference(types, base, it.type_index)["name"]
+        if isinstance(it, Enum) and it.is_definition:
+            size, of = types.definitions.size_of(it.index), reference(types, base, it.underlying_type_index)["name"]
             enums[key_of(it)] = {"size": size, "base": of, "constants": {one.name: one.value for one in it.fields}}
-        elif it.shape in NAMED and (it.is_definition or types.definitions.definition_of(it.index) is None):
-            members = [one for one in it.fields if one.shape is Shape.MEMBER]
-            fields = {one.name: {"offset": one.number, "type": reference(types, base, one.type_index)} for one in members}
-            users[key_of(it)] = {"kind": NAMED[it.shape], "size": it.number, "fields": fields}
+        elif isinstance(it, (Class, Union)) and it.definition in (it, None):
+            members = [one for one in it.fields if isinstance(one, Member)]
+            fields = {one.name: {"offset": one.offset, "type": reference(types, base, one.type_index)} for one in members}
+            users[key_of(it)] = {"kind": NAMED[type(it)], "size": it.size, "fields": fields}
     metadata = {"format": "6.2.0", "producer": {"name": "pdb_container", "version": pdb_container.__version__}}
     symbols = {name: {"address": address} for address, name in publics(pdb) if address is not None}
     made = {"metadata": metadata, "base_types": base, "user_types": users, "enums": enums, "symbols": symbols}

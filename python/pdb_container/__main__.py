@@ -6,7 +6,7 @@ usage: python3 -m pdb_container FILE [NAME]..   NAME is a class, a union or an e
 import sys
 from collections import Counter
 
-from . import LibraryError, Pdb, PdbError, open
+from . import Enumerator, LibraryError, Pdb, PdbError, open
 
 
 def print_summary(pdb: Pdb) -> None:
@@ -25,8 +25,8 @@ def print_type(pdb: Pdb, name: str) -> None:
     shape = "" if found.shape is None else found.shape.name.lower()
     print(f"{found.index:#x} {shape} {name}" + ("" if found.number is None else f", {found.number} bytes"))
     for field in found.fields:
-        number = "" if field.value is None else f" {field.value}"
-        print(f"  {field.shape.name.lower()} {field.name or '-'}{number}")
+        number = field.value if isinstance(field, Enumerator) else field.number
+        print(f"  {field.shape.name.lower()} {field.name or '-'}" + ("" if number is None else f" {number}"))
 
 
 def main() -> int:

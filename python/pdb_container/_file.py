@@ -7,18 +7,18 @@ import os
 import uuid
 from ctypes import c_uint8, c_uint32
 from dataclasses import dataclass, fields
-from functools import cached_property
-from typing import Any, Dict, Iterator, List, Optional, Sequence, Tuple, Union, overload
+from typing import Any, Callable, Dict, Generic, Iterator, List, Optional, Sequence, Tuple, TypeVar, Union, overload
 
 from . import _sys
 from ._identity import Identity, identity_of
 from ._library import Buffer, Lent, Opened, PdbError, items, library, named_items, unsigned, value, written
-from ._sys import AddressForm, Status
+from ._sys import AddressForm, FrameKind, Status
 from ._tables import IDS, TYPES, Ids, Types
 
 NO_STREAM = 0xFFFF
 
 Room = Any  # the array of ctypes in which a stream is
+_T = TypeVar("_T")
 
 
 @dataclass(frozen=True)
@@ -68,7 +68,7 @@ class Section:
 class Frame:
     """What a stack walker needs to know about the frame of a piece of code. What there is not is None."""
 
-    kind: int  # the number in StackFrameTypeEnum, or 255
+    kind: FrameKind
     code_start: int  # the address of the first byte of the code, in the original image
     code_size: int
     locals_size: int
@@ -171,7 +171,8 @@ class AddressMap(_Ranges):
     """The address map of a file: its sections, and the OMAP tables of a tool that rearranged the image."""
 
     def __init__(self, lent: Lent):
-        self._map = Opened(library().pdb_bytes_addresses, lent.at, lent.length)
+        with lent as place:
+            self._map = Opened(library().pdb_bytes_addresses, *place)
 
     def _translate(self, form: AddressForm, section: int, offset: int) -> Translation:
         numbers = unsigned(section, 16), unsigned(offset)
@@ -212,7 +213,8 @@ class Frames:
     """The frame table of a file, of both formats."""
 
     def __init__(self, lent: Lent):
-        self._table = Opened(library().pdb_bytes_frames, lent.at, lent.length)
+        with lent as place:
+            self._table = Opened(library().pdb_bytes_frames, *place)
 
     def at(self, address: int) -> Optional[Frame]:
         """The first frame from an address of the original image on: the one at the address, or else the first above."""
@@ -226,7 +228,7 @@ class Frames:
 
 def _frame(it: _sys.Frame) -> Frame:
     return Frame(
-        kind=it.kind,
+        kind=FrameKind(it.kind),
         code_start=it.code_start,
         code_size=it.code_size,
         locals_size=it.locals_size,
@@ -291,34 +293,92 @@ class Streams(Sequence[Stream]):
             number += self._count
         if not 0 <= number < self._count:
             raise IndexError("the file has no stream of this number")
-        self._pdb._open()
+        return Stream(self._pdb, number, self._pdb._source.size(number))
+
+
+class _Kept(Generic[_T]):
+    """A part of a file that is read when it is first asked for, and kept until the file is closed."""
+
+    def __init__(self, func: Callable[[Any], _T]):
+        self.func, self.__doc__ = func, func.__doc__
+
+    @overload
+    def __get__(self, it: None, owner: object) -> "_Kept[_T]": ...
+
+    @overload
+    def __get__(self, it: object, owner: object) -> _T: ...
+
+    def __get__(self, it: Any, owner: object) -> "Union[_T, _Kept[_T]]":
+        if it is None:
+            return self
+        with it._lent:  # which a closed file has no more
+            kept: Dict[Any, _T] = it._kept
+            # Threads that ask together may each read it; the first one's is kept, whole.
+            return kept[self] if self in kept else kept.setdefault(self, self.func(it))
+
+
+class _Source:
+    """The bytes of a file, and its directory."""
+
+    def __init__(self, data: Buffer):
+        self._lent = Lent(data)
+        self._kept: Dict[Any, Any] = {}
         try:
-            size: Optional[int] = written(c_uint32, library().pdb_file_stream_size, self._pdb._file.handle, number).value
-        except PdbError as error:
-            if error.status != Status.STREAM_NOT_FOUND:
-                raise
-            size = None
-        return Stream(self._pdb, number, size)
+            with self._lent as place:
+                self._file = Opened(library().pdb_bytes_open, *place)
+        except BaseException:
+            self._lent.release()
+            raise
+        self.page_size: int = written(c_uint32, library().pdb_file_page_size, self._file.handle).value
+        self.stream_count: int = written(c_uint32, library().pdb_file_stream_count, self._file.handle).value
+
+    def close(self) -> None:
+        """Gives the bytes back, and forgets the types."""
+        self._lent.release()
+        self._file.close()
+        self._kept = {}
+
+    def size(self, number: int) -> Optional[int]:
+        """The size of a stream, None if it is absent."""
+        with self._lent:
+            try:
+                size: int = written(c_uint32, library().pdb_file_stream_size, self._file.handle, number).value
+                return size
+            except PdbError as error:
+                if error.status != Status.STREAM_NOT_FOUND:
+                    raise
+                return None
+
+    def read(self, number: int, limit: Optional[int] = None) -> Room:
+        """The bytes of a stream."""
+        most = 2**64 - 1 if limit is None else unsigned(limit, 64)
+        with self._lent as place:
+            return items(c_uint8, library().pdb_bytes_stream, self._file.handle, *place, unsigned(number), most, stream=number)
+
+    @_Kept
+    def types(self) -> Types:
+        """The table of types."""
+        room = self.read(TYPES)
+        return Types(_view(room), room)
 
 
 class Pdb:
     """A program database over the bytes of any object that has a buffer, which are not copied."""
 
     def __init__(self, data: Buffer):
-        self._mapping: Optional[mmap.mmap] = None
-        self._lent: Optional[Lent] = Lent(data)
-        try:
-            self._file = Opened(library().pdb_bytes_open, self._lent.at, self._lent.length)
-        except BaseException:
-            self._lent.release()
-            raise
-        self.page_size: int = written(c_uint32, library().pdb_file_page_size, self._file.handle).value
-        self._stream_count: int = written(c_uint32, library().pdb_file_stream_count, self._file.handle).value
+        self._source = _Source(data)
+        self._lent = self._source._lent
+        self._kept: Dict[Any, Any] = {}
+
+    @property
+    def page_size(self) -> int:
+        """The size of its pages in bytes."""
+        return self._source.page_size
 
     @property
     def streams(self) -> "Streams":
         """The streams, by their numbers."""
-        return Streams(self, self._stream_count)
+        return Streams(self, self._source.stream_count)
 
     def __enter__(self) -> "Pdb":
         return self
@@ -329,38 +389,17 @@ class Pdb:
     def close(self) -> None:
         """Gives the bytes back to whom they belong, and forgets the tables. A table that the caller still has stays as it
         is. Closing again does nothing."""
-        if self._lent is None:
-            return
-        self._file.close()
-        self._lent.release()
-        self._lent = None
-        for name in _KEPT & self.__dict__.keys():
-            del self.__dict__[name]
-        if self._mapping is not None:
-            self._mapping.close()
-
-    def _open(self) -> Lent:
-        if self._lent is None:
-            raise ValueError("the program database is closed")
-        return self._lent
-
-    def _bytes(self) -> Tuple[int, int]:
-        lent = self._open()
-        return lent.at, lent.length
-
-    def _read(self, number: int, limit: Optional[int] = None) -> Room:
-        most = 2**64 - 1 if limit is None else unsigned(limit, 64)
-        words = self._file.handle, *self._bytes(), unsigned(number), most
-        return items(c_uint8, library().pdb_bytes_stream, *words, stream=number)
+        self._source.close()
+        self._kept = {}
 
     def _in_role(self, role: str) -> Tuple[Optional[int], Room, memoryview]:
         number = getattr(self.roles, role)
-        room = None if number is None else self._read(number)
+        room = None if number is None else self._source.read(number)
         return number, room, _view(room) if room is not None else memoryview(b"")
 
     def stream(self, number: int, limit: Optional[int] = None) -> memoryview:
         """The bytes of a stream, at most `limit` of them."""
-        return _view(self._read(number, limit))
+        return _view(self._source.read(number, limit))
 
     def named_stream(self, name: Union[str, bytes]) -> memoryview:
         """The bytes of the first stream with this name, such as `/names`."""
@@ -368,23 +407,27 @@ class Pdb:
 
     def _named(self, name: Union[str, bytes]) -> Room:
         word = name.encode() if isinstance(name, str) else bytes(name)
-        return items(c_uint8, library().pdb_bytes_named_stream, *self._bytes(), word, len(word))
+        with self._lent as place:
+            return items(c_uint8, library().pdb_bytes_named_stream, *place, word, len(word))
 
-    @cached_property
+    @_Kept
     def information(self) -> Information:
         """The numbers in stream 1, which identify the file."""
-        it = written(_sys.Information, library().pdb_bytes_information, *self._bytes())
+        with self._lent as place:
+            it = written(_sys.Information, library().pdb_bytes_information, *place)
         return Information(it.version, it.signature, it.age, uuid.UUID(bytes_le=bytes(it.guid)))
 
-    @cached_property
+    @_Kept
     def identity(self) -> Identity:
         """What identifies the file, and its key."""
-        return identity_of(*self._bytes())
+        with self._lent as place:
+            return identity_of(*place)
 
-    @cached_property
+    @_Kept
     def named_streams(self) -> Dict[str, Optional[int]]:
         """The number of the first stream of each name, None if the file gives none, in the file's order."""
-        found = named_items(_sys.NamedStream, library().pdb_bytes_stream_names, *self._bytes())
+        with self._lent as place:
+            found = named_items(_sys.NamedStream, library().pdb_bytes_stream_names, *place)
         rows, count, names = found or ([], 0, bytearray())
         streams: Dict[str, Optional[int]] = {}
         at = 0
@@ -394,26 +437,26 @@ class Pdb:
             at += row.name_length
         return streams
 
-    @cached_property
+    @_Kept
     def roles(self) -> Roles:
         """The numbers of the streams in eleven roles."""
-        it = written(_sys.Roles, library().pdb_bytes_roles, *self._bytes())
+        with self._lent as place:
+            it = written(_sys.Roles, library().pdb_bytes_roles, *place)
         numbers = {field.name: getattr(it, field.name) for field in fields(Roles)}
         return Roles(**{name: None if number == NO_STREAM else number for name, number in numbers.items()})
 
-    @cached_property
+    @property
     def types(self) -> Types:
         """The table of types, which is stream 2."""
-        room = self._read(TYPES)
-        return Types(_view(room), room)
+        return self._source.types
 
-    @cached_property
+    @_Kept
     def ids(self) -> Ids:
         """The table of ids, which is stream 4."""
-        room = self._read(IDS)
-        return Ids(_view(room), room)
+        room, source = self._source.read(IDS), self._source
+        return Ids(_view(room), room, lambda: source.types)
 
-    @cached_property
+    @_Kept
     def names(self) -> Names:
         """The string table, which is the stream `/names`."""
         room = self._named("/names")
@@ -450,19 +493,15 @@ class Pdb:
         number, room, stream = self._in_role("omap_from_src")
         return None if room is None else Omap(stream, room, number)
 
-    @cached_property
+    @_Kept
     def address_map(self) -> AddressMap:
         """The sections, and the OMAP tables of a tool that rearranged the image."""
-        return AddressMap(self._open())
+        return AddressMap(self._lent)
 
-    @cached_property
+    @_Kept
     def frames(self) -> Frames:
         """The frame table."""
-        return Frames(self._open())
-
-
-# What a file keeps once it was asked for.
-_KEPT = {name for name, it in vars(Pdb).items() if isinstance(it, cached_property)}
+        return Frames(self._lent)
 
 
 def _view(room: Room) -> memoryview:
@@ -475,12 +514,9 @@ def open(path: "Union[str, bytes, os.PathLike[str], os.PathLike[bytes]]") -> Pdb
         # Only what has a size can be mapped: no empty file, and no pipe.
         size = os.fstat(file.fileno()).st_size
         data = mmap.mmap(file.fileno(), 0, access=mmap.ACCESS_READ) if size else file.read()
-    mapping = data if isinstance(data, mmap.mmap) else None
     try:
-        pdb = Pdb(data)
+        return Pdb(data)
     except BaseException:
-        if mapping is not None:
-            mapping.close()
+        if isinstance(data, mmap.mmap):
+            data.close()
         raise
-    pdb._mapping = mapping
-    return pdb

@@ -7,7 +7,7 @@ from typing import FrozenSet, Optional
 
 from . import _sys
 from ._library import Buffer, Lent, items, library, written
-from ._sys import Feature, Format, KeyForm
+from ._sys import Feature, Format, IdentityFlag, KeyForm
 
 
 @dataclass(frozen=True)
@@ -21,7 +21,7 @@ class Identity:
     features: Optional[FrozenSet[Feature]]  # of the file; None if stream 1 ends among the names of streams
     debug_age: Optional[int]  # the age of the debug information
     machine: Optional[int]  # as the header of an image numbers it, such as 0x8664 for x86-64
-    flags: Optional[int]  # 1 if linked incrementally, 2 if private symbols are stripped, 4 if types may conflict, added up
+    flags: Optional[IdentityFlag]  # what the debug information says of the file
 
     @property
     def age(self) -> int:
@@ -37,7 +37,7 @@ class Identity:
 def identity_of(*place: int) -> Identity:
     """What identifies the file at an address, of a length."""
     it = written(_sys.Identity, library().pdb_identity_of, *place)
-    debug = (it.debug_age, it.machine, it.flags) if it.has_debug_header else (None, None, None)
+    debug = (it.debug_age, it.machine, IdentityFlag(it.flags)) if it.has_debug_header else (None, None, None)
     features = frozenset(feature for feature in Feature if it.features & feature) if it.has_features else None
     return Identity(it.version, it.signature, it.information_age, uuid.UUID(bytes_le=bytes(it.guid)), features, *debug)
 
@@ -45,7 +45,6 @@ def identity_of(*place: int) -> Identity:
 def format_of(data: Buffer) -> Format:
     """What a file is that begins with these bytes. The first 42 bytes decide."""
     lent = Lent(data)
-    try:
-        return Format(library().pdb_format_of(lent.at, lent.length))
-    finally:
+    with lent as place:
         lent.release()
+        return Format(library().pdb_format_of(*place))

@@ -5,8 +5,10 @@ import operator
 import os
 import sys
 import sysconfig
+import threading
 from ctypes import byref, c_size_t, c_ssize_t, c_uint8, c_void_p, pythonapi
 from pathlib import Path
+from types import SimpleNamespace
 from typing import Any, Optional, SupportsIndex, Tuple, Type, TypeVar
 
 from . import _sys
@@ -27,7 +29,7 @@ Buffer = Any
 
 
 class LibraryError(ImportError):
-    """The shared library is missing or of another version, or the interpreter has no lock."""
+    """The shared library is missing or of another version."""
 
 
 def unsigned(number: SupportsIndex, bits: int = 32) -> int:
@@ -85,9 +87,19 @@ def _place() -> str:
     return next((str(path) for path in beside if path.is_file()), NAME)
 
 
-def _load() -> ctypes.PyDLL:
-    if not getattr(sys, "_is_gil_enabled", lambda: True)():
-        raise LibraryError("this interpreter runs without its lock, on which the calls of the library rest")
+# Gives the library to one call at a time where the interpreter runs without its own lock.
+_LOCK = threading.Lock()
+
+
+def _locked(function: Any) -> Any:
+    def call(*words: Any) -> Any:
+        with _LOCK:
+            return function(*words)
+
+    return call
+
+
+def _load() -> SimpleNamespace:
     path = _place()
     try:
         # Its calls keep the interpreter's lock, so no two run at once.
@@ -98,17 +110,20 @@ def _load() -> ctypes.PyDLL:
     # The last two digits are of versions with the same calls.
     if version // 100 != VERSION // 100 or not all(hasattr(loaded, name) for name in _sys.FUNCTIONS):
         raise LibraryError(f"{path} is not {NAME} of version {VERSION // 10_000}.{VERSION // 100 % 100}")
+    has_lock = getattr(sys, "_is_gil_enabled", lambda: True)()
+    calls = SimpleNamespace()
     for name, (result, parameters) in _sys.FUNCTIONS.items():
         function = getattr(loaded, name)
         function.restype, function.argtypes = result, parameters
-    return loaded
+        setattr(calls, name, function if has_lock else _locked(function))
+    return calls
 
 
-_loaded: Optional[ctypes.PyDLL] = None
+_loaded: Optional[SimpleNamespace] = None
 
 
-def library() -> ctypes.PyDLL:
-    """The shared library, which is loaded where it is first needed."""
+def library() -> SimpleNamespace:
+    """The calls of the shared library, which is loaded where it is first needed."""
     global _loaded
     if _loaded is None:
         _loaded = _load()
@@ -116,7 +131,7 @@ def library() -> ctypes.PyDLL:
 
 
 class Opened:
-    """What the library keeps open. The interpreter's lock gives it to one call at a time, of any thread."""
+    """What the library keeps open. A lock gives it to one call at a time, of any thread."""
 
     def __init__(self, call: Any, *words: Any, stream: Optional[int] = None):
         self._handle, fault = Handle(), Fault()
@@ -209,16 +224,37 @@ _release_buffer.argtypes, _release_buffer.restype = [c_void_p], None
 
 
 class Lent:
-    """The bytes of any object that has a buffer, which are not copied: their address and their length."""
+    """The bytes of any object that has a buffer, which are not copied. While a call reads them, another thread that releases
+    them does not take them away."""
 
     def __init__(self, data: Buffer):
-        self._buffer = _Buffer()
+        self._buffer, self._lock = _Buffer(), threading.Lock()
+        self._users = 0
         _get_buffer(data, byref(self._buffer), 0)
-        self.at, self.length = self._buffer.at or ctypes.addressof(self._buffer), self._buffer.length
+        self._users, self._is_released = 1, False
+        self._place = self._buffer.at or ctypes.addressof(self._buffer), self._buffer.length
+
+    def __enter__(self) -> Tuple[int, int]:
+        """Their address and their length. ValueError if they were released."""
+        with self._lock:
+            if self._is_released:
+                raise ValueError("the program database is closed")
+            self._users += 1
+        return self._place
+
+    def __exit__(self, *_: object) -> None:
+        with self._lock:
+            self._users -= 1
+            is_last = self._users == 0
+        if is_last:
+            _release_buffer(byref(self._buffer))
 
     def release(self) -> None:
-        """Gives the bytes back to whom they belong."""
-        if self._buffer.owner:
-            _release_buffer(byref(self._buffer))
+        """Gives the bytes back to whom they belong, once no call reads them. Releasing again does nothing."""
+        with self._lock:
+            is_first = self._users > 0 and not self._is_released
+            self._is_released = True
+        if is_first:
+            self.__exit__()
 
     __del__ = release

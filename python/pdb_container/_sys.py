@@ -250,19 +250,17 @@ class Property(IntFlag):
     SCOPED = 0x100
     HAS_UNIQUE_NAME = 0x200
     SEALED = 0x400
-    HFA_MASK = 0x1800
     INTRINSIC = 0x2000
+    HFA_MASK = 0x1800
     MOCOM_MASK = 0xc000
 
 
 class FieldAttribute(IntFlag):
     """The bits of the attributes of a field, as CV_fldattr_t."""
 
-    ACCESS_MASK = 0x3
     PRIVATE = 1
     PROTECTED = 2
     PUBLIC = 3
-    METHOD_MASK = 0x1c
     METHOD_VIRTUAL = 0x4
     METHOD_STATIC = 0x8
     METHOD_FRIEND = 0xc
@@ -274,26 +272,26 @@ class FieldAttribute(IntFlag):
     NO_CONSTRUCT = 0x80
     COMPILER_GENERATED = 0x100
     SEALED = 0x200
+    ACCESS_MASK = 0x3
+    METHOD_MASK = 0x1c
 
 
 class FunctionAttribute(IntFlag):
     """The bits of the attributes of a function: a number of CV_call_e, and those of
     CV_funcattr_t."""
 
-    CALLING_CONVENTION_MASK = 0xff
     CXX_RETURN_UDT = 0x100
     CONSTRUCTOR = 0x200
     CONSTRUCTOR_WITH_VIRTUAL_BASES = 0x400
+    CALLING_CONVENTION_MASK = 0xff
 
 
 class PointerAttribute(IntFlag):
     """The bits of the attributes of a pointer, as lfPointerAttr."""
 
-    KIND_MASK = 0x1f
     KIND_NEAR_32 = 0xa
     KIND_FAR_32 = 0xb
     KIND_64 = 0xc
-    MODE_MASK = 0xe0
     MODE_POINTER = 0
     MODE_LVALUE_REFERENCE = 0x20
     MODE_DATA_MEMBER = 0x40
@@ -304,8 +302,10 @@ class PointerAttribute(IntFlag):
     CONST = 0x400
     UNALIGNED = 0x800
     RESTRICT = 0x1000
-    SIZE_MASK = 0x7e000
     MOCOM = 0x80000
+    KIND_MASK = 0x1f
+    MODE_MASK = 0xe0
+    SIZE_MASK = 0x7e000
 
 
 class ModifierBit(IntFlag):
@@ -556,6 +556,81 @@ class LayoutRow(Structure):
         ("is_direct", c_uint32),
     ]
 
+
+# The place in a Row of each number of a structure of pdb_type_info, by its name there.
+NUMBERS = {
+    "row": {"number": 2, "kind": 3, "attributes": 4, "properties": 5, "count": 6, "type_index": 7, "second_index": 8, "third_index": 9, "list_index": 10, "extra": 11},
+    "class_type": {"size": 2, "kind": 3, "properties": 5, "count": 6, "derived_from": 8, "vtable_shape": 9, "fields": 10},
+    "member": {"offset": 2, "attributes": 4, "field_type": 7},
+    "member_function": {"attributes": 4, "parameter_count": 6, "return_type": 7, "class_type": 8, "this_pointer_type": 9, "argument_list": 10, "this_adjustment": 11},
+    "overloaded_method": {"count": 6, "method_list": 10},
+    "method": {"attributes": 4, "method_type": 7, "vtable_offset": 11},
+    "static_member": {"attributes": 4, "field_type": 7},
+    "nested": {"attributes": 4, "nested_type": 7},
+    "base_class": {"offset": 2, "kind": 3, "attributes": 4, "base_class": 7},
+    "virtual_base_class": {"base_pointer_offset": 2, "is_direct": 3, "attributes": 4, "base_class": 7, "base_pointer": 8, "virtual_base_offset": 11},
+    "virtual_function_table_pointer": {"table": 7},
+    "procedure": {"attributes": 4, "parameter_count": 6, "return_type": 7, "argument_list": 10},
+    "pointer": {"attributes": 4, "underlying_type": 7, "containing_class": 8},
+    "modifier": {"modifiers": 3, "underlying_type": 7},
+    "enumeration": {"properties": 5, "count": 6, "underlying_type": 7, "fields": 10},
+    "enumerate": {"value": 2, "is_signed": 3, "attributes": 4, "width": 6},
+    "array": {"element_type": 7, "indexing_type": 8, "stride": 11},
+    "union_type": {"size": 2, "properties": 5, "count": 6, "fields": 10},
+    "bitfield": {"length": 6, "underlying_type": 7, "position": 11},
+    "field_list": {"continuation": 10},
+    "virtual_table_shape": {"count": 6},
+    "function_id": {"function_type": 7, "scope": 8},
+    "member_function_id": {"function_type": 7, "parent": 9},
+    "string_id": {"substrings": 10},
+    "type_source_id": {"file_name": 2, "udt": 7, "file_id": 8, "module": 9, "line": 11},
+}
+
+# The name of each primitive type in C++, by its kind.
+PRIMITIVES = {
+    0x00: "no type",
+    0x03: "void",
+    0x08: "HRESULT",
+    0x10: "signed char",
+    0x11: "short",
+    0x12: "long",
+    0x13: "long long",
+    0x14: "__int128",
+    0x20: "unsigned char",
+    0x21: "unsigned short",
+    0x22: "unsigned long",
+    0x23: "unsigned long long",
+    0x24: "unsigned __int128",
+    0x30: "bool",
+    0x31: "__bool16",
+    0x32: "__bool32",
+    0x33: "__bool64",
+    0x40: "float",
+    0x41: "double",
+    0x42: "long double",
+    0x43: "__float128",
+    0x44: "__float48",
+    0x45: "__float32pp",
+    0x46: "__float16",
+    0x50: "_Complex float",
+    0x51: "_Complex double",
+    0x52: "_Complex long double",
+    0x53: "_Complex __float128",
+    0x68: "__int8",
+    0x69: "unsigned __int8",
+    0x70: "char",
+    0x71: "wchar_t",
+    0x72: "__int16",
+    0x73: "unsigned __int16",
+    0x74: "int",
+    0x75: "unsigned int",
+    0x76: "__int64",
+    0x77: "unsigned __int64",
+    0x78: "__int128",
+    0x79: "unsigned __int128",
+    0x7a: "char16_t",
+    0x7b: "char32_t",
+}
 
 # The result and the parameters of each call. A pointer is an address.
 FUNCTIONS = {

@@ -50,8 +50,6 @@ def validate(data: Buffer, every: bool = False) -> List[Finding]:
     """What is wrong in the bytes of a file: the first error of each part, or its first warning if it has no error; with
     `every`, everything. The file is whole exactly if all of it are warnings."""
     lent = Lent(data)
-    try:
-        found = items(_sys.Finding, library().pdb_validate, lent.at, lent.length, int(every))
-        return [_finding(it) for it in found]
-    finally:
+    with lent as place:
         lent.release()
+        return [_finding(it) for it in items(_sys.Finding, library().pdb_validate, *place, int(every))]

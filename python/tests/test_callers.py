@@ -2,6 +2,7 @@
 their own that stay open, and many files in a row."""
 
 import copy
+import gc
 import inspect
 import mmap
 import multiprocessing
@@ -16,7 +17,7 @@ import unittest
 from unittest import mock
 
 import pdb_container
-from pdb_container import FieldAttribute, LibraryError, Pdb, PdbError, PointerAttribute, Property, Shape, Status, validate
+from pdb_container import FieldAttribute, Pdb, PdbError, PointerAttribute, Property, Shape, Status, validate
 
 from . import SAMPLE
 
@@ -36,13 +37,14 @@ class Threads(unittest.TestCase):
     def test_names_of_one_table(self):
         with pdb_container.open(SAMPLE) as pdb:
             types = list(pdb.types)
-            want = [(it.name, it.unique_name) for it in types]
+            names_of = lambda it: (it.name, getattr(it, "unique_name", None))
+            want = [names_of(it) for it in types]
             wrong, until = [], time.monotonic() + LONG
 
             def read(start: int):
                 while time.monotonic() < until and not wrong:
                     for at in range(start, len(types)):
-                        names = types[at].name, types[at].unique_name
+                        names = names_of(types[at])
                         if names != want[at]:
                             wrong.append((types[at].index, names, want[at]))
 
@@ -69,12 +71,52 @@ class Threads(unittest.TestCase):
                     thread.join()
                 self.assertEqual(found, [True] * 4)
 
-
     def test_interpreter_without_its_lock(self):
-        """The calls rest on the lock, so an interpreter without it is refused."""
+        """Where the interpreter has no lock, the package's own lets one call at a time into the library."""
         with mock.patch.object(sys, "_is_gil_enabled", lambda: False, create=True):
-            with mock.patch.object(pdb_container._library, "_loaded", None), self.assertRaises(LibraryError):
-                pdb_container.open(SAMPLE)
+            with mock.patch.object(pdb_container._library, "_loaded", None), pdb_container.open(SAMPLE) as pdb:
+                names = [it.name for it in pdb.types]
+                read = []
+                thread = threading.Thread(target=lambda: read.append([it.name for it in pdb.types]))
+                with pdb_container._library._LOCK:
+                    thread.start()
+                    thread.join(0.2)
+                    self.assertTrue(thread.is_alive())
+                thread.join()
+                self.assertEqual(read, [names])
+
+    def test_closed_by_another_thread(self):
+        """A thread that reads while another one closes has an answer, or the error of a closed file."""
+        calls = [
+            lambda pdb: pdb.streams[1].read(),
+            lambda pdb: pdb.named_stream("/names"),
+            lambda pdb: len(pdb.streams[:]),
+            lambda pdb: pdb.address_map.rva(0x1000),
+            lambda pdb: pdb.types[0x1000],
+            lambda pdb: pdb_container.AddressMap(pdb._lent),
+        ]
+        usual, failed = sys.getswitchinterval(), []
+        sys.setswitchinterval(1e-6)
+
+        def read(pdb, call):
+            try:
+                while True:
+                    call(pdb)
+            except ValueError as error:
+                failed.append(error)
+
+        try:
+            for _ in range(10):
+                pdb = pdb_container.open(SAMPLE)
+                threads = [threading.Thread(target=read, args=(pdb, call)) for call in calls]
+                for thread in threads:
+                    thread.start()
+                pdb.close()
+                for thread in threads:
+                    thread.join()
+        finally:
+            sys.setswitchinterval(usual)
+        self.assertEqual(len(failed), 10 * len(calls))
 
 
 class Numbers(unittest.TestCase):
@@ -87,6 +129,8 @@ class Numbers(unittest.TestCase):
         calls = {
             "types": (lambda it: self.pdb.types[it], 32),
             "fields": (self.pdb.types.fields, 32),
+            "methods": (self.pdb.types.methods, 32),
+            "layout": (self.pdb.types.layout, 32),
             "ids": (lambda it: self.pdb.ids[it], 32),
             "names": (lambda it: self.pdb.names[it], 32),
             "definition_of": (definitions.definition_of, 32),
@@ -236,7 +280,9 @@ class Closing(unittest.TestCase):
             pdb.close()
 
     def test_files_in_a_row(self):
-        """Files that were closed, or that no one has any more, give back what was read of them."""
+        """Files that were closed, or that no one has any more, give back what was read of them, without a collection."""
+        gc.disable()
+        self.addCleanup(gc.enable)
 
         def peak() -> int:
             return resource.getrusage(resource.RUSAGE_SELF).ru_maxrss
@@ -244,7 +290,7 @@ class Closing(unittest.TestCase):
         def read(count: int, closes: bool):
             for _ in range(count):
                 pdb = pdb_container.open(SAMPLE)
-                str((pdb.types["Derived"], len(pdb.ids), pdb.named_streams, len(pdb.streams)))
+                str((pdb.types["Derived"], list(pdb.types)[5], len(pdb.ids), pdb.ids[0x1000], pdb.named_streams, len(pdb.streams)))
                 if closes:
                     pdb.close()
 

@@ -21,17 +21,14 @@ from pdb_container import (
 )  # fmt: skip
 from pdb_container.__main__ import main
 
-from . import PACKAGE, SAMPLE
+from . import PACKAGE, SAMPLE, parts_of
 
 
 
 def read_types(pdb):
     for it in pdb.types:
-        if it.error is None:
-            words = it.record, it.name, it.unique_name, it.arguments, it.dimensions, it.methods
-            with contextlib.suppress(PdbError):
-                words += (it.fields,)
-            str((it, words))
+        for one in (it, *parts_of(it).get("fields", ()), *parts_of(it).get("methods", ())):
+            str((one, parts_of(one)))
 
 
 def read_layouts(pdb):
@@ -43,8 +40,7 @@ def read_layouts(pdb):
 
 def read_ids(pdb):
     for it in pdb.ids:
-        if it.error is None:
-            str((it, it.record, it.name, it.ids))
+        str((it, parts_of(it)))
 
 
 # What reads each part of a file.
@@ -192,7 +188,7 @@ class OfFile(unittest.TestCase):
         self.assertEqual(len(self.pdb.types[compare.list_index].arguments), 2)
         scale = next(field for field in derived.fields if field.name == "scale")
         self.assertEqual(len(self.pdb.types[scale.list_index].methods), 2)
-        self.assertIsNone(derived.arguments)
+        self.assertFalse(hasattr(derived, "arguments"))
 
     def test_bit_field(self):
         high = self.pdb.types["Flags"].fields[1]
@@ -213,7 +209,7 @@ class OfFile(unittest.TestCase):
         functions = [it.name for it in ids if it.shape is IdShape.FUNCTION]
         self.assertIn("mainCRTStartup", functions)
         build = next(it for it in ids if it.shape is IdShape.BUILD_INFO)
-        self.assertEqual(self.pdb.ids[build.ids[2]].name, "sample.cpp")
+        self.assertEqual(self.pdb.ids[build.argument_indexes[2]].name, "sample.cpp")
         self.assertIn(0x1000, self.pdb.ids)
         with self.assertRaises(KeyError):
             self.pdb.ids[0xFFF]
