@@ -1,6 +1,6 @@
 //! Where the bytes of a file come from.
 
-ghost use Rattle.std.specs.Prelude.{◌≡◌, ◌++◌, ℕ, List, length, map, IsTrue, IfOk, IfErr, IsErrAnd, None};
+ghost use Rattle.std.specs.Prelude.{◌≡◌, ◌++◌, ℕ, List, length, map, IsTrue, OnOk, IfOk, IfErr, IsErrAnd, None, true, false};
 ghost use Rattle.std.specs.Prelude.{slice_index};
 ghost use Rattle.std.specs.IoError.{error_kind};
 ghost use Rattle.pdb_msf.specs.Source.{State, IsFixed, IsKept, IsLastFault, in_memory, HasFailed, ShowsBytes, bytes_at};
@@ -166,12 +166,7 @@ fn view_of(file: &[u8], alloc: Global, slices: &[SourceSlice]) -> Result<ReadVie
     ensures exact { bytes_at file.now (positions slices.now) ≡ None →
         IsErrAnd result (λ e. error_kind e ≡ ErrorKind.UnexpectedEof) }
 {
-    if !all_within(file.len(), slices) {
-        return Err(io::Error::from(ErrorKind::UnexpectedEof));
-    }
-    let Some(size) = total_size(slices) else {
-        return Err(io::Error::from(ErrorKind::OutOfMemory));
-    };
+    let size = named_size(file.len(), slices)?;
     Ok(ReadView::new(copy_slices(alloc, file, slices, size)?))
 }
 
@@ -185,6 +180,24 @@ fn into_view_of(file: Vec<u8>, alloc: Global, slices: &[SourceSlice]) -> Result<
         return Ok(ReadView::new(join_slices(file, slices)));
     }
     view_of(file.as_slice(), alloc, slices)
+}
+
+// How many bytes slices name, which are all within a file of this length.
+pub(crate) fn named_size(len: usize, slices: &[SourceSlice]) -> Result<usize, io::Error>
+    ensures within { OnOk result (IsTrue (list_all (is_within len) slices.now)) }
+    ensures size { IfOk result (λ size. size ≡ length (positions slices.now)) }
+    ensures end { list_all (is_within len) slices.now ≡ false →
+        IsErrAnd result (λ e. error_kind e ≡ ErrorKind.UnexpectedEof) }
+    ensures memory { list_all (is_within len) slices.now ≡ true →
+        IfErr result (λ e. error_kind e ≡ ErrorKind.OutOfMemory) }
+{
+    if !all_within(len, slices) {
+        return Err(io::Error::from(ErrorKind::UnexpectedEof));
+    }
+    match total_size(slices) {
+        Some(size) => Ok(size),
+        None => Err(io::Error::from(ErrorKind::OutOfMemory)),
+    }
 }
 
 // Whether no slice of any bytes passes the end of a file of this length.
