@@ -1,6 +1,6 @@
 //! A source that reads a file as its bytes are requested.
 
-ghost use Rattle.std.specs.Prelude.{◌≡◌, ◌⊎◌, ◌++◌, ◌+◌, ◌<◌, ◌≤◌, ◌^◌, Some, None, false, length, map, slice_index, IsTrue, IfOk, IfErr, OnOk};
+ghost use Rattle.std.specs.Prelude.{◌≡◌, ◌≢◌, ◌⊎◌, ◌++◌, ◌+◌, ◌-◌, ◌<◌, ◌≤◌, ◌^◌, Some, None, false, length, map, slice_index, IsTrue, IfOk, IfErr, OnOk};
 ghost use Rattle.std.specs.Prelude.{IsErrAnd, IfSome};
 ghost use Rattle.std.specs.IoError.{error_kind};
 ghost use Rattle.std.specs.List.{list_all};
@@ -72,6 +72,8 @@ impl<F: ReadAt> FileSource<F> {
         ensures counted { (error_kind result ≡ ErrorKind.OutOfMemory)
             ⊎ (IsOther (error_kind result) × (self.old.faults < self.new.faults)) }
         ensures kind { IsOther (error_kind result) → self.new.last_fault ≡ Some (error_kind result) }
+        ensures other { error_kind error ≢ ErrorKind.OutOfMemory → self.old.faults < 2 ^ 64 - 1 →
+            IsOther (error_kind result) }
         ensures memory { error_kind error ≡ ErrorKind.OutOfMemory → self.new.faults ≡ self.old.faults }
         ensures counts { self.old.faults ≤ self.new.faults }
         ensures file { self.new.file ≡ self.old.file }

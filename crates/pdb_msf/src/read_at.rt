@@ -1,6 +1,7 @@
 //! Files whose bytes are read at any offset.
 
-ghost use Rattle.std.specs.Prelude.{◌≡◌, ◌++◌, ◌+◌, ◌<◌, ◌≤◌, ◌^◌, drop, length, min, take, IsTrue, IfOk, IsOk, OnOk};
+ghost use Rattle.std.specs.Prelude.{◌≡◌, ◌≢◌, ◌++◌, ◌+◌, ◌<◌, ◌≤◌, ◌^◌, drop, length, min, take, IsTrue, IfOk, IfErr, IsOk, OnOk};
+ghost use Rattle.std.specs.IoError.{error_kind};
 ghost use Rattle.pdb_msf.specs.ReadAt.{FileContents, IsRead, bytes_from, memory_file};
 
 use std::io;
@@ -69,19 +70,19 @@ fn copy_front(from: &[u8], to: &mut [u8]) -> usize
 fn read_uninterrupted<F: ReadAt>(file: &mut F, offset: u64, room: &mut [u8]) -> io::Result<usize>
     ensures read { IfOk result (IsRead (F.contents file.old) offset (length room.old) room.new) }
     ensures sound { IsTrue (F.contents file.old).is_sound → IsOk result }
+    ensures retried { IfErr result (λ e. error_kind e ≢ ErrorKind.Interrupted) }
     ensures kept { F.contents file.new ≡ F.contents file.old }
 {
     for _ in 0..u64::MAX {
         match file.read_at(offset, room) {
             Ok(count) => return Ok(count),
-            Err(error) => {
-                if error.kind() != ErrorKind::Interrupted {
-                    return Err(error);
-                }
-            }
+            Err(error) => match error.kind() {
+                ErrorKind::Interrupted => {}
+                _ => return Err(error),
+            },
         }
     }
-    Err(io::Error::from(ErrorKind::Interrupted))
+    Err(io::Error::other("each read was interrupted"))
 }
 
 /// Fills `room` with the bytes from an offset on, by as many reads as it takes.

@@ -2,6 +2,7 @@
 
 mod openings;
 mod pages;
+mod read_files;
 mod sources;
 mod streams;
 pub(crate) mod watched;

@@ -1,5 +1,6 @@
 //! Sources, also those that note and fail.
 
+use super::read_files::are_read;
 use super::{Made, STREAM_1, answers, are_views, bytes_in, bytes_of};
 use pdb_base::Error;
 use pdb_fixtures::{Failing, Noting, s1};
@@ -11,7 +12,7 @@ use std::test::Fail;
 
 /// Slices that are requested from a source, and the bytes of a view of them, or None if the view
 /// fails because the source ends too soon.
-type Views = &'static [(&'static [SourceSlice], Option<&'static [u8]>)];
+pub(super) type Views = &'static [(&'static [SourceSlice], Option<&'static [u8]>)];
 
 /// A slice of so many bytes from an offset on.
 macro_rules! slice {
@@ -52,7 +53,7 @@ const SOURCES: &[(&str, Made, Views)] = rows! {
 };
 
 /// Whether a view has these bytes, or fails because the source ends too soon if there are none.
-fn is_view(view: io::Result<ReadView>, want: Option<&[u8]>) -> bool {
+pub(super) fn is_view(view: io::Result<ReadView>, want: Option<&[u8]>) -> bool {
     match want {
         Some(bytes) => matches!(view, Ok(view) if view.as_slice() == bytes),
         None => matches!(view, Err(error) if error.kind() == ErrorKind::UnexpectedEof),
@@ -60,7 +61,7 @@ fn is_view(view: io::Result<ReadView>, want: Option<&[u8]>) -> bool {
 }
 
 /// Whether the views of a source are these.
-fn sees<S: Source>(alloc: Global, source: &mut S, views: Views) -> bool {
+pub(super) fn sees<S: Source>(alloc: Global, source: &mut S, views: Views) -> bool {
     for (asked, want) in views {
         if !is_view(source.view(alloc, asked), *want) {
             return false;
@@ -69,11 +70,12 @@ fn sees<S: Source>(alloc: Global, source: &mut S, views: Views) -> bool {
     true
 }
 
-/// Whether the views of bytes are these, owned and borrowed.
+/// Whether the views of bytes are these, owned, borrowed and read from a file.
 fn are_seen(alloc: Global, source: &Made, views: Views) -> pdb_base::Result<bool> {
     let mut owned = bytes_of(alloc, source)?;
     let seen = sees(alloc, &mut owned, views);
-    Ok(seen && sees(alloc, &mut owned.as_slice(), views))
+    let lent = sees(alloc, &mut owned.as_slice(), views);
+    Ok(seen && lent && are_read(alloc, source, views)?)
 }
 
 #[test]
