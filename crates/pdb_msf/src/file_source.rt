@@ -1,6 +1,7 @@
 //! A source that reads a file as its bytes are requested.
 
-ghost use Rattle.std.specs.Prelude.{◌≡◌, ◌≢◌, ◌⊎◌, ◌++◌, ◌+◌, ◌-◌, ◌<◌, ◌≤◌, ◌^◌, Some, None, false, length, map, slice_index, IsTrue, IfOk, IfErr, OnOk};
+ghost use Rattle.std.specs.Prelude.{◌≡◌, ◌≢◌, ◌⊎◌, ◌++◌, ◌+◌, ◌-◌, ◌<◌, ◌≤◌, ◌^◌, Some, None, false, length, map};
+ghost use Rattle.std.specs.Prelude.{slice_index, IsTrue, IfOk, IfErr, OnOk};
 ghost use Rattle.std.specs.Prelude.{IsErrAnd, IfSome};
 ghost use Rattle.std.specs.IoError.{error_kind};
 ghost use Rattle.std.specs.List.{list_all};
@@ -13,11 +14,10 @@ use crate::read_at::{ReadAt, fill};
 use crate::seek_file::SeekFile;
 use crate::source::{ReadView, Source, SourceSlice, named_size};
 use std::alloc::Global;
-use std::fs;
 use std::fs::Files;
-use std::io;
 use std::io::ErrorKind;
 use std::path::AsPath;
+use std::{fs, io};
 
 /// How many bytes are read at a time, at most.
 const PIECE_SIZE: usize = 1 << 20;

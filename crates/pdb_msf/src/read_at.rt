@@ -1,6 +1,7 @@
 //! Files whose bytes are read at any offset.
 
-ghost use Rattle.std.specs.Prelude.{◌≡◌, ◌≢◌, ◌++◌, ◌+◌, ◌<◌, ◌≤◌, ◌^◌, drop, length, min, take, IsTrue, IfOk, IfErr, IsOk, OnOk};
+ghost use Rattle.std.specs.Prelude.{◌≡◌, ◌≢◌, ◌++◌, ◌+◌, ◌<◌, ◌≤◌, ◌^◌, drop, length, min, take, IsTrue, IfOk, IfErr};
+ghost use Rattle.std.specs.Prelude.{IsOk, OnOk};
 ghost use Rattle.std.specs.IoError.{error_kind};
 ghost use Rattle.pdb_msf.specs.ReadAt.{FileContents, IsRead, bytes_from, memory_file};
 

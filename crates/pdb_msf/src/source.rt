@@ -1,6 +1,7 @@
 //! Where the bytes of a file come from.
 
-ghost use Rattle.std.specs.Prelude.{◌≡◌, ◌++◌, ℕ, List, length, map, IsTrue, OnOk, IfOk, IfErr, IsErrAnd, None, true, false};
+ghost use Rattle.std.specs.Prelude.{◌≡◌, ◌++◌, ℕ, List, length, map, IsTrue, OnOk, IfOk, IfErr, IsErrAnd, None, true};
+ghost use Rattle.std.specs.Prelude.{false};
 ghost use Rattle.std.specs.Prelude.{slice_index};
 ghost use Rattle.std.specs.IoError.{error_kind};
 ghost use Rattle.pdb_msf.specs.Source.{State, IsFixed, IsKept, IsLastFault, in_memory, HasFailed, ShowsBytes, bytes_at};

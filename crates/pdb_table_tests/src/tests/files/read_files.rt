@@ -113,7 +113,10 @@ fn shrunk_files(rt: HostRuntime) -> Result<(), Fail> {
             offset: *offset,
             size: *size,
         };
-        assert!(rt; is_seen(alloc, &mut source, slice, want), "{size} from {offset}");
+        assert!(rt;
+            is_seen(alloc, &mut source, slice, want),
+            "{size} from {offset}"
+        );
     }
     Ok(())
 }

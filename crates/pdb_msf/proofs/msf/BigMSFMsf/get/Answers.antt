@@ -30,8 +30,8 @@ returns-in_err-bytes-clause-asked g c fixed =
     let head : header_view inside.header ≡ c.args.self.now.head = ap (λ m. m.head) c.self.view_is
     ∙ c.in_ok-locate.ensures.head in
     let still : IsFixed (g.S.Source.state inside.source.source) =
-    subst IsTrue (sym (ap (λ m. (g.S.Source.state m.source).is_fixed) c.self.view_is ∙ c.in_ok-locate.ensures.source.fixed))
-    fixed in
+    subst IsTrue (sym (ap (λ m. (g.S.Source.state m.source).is_fixed) c.self.view_is
+    ∙ c.in_ok-locate.ensures.source.fixed)) fixed in
     let wants = wanted_is _ _ _ _ c.args.stream_number c.args.limit c.in-Some.directory.bytes.items
     (entry_view c.in_ok-entry.entry) file head (kept.bytes still) c.in_ok-entry.ensures.entry in
     let whole = sym wants in
