@@ -1,7 +1,7 @@
 -- Replies to queries one after another.
-use Rattle.std.proofs.Common.{◌≡◌, ℕ, List, [], ◌∷◌, ◌++◌}
+use Rattle.std.proofs.Common.{◌≡◌, ℕ, List, [], ◌∷◌, ◌++◌, subst, sym}
 use Rattle.std.specs.Prelude.{IsTrue}
-use Rattle.pdb_msf.specs.Source.{State, IsKept}
+use Rattle.pdb_msf.specs.Source.{State, IsFixed, IsKept}
 use Rattle.pdb_msf.specs.File.{Opened, stream_of}
 use Rattle.pdb_msf.specs.Header.{Head}
 use Rattle.pdb_container.specs.declared.query.Query.{Query}
@@ -23,19 +23,28 @@ one_more failed file head (q ∷ queries) [] query reply are is = absurd are
 one_more failed file head (q ∷ queries) (r ∷ replies) query reply are is =
     (are.0, one_more failed file head queries replies query reply are.1 is)
 
+-- bytes that were fixed first are so now
+pub still_fixed : (first old : State) → IsKept first old → IsFixed first → IsFixed old
+still_fixed first old kept fixed = subst IsTrue (sym kept.fixed) fixed
+
+-- and bytes that are fixed now were so first
+pub was_fixed : (first old : State) → IsKept first old → IsFixed old → IsFixed first
+was_fixed first old kept fixed = subst IsTrue kept.fixed fixed
+
 -- a reply of a source as it was left is one of the source as it was first
 pub reply_of_first : (failed : Type 0) (first old : State) (before head : Head) (query : Query) (reply : Reply)
     → IsKept first old → head ≡ before
-    → (failed → ¬ IsTrue first.is_sound) → IsReply failed reply (reply_of old.bytes head query)
-    → IsReply (¬ IsTrue first.is_sound) reply (reply_of first.bytes before query)
-reply_of_first failed first old before head query reply kept same unsound is =
-    rw (← kept.bytes, ← same) (IsReply-weaker _ _ reply _ unsound is)
+    → (failed → ¬ IsTrue first.is_sound) → (IsFixed old → IsReply failed reply (reply_of old.bytes head query))
+    → IsFixed first → IsReply (¬ IsTrue first.is_sound) reply (reply_of first.bytes before query)
+reply_of_first failed first old before head query reply kept same unsound is fixed =
+    rw (← kept.bytes, ← same) (IsReply-weaker _ _ reply _ unsound (is (still_fixed first old kept fixed)))
 
 -- tables of a file that stays open are still its tables
 pub same_tables : {S : Type 0} (state : S → State) (old new : Opened S) (tables : OpenTables) → StaysOpen state old new
-    → AreOf (stream_of (state old.source).bytes old.head) tables
-    → AreOf (stream_of (state new.source).bytes new.head) tables
-same_tables state old new tables kept are = rw (kept.source.bytes, kept.head) are
+    → (IsFixed (state old.source) → AreOf (stream_of (state old.source).bytes old.head) tables)
+    → IsFixed (state new.source) → AreOf (stream_of (state new.source).bytes new.head) tables
+same_tables state old new tables kept are fixed =
+    rw (kept.source.bytes, kept.head) (are (was_fixed _ _ kept.source fixed))
 
 AreReplies-weaker : (failed unsound : Type 0) (file : List ℕ) (head : Head) (queries : List Query)
     (replies : List Reply) → (failed → unsound)
@@ -50,8 +59,8 @@ AreReplies-weaker failed unsound file head (q ∷ queries) (r ∷ replies) weake
 
 -- the replies of a file that was opened are those of its source
 pub opened_replies : (first now : State) (head : Head) (queries : List Query) (replies : List Reply) → IsKept first now
-    → AreReplies (¬ IsTrue now.is_sound) now.bytes head queries replies
-    → AreReplies (¬ IsTrue first.is_sound) first.bytes head queries replies
-opened_replies first now head queries replies kept are =
+    → (IsFixed now → AreReplies (¬ IsTrue now.is_sound) now.bytes head queries replies)
+    → IsFixed first → AreReplies (¬ IsTrue first.is_sound) first.bytes head queries replies
+opened_replies first now head queries replies kept are fixed =
     rw (← kept.bytes) (AreReplies-weaker _ _ now.bytes head queries replies
-    (λ unsound sound. unsound (kept.sound sound).0) are)
+    (λ unsound sound. unsound (kept.sound sound).0) (are (still_fixed first now kept fixed)))

@@ -16,6 +16,7 @@ pub use Rattle.pdb_base.specs.Reading
 pub use Rattle.pdb_base.specs.Text
 pub use Rattle.pdb_base.specs.Numeric
 pub use Rattle.pdb_msf.specs.Source
+pub use Rattle.pdb_msf.specs.ReadAt
 pub use Rattle.pdb_msf.specs.PageList
 pub use Rattle.pdb_msf.specs.Header
 pub use Rattle.pdb_msf.specs.Asked as SourceAsked

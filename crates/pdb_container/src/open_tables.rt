@@ -74,7 +74,8 @@ fn read_table<T: Table, F: ReadStreams>(
     number: u32,
 ) -> Result<Numbered<T>>
     requires { F.can_read file.old }
-    ensures table { OpensTable (F.failed file.old file.new) T.before T.table_in (F.stream file.old) number result }
+    ensures table { F.is_fixed file.old →
+        OpensTable (F.failed file.old file.new) T.before T.table_in (F.stream file.old) number result }
     ensures kept { F.kept file.old file.new }
 {
     let stream = file.read(alloc, number, None)?;
@@ -92,8 +93,9 @@ fn table_of_stream<T: Table, F: ReadStreams>(
     last: Option<Numbered<T>>,
 ) -> Result<Numbered<T>>
     requires can_read { F.can_read file.old }
-    requires of { IsOf T.before T.table_in (F.stream file.old) last }
-    ensures table { OpensTable (F.failed file.old file.new) T.before T.table_in (F.stream file.old) number result }
+    requires of { F.is_fixed file.old → IsOf T.before T.table_in (F.stream file.old) last }
+    ensures table { F.is_fixed file.old →
+        OpensTable (F.failed file.old file.new) T.before T.table_in (F.stream file.old) number result }
     ensures kept { F.kept file.old file.new }
 {
     if let Some(last) = last {
@@ -128,10 +130,11 @@ impl OpenTables {
         query: Query,
     ) -> Result<Reply>
         requires can_read { F.can_read file.old }
-        requires of { AreOf (F.stream file.old) self.old }
-        ensures reply { RepliesUnless (F.failed file.old file.new) result (reply_by (F.stream file.old) query) }
-        ensures of { AreOf (F.stream file.old) self.new }
-        ensures few { IsTrue F.lasts → calls_of self.new.reads ≤
+        requires of { F.is_fixed file.old → AreOf (F.stream file.old) self.old }
+        ensures reply { F.is_fixed file.old →
+            RepliesUnless (F.failed file.old file.new) result (reply_by (F.stream file.old) query) }
+        ensures of { F.is_fixed file.old → AreOf (F.stream file.old) self.new }
+        ensures few { IsTrue F.lasts → F.is_fixed file.old → calls_of self.new.reads ≤
             calls_of self.old.reads + 8 * most_look_ups (F.stream file.old) query }
         ensures kept { F.kept file.old file.new }
     {
@@ -177,10 +180,10 @@ impl OpenTables {
     /// Answers a query. An error is a reply too.
     pub fn reply<F: ReadStreams>(&mut self, alloc: Global, file: &mut F, query: Query) -> Reply
         requires can_read { F.can_read file.old }
-        requires of { AreOf (F.stream file.old) self.old }
-        ensures reply { IsReply (F.failed file.old file.new) result (reply_by (F.stream file.old) query) }
-        ensures of { AreOf (F.stream file.old) self.new }
-        ensures few { IsTrue F.lasts → calls_of self.new.reads ≤
+        requires of { F.is_fixed file.old → AreOf (F.stream file.old) self.old }
+        ensures reply { F.is_fixed file.old → IsReply (F.failed file.old file.new) result (reply_by (F.stream file.old) query) }
+        ensures of { F.is_fixed file.old → AreOf (F.stream file.old) self.new }
+        ensures few { IsTrue F.lasts → F.is_fixed file.old → calls_of self.new.reads ≤
             calls_of self.old.reads + 8 * most_look_ups (F.stream file.old) query }
         ensures kept { F.kept file.old file.new }
     {

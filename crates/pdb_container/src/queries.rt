@@ -1,6 +1,7 @@
 //! Runs of queries over one file.
 
 ghost use Rattle.std.specs.Prelude.{◌≡◌, ◌≤◌, [], IsTrue, length, vec_capacity};
+ghost use Rattle.pdb_msf.specs.Source.{IsFixed};
 ghost use Rattle.pdb_container.specs.Reply.{AreReplies, IsRun};
 
 use crate::open_tables::OpenTables;
@@ -19,8 +20,8 @@ fn answer_all<S: Source + Drop>(
 ) -> Vec<Reply>
     requires none { replies.items ≡ [] }
     requires room { length queries.now ≤ vec_capacity replies }
-    ensures { AreReplies (¬ IsTrue (S.state file.source).is_sound) (S.state file.source).bytes file.head
-        queries.now result.items }
+    ensures { IsFixed (S.state file.source) → AreReplies (¬ IsTrue (S.state file.source).is_sound)
+        (S.state file.source).bytes file.head queries.now result.items }
 {
     let Some((last, first)) = queries.split_last() else {
         return replies;
@@ -45,7 +46,8 @@ fn answer_all<S: Source + Drop>(
 /// Fails as `open_msf` does, or with `OutOfMemory` if there is no room for the list of replies. An
 /// allocation that fails within a query is the reply to that query alone.
 pub fn run<S: Source + Drop>(alloc: Global, source: S, queries: &[Query]) -> Result<Vec<Reply>>
-    ensures { IsRun (¬ IsTrue (S.state source).is_sound) (S.state source).bytes queries.now result }
+    ensures { IsFixed (S.state source) →
+        IsRun (¬ IsTrue (S.state source).is_sound) (S.state source).bytes queries.now result }
 {
     let file = open_msf(alloc, source)?;
     let replies = Vec::with_capacity(alloc, queries.len())?;

@@ -2,8 +2,8 @@
 
 ghost use Rattle.std.specs.Prelude.{◌≡◌, ℕ, Bool, true, false, List, Option, Some, None, IsSome};
 ghost use Rattle.pdb_base.specs.Answer.{Answer, AnswersUnless};
-ghost use Rattle.pdb_msf.specs.{File.stream_of, Source.HasFailed};
-ghost use Rattle.pdb_container.specs.ReadStreams.{StaysOpen, WasSound, stays_open, stream_once};
+ghost use Rattle.pdb_msf.specs.{File.stream_of, Source.HasFailed, Source.IsFixed};
+ghost use Rattle.pdb_container.specs.ReadStreams.{StaysOpen, WasFixed, WasSound, stays_open, stream_once};
 
 use pdb_base::{Error, Result, Stream};
 use pdb_msf::{BigMSF, Msf, Source};
@@ -11,10 +11,13 @@ use std::alloc::Global;
 
 /// A file whose streams are read.
 pub trait ReadStreams {
-    // Whether another stream can be read after the next one; the stream of a number, cut to a limit;
-    // whether one can still be read; whether the source failed between two states; and what stays
-    // true from one to the next, also where nothing is read.
+    // Whether another stream can be read after the next one; whether the bytes of the source are
+    // fixed; the stream of a number, cut to a limit; whether one can still be read; whether the
+    // source failed between two states; and what stays true from one to the next, also where nothing
+    // is read.
     ghost lasts: { Bool };
+
+    ghost is_fixed: { Self → Type 0 };
 
     ghost stream: { Self → ℕ → Option ℕ → Answer (List ℕ) };
 
@@ -31,7 +34,7 @@ pub trait ReadStreams {
     /// Returns the bytes of a stream, at most as many as the limit.
     fn read(&mut self, alloc: Global, number: u32, limit: Option<usize>) -> Result<Stream>
         requires { can_read self.old }
-        ensures answer { AnswersUnless (failed self.old self.new) (λ stream. stream) result
+        ensures answer { is_fixed self.old → AnswersUnless (failed self.old self.new) (λ stream. stream) result
             (stream self.old number limit) }
         ensures kept { kept self.old self.new };
 
@@ -40,6 +43,8 @@ pub trait ReadStreams {
 
 impl<S: Source> ReadStreams for BigMSF<S> {
     ghost lasts = { true };
+
+    ghost is_fixed = { λ file. IsFixed (S.state file.source) };
 
     ghost stream = { λ file. stream_of (S.state file.source).bytes file.head };
 
@@ -63,6 +68,8 @@ impl<S: Source> ReadStreams for BigMSF<S> {
 /// A file that the next read consumes.
 impl<S: Source + Drop> ReadStreams for Option<BigMSF<S>> {
     ghost lasts = { false };
+
+    ghost is_fixed = { λ file. WasFixed S.state file };
 
     ghost stream = { λ file. stream_once S.state file };
 

@@ -3,7 +3,7 @@
 ghost use Rattle.std.specs.Prelude.{◌≡◌, unwrap_or, map, IfOk, IsTrue};
 ghost use Rattle.std.specs.Option.{option_map};
 ghost use Rattle.pdb_base.specs.Answer.{Answers, AnswersUnless, Gives};
-ghost use Rattle.pdb_msf.specs.Source.{IsKept};
+ghost use Rattle.pdb_msf.specs.Source.{IsFixed, IsKept};
 ghost use Rattle.pdb_msf.specs.Header.{file_head};
 ghost use Rattle.pdb_msf.specs.File.{IsFresh, Opened, ReadsFile};
 ghost use Rattle.pdb_space.specs.Omap.{omap_table_of};
@@ -75,7 +75,7 @@ impl<S: Source + Drop> PDB<S> {
     /// # Errors
     /// Fails as `open_msf` does.
     pub fn open(alloc: Global, source: S) -> Result<PDB<S>>
-        ensures head { AnswersUnless (¬ IsTrue (S.state source).is_sound)
+        ensures head { IsFixed (S.state source) → AnswersUnless (¬ IsTrue (S.state source).is_sound)
             (λ pdb. pdb.head) result (file_head (S.state source).bytes) }
         ensures kept { IfOk result (λ pdb. IsKept (S.state source) (S.state pdb.source)) }
         ensures fresh { IfOk result (λ pdb. IsFresh pdb) }

@@ -1,5 +1,5 @@
 -- A source of which one view fails.
-use Rattle.std.specs.Prelude.{ℕ, ◌+◌, ◌-◌, ◌==◌, if◌then◌else◌, List, Some, None}
+use Rattle.std.specs.Prelude.{ℕ, ◌+◌, ◌-◌, ◌==◌, if◌then◌else◌, true, List, Some, None}
 use Rattle.std.specs.declared.io.ErrorKind.{ErrorKind}
 use Rattle.pdb_msf.specs.Source.{State}
 
@@ -16,6 +16,7 @@ abbrev pub state_of : Countdown → State
 state_of source =
     record {
       bytes = source.bytes;
+      is_fixed = true;
       faults = source.faults;
       last_fault =
           if source.faults == 0 then None else Some source.kind;

@@ -1,6 +1,6 @@
 //! A source that fails once, with an error that has a text of its own.
 
-ghost use Rattle.std.specs.Prelude.{◌≡◌, ◌==◌, IfErr, MatchBool, IsErrAnd};
+ghost use Rattle.std.specs.Prelude.{◌≡◌, ◌==◌, length, IfOk, IfErr, MatchBool, IsErrAnd};
 ghost use Rattle.std.specs.IoError.{error_kind};
 ghost use Rattle.pdb_msf.specs.Source.{HasFailed, IsKept, IsLastFault, IsOther, ShowsBytes, bytes_at, positions};
 ghost use Rattle.pdb_fixtures.specs.Failing.{counted_down, state_of};
@@ -68,6 +68,7 @@ impl Source for Failing {
     fn view(&mut self, alloc: Global, slices: &[SourceSlice]) -> Result<ReadView, io::Error>
         ensures view { ShowsBytes (HasFailed (state_of self.old) (state_of self.new)) (λ v. v) result
             (bytes_at self.old.bytes (positions slices.now)) }
+        ensures len { IfOk result (λ v. length v ≡ length (positions slices.now)) }
         ensures kind { IfErr result (λ e. IsLastFault (state_of self.new) (error_kind e)) }
         ensures kept { IsKept (state_of self.old) (state_of self.new) }
         ensures counts { self.new ≡ counted_down self.old }

@@ -1,6 +1,6 @@
 //! A source that notes the slices that are requested from it.
 
-ghost use Rattle.std.specs.Prelude.{◌≡◌, ◌⊎◌, ◌∷◌, ◌++◌, [], map, IfErr, IsErrAnd};
+ghost use Rattle.std.specs.Prelude.{◌≡◌, ◌⊎◌, ◌∷◌, ◌++◌, [], length, map, IfOk, IfErr, IsErrAnd};
 ghost use Rattle.std.specs.IoError.{error_kind};
 ghost use Rattle.std.specs.declared.io.ErrorKind.TheVariants.{OutOfMemory};
 ghost use Rattle.pdb_msf.specs.Source.{HasFailed, IsKept, IsLastFault, ShowsBytes, bytes_at, positions};
@@ -54,6 +54,7 @@ impl Source for Noting {
     fn view(&mut self, alloc: Global, slices: &[SourceSlice]) -> Result<ReadView, io::Error>
         ensures view { ShowsBytes (HasFailed (state_of self.old) (state_of self.new)) (λ v. v) result
             (bytes_at self.old.bytes (positions slices.now)) }
+        ensures len { IfOk result (λ v. length v ≡ length (positions slices.now)) }
         ensures kind { IfErr result (λ e. IsLastFault (state_of self.new) (error_kind e)) }
         ensures kept { IsKept (state_of self.old) (state_of self.new) }
         ensures noted { (self.new ≡ record self.old { notes = self.old.notes ++ slices.now ∷ [] })

@@ -1,4 +1,5 @@
 pub mod PositionLemmas
+pub mod ReadLemmas
 pub mod JoinLemmas
 pub mod SliceLemmas
 pub mod RunLemmas

@@ -1,10 +1,11 @@
 -- The positions that slices name, and the bytes that stand there.
 use Rattle.std.proofs.Common.{get_or, ◌≡◌, ℕ, zero, suc, ◌+◌, ◌-◌, ◌^◌, ◌<◌, ◌≤◌, ◌==◌, Bool, true, false, ◌&&◌, ◌||◌}
 use Rattle.std.proofs.Common.{ltb, leb, List, [], ◌∷◌, ◌++◌, length, take, drop, map, refl, sym, ap, ◌∙◌, arith}
-use Rattle.std.proofs.Common.{slice_index, length-append, Some, None}
+use Rattle.std.proofs.Common.{slice_index, length-append, Some, None, cond, subst, inl, inr}
 use Rattle.std.specs.List.{list_all, range_with_len}
 use Rattle.std.proofs.lemmas.Grind.{flat_map-append, common_steps}
-use Rattle.std.proofs.lemmas.Bool.{le-ltb, lt-ltb}
+use Rattle.std.proofs.lemmas.Bool.{cases_lt, le-ltb, lt-ltb}
+use Rattle.std.proofs.lemmas.Option.{none-some, same_Some}
 use Rattle.std.proofs.lemmas.Bool.Decides.{nat_tests}
 use Rattle.std.proofs.lemmas.List.Folds.{list_all-append}
 use Rattle.std.proofs.lemmas.List.{append-nil, get_or-take, get_or-drop, length-take, length-drop, take_more}
@@ -29,7 +30,7 @@ length-positions_push slices slice =
     ap length (positions_push slices slice) ∙ length-append (positions slices) (slice_positions slice)
     ∙ ap (λ (n : ℕ). length (positions slices) + n) (length-range_with_len slice.offset slice.size)
 
-length-positions_more : (slices : List SourceSlice) (i : ℕ) (d : SourceSlice) → i < length slices
+pub length-positions_more : (slices : List SourceSlice) (i : ℕ) (d : SourceSlice) → i < length slices
     → length (positions (take (i + 1) slices)) ≡ length (positions (take i slices)) + (get_or slices i d).size
 length-positions_more slices i d within =
     ap (λ (s : List SourceSlice). length (positions s)) (take_more slices i d within)
@@ -77,6 +78,15 @@ size_fits slices total is small =
     let test : ltb (length (positions slices)) (2 ^ 64) ≡ true =
     lt-ltb (length (positions slices)) (2 ^ 64) (omega (arith, is, small)) in
     rw test (ap (λ (n : ℕ). Some n) (sym is))
+
+pub size_known : (total size : ℕ) → if_fits_usize total ≡ Some size → size ≡ total
+unfolding if_fits_usize
+size_known total size is = elim (cases_lt total (2 ^ 64)) [
+  | inl fits ↦ sym (same_Some total size
+      (subst (λ (b : Bool). cond b (Some total) None ≡ Some size) (lt-ltb total (2 ^ 64) fits) is))
+  | inr past ↦ absurd (none-some size
+      (subst (λ (b : Bool). cond b (Some total) None ≡ Some size) (le-ltb total (2 ^ 64) past) is))
+]
 
 -- ---- the bytes there
 

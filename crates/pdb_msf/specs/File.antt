@@ -6,7 +6,7 @@ use Rattle.pdb_msf.specs.declared.header.Geometry.{Geometry}
 use Rattle.pdb_msf.specs.declared.header.Header.{Header}
 use Rattle.pdb_msf.specs.declared.directory.Directory.{Directory}
 use Rattle.pdb_msf.specs.declared.directory.StreamPlace.{StreamPlace}
-use Rattle.pdb_msf.specs.Source.{HasFailed, IsKept, State, bytes_or_eof}
+use Rattle.pdb_msf.specs.Source.{HasFailed, IsFixed, IsKept, State, bytes_or_eof}
 use Rattle.pdb_msf.specs.Pages.{scatter}
 use Rattle.pdb_msf.specs.Header.{Head, IsHeader, directory_pages, header_view}
 use Rattle.pdb_msf.specs.Directory.{PagesOfStream, HasStarts, directory_of, stream_entry_of, stream_place_in, size_in}
@@ -27,10 +27,10 @@ pub record IsFresh {S : Type 0} (file : Opened S) : Type 0 where
   pub located : file.located ≡ false
 
 -- A call that reads a file returns what is meant for the file's bytes and header, as `view` sees it, unless the source
--- failed. The bytes and the header stay the same.
+-- failed, if its bytes are fixed. The bytes and the header stay the same.
 pub record ReadsFile {S X A : Type 0} (state : S → State) (old new : Opened S) (view : X → A) (result : Result X Error)
     (meant : List ℕ → Head → Answer A) : Type 0 where
-  pub answer : AnswersUnless (HasFailed (state old.source) (state new.source)) view result
+  pub answer : IsFixed (state old.source) → AnswersUnless (HasFailed (state old.source) (state new.source)) view result
       (meant (state old.source).bytes old.head)
   pub source : IsKept (state old.source) (state new.source)
   pub head : new.head ≡ old.head
@@ -68,12 +68,12 @@ abbrev pub requested_size : Answer PagesOfStream → ℕ
 requested_size (Ok entry) = entry.size
 requested_size (Err refusal) = 0
 
--- The directory that is kept is the one that the file has, with the offsets of its streams.
-pub record IsKeptOf (file : List ℕ) (head : Head) (directory : Directory) : Type 0 where
-  pub bytes : directory_of file head ≡ Ok directory.bytes.items
+-- The directory that is kept is the one that the file has, if its bytes are fixed, with the offsets of its streams.
+pub record IsKeptOf (file : State) (head : Head) (directory : Directory) : Type 0 where
+  pub bytes : IsFixed file → directory_of file.bytes head ≡ Ok directory.bytes.items
   pub places : HasStarts head.geometry.page_size directory
 
 -- An open file has a header that was read and, if its directory is kept, the directory that the file has.
-pub record IsOpen (file : List ℕ) (header : Header) (directory : Option Directory) : Type 0 where
+pub record IsOpen (file : State) (header : Header) (directory : Option Directory) : Type 0 where
   pub read : IsHeader header
   pub kept : IfSome directory (IsKeptOf file (header_view header))

@@ -1,4 +1,5 @@
 pub mod Source
+pub mod ReadAt
 pub mod Within
 pub mod InPlace
 pub mod Pages

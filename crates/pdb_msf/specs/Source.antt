@@ -11,23 +11,30 @@ use Rattle.pdb_base.specs.Refusal.{Refusal, refusal_of, io_error}
 use Rattle.pdb_base.specs.Answer.{Answer}
 use Rattle.pdb_msf.specs.declared.source.SourceSlice.{SourceSlice}
 
--- The state of a source: its bytes, which are fixed, how many faults it has met so far, the kind of the
--- last one, if there was one, and whether the source is sound. A sound source fails only at the end of
+-- The state of a source: its bytes, whether these are fixed, how many faults it has met so far, the kind of
+-- the last one, if there was one, and whether the source is sound. A sound source fails only at the end of
 -- its bytes or for lack of memory.
 pub record State : Type 0 where
   pub bytes : List ℕ
+  pub is_fixed : Bool
   pub faults : ℕ
   pub last_fault : Option ErrorKind
   pub is_sound : Bool
 
 -- a source of bytes in memory, which fails only at their end or for lack of memory
 abbrev pub in_memory : List ℕ → State
-in_memory bytes = record { bytes = bytes; faults = 0; last_fault = None; is_sound = true }
+in_memory bytes = record { bytes = bytes; is_fixed = true; faults = 0; last_fault = None; is_sound = true }
+
+-- The bytes of the source are fixed: it returns the same ones whenever they are read. Bytes in memory are. Those of a
+-- file that a process has opened are only as long as nobody writes to the file.
+abbrev pub IsFixed : State → Type 0
+IsFixed state = IsTrue state.is_fixed
 
 -- What stays true of a source over a view: the bytes never change, the count of faults never decreases, and a
 -- sound source stays sound and meets no fault.
 pub record IsKept (old new : State) : Type 0 where
   pub bytes : new.bytes ≡ old.bytes
+  pub fixed : new.is_fixed ≡ old.is_fixed
   pub counts : old.faults ≤ new.faults
   pub sound : IsTrue old.is_sound → IsTrue new.is_sound × (new.faults ≡ old.faults)
 

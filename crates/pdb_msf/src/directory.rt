@@ -3,7 +3,7 @@
 ghost use Rattle.std.specs.Prelude.{◌≡◌, ◌*◌, ◌^◌, ◌<◌, ◌≤◌, false, length, slice_get, vec_capacity, vec_len, IfOk};
 ghost use Rattle.pdb_base.specs.Memory.{FailsOnlyForMemory};
 ghost use Rattle.pdb_base.specs.Answer.{Answers, AnswersUnless, Gives};
-ghost use Rattle.pdb_msf.specs.Source.{HasFailed, IsKept, KeepsKind};
+ghost use Rattle.pdb_msf.specs.Source.{HasFailed, IsFixed, IsKept, KeepsKind};
 ghost use Rattle.pdb_msf.specs.Header.{directory_pages, header_view, IsHeader};
 ghost use Rattle.pdb_msf.specs.Asked.{Asks};
 ghost use Rattle.pdb_msf.specs.Exactly.{RefusesExactly};
@@ -58,8 +58,8 @@ pub fn read_numbers<S: Source>(
     header: &Header,
 ) -> Result<Vec<u32>>
     requires { IsHeader header.now }
-    ensures numbers { AnswersUnless (HasFailed (S.state source.old.source) (S.state source.new.source))
-        (λ v. v.items) result
+    ensures numbers { IsFixed (S.state source.old.source) → AnswersUnless
+        (HasFailed (S.state source.old.source) (S.state source.new.source)) (λ v. v.items) result
         (directory_numbers (S.state source.old.source).bytes (header_view header.now)) }
     ensures count { IfOk result (λ v. vec_len v ≡ directory_pages header.now.geometry) }
     ensures kept { IsKept (S.state source.old.source) (S.state source.new.source) }
@@ -81,7 +81,8 @@ fn read_directory<S: Source>(
     header: &Header,
 ) -> Result<ReadView>
     requires { IsHeader header.now }
-    ensures bytes { AnswersUnless (HasFailed (S.state source.old.source) (S.state source.new.source)) (λ v. v) result
+    ensures bytes { IsFixed (S.state source.old.source) → AnswersUnless
+        (HasFailed (S.state source.old.source) (S.state source.new.source)) (λ v. v) result
         (directory_of (S.state source.old.source).bytes (header_view header.now)) }
     ensures short { IfOk result (λ v. length v < 2 ^ 32) }
     ensures kept { IsKept (S.state source.old.source) (S.state source.new.source) }
@@ -141,8 +142,8 @@ impl Directory {
         header: &Header,
     ) -> Result<Directory>
         requires { IsHeader header.now }
-        ensures bytes { AnswersUnless (HasFailed (S.state source.old.source) (S.state source.new.source))
-            (λ d. d.bytes.items) result
+        ensures bytes { IsFixed (S.state source.old.source) → AnswersUnless
+            (HasFailed (S.state source.old.source) (S.state source.new.source)) (λ d. d.bytes.items) result
             (directory_of (S.state source.old.source).bytes (header_view header.now)) }
         ensures places { IfOk result (HasStarts header.now.geometry.page_size) }
         ensures kept { IsKept (S.state source.old.source) (S.state source.new.source) }

@@ -2,6 +2,7 @@
 #![tactic(auto)]
 
 mod directory;
+mod file_source;
 mod header;
 mod in_place;
 pub mod laws;
@@ -9,11 +10,16 @@ mod layout;
 mod magic;
 mod msf;
 mod page_list;
+mod read_at;
 mod scattered;
+mod seek_file;
 mod source;
 
+pub use file_source::{FileSource, open_path};
 pub use layout::Layout;
 pub use magic::{big, small};
 pub use msf::{BigMSF, Msf, open_msf};
 pub use page_list::PageList;
+pub use read_at::ReadAt;
+pub use seek_file::SeekFile;
 pub use source::{ReadView, Source, SourceSlice, SourceView};

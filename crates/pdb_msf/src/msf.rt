@@ -2,7 +2,7 @@
 
 ghost use Rattle.std.specs.Prelude.{◌≡◌, ◌+◌, ◌^◌, ◌<◌, false, IsTrue, IsOk, IfOk, MatchResult};
 ghost use Rattle.pdb_base.specs.Answer.{Answers, AnswersUnless, RefusesUnless};
-ghost use Rattle.pdb_msf.specs.Source.{HasFailed, IsKept, KeepsKind};
+ghost use Rattle.pdb_msf.specs.Source.{HasFailed, IsFixed, IsKept, KeepsKind};
 ghost use Rattle.pdb_msf.specs.Header.{geometry_of, head_of, opening, file_head};
 ghost use Rattle.pdb_msf.specs.Asked.{Asks};
 ghost use Rattle.pdb_msf.specs.Exactly.{RefusesExactly};
@@ -47,8 +47,8 @@ pub trait Msf<S: Source> {
     /// Fails with `OutOfMemory` if an allocation fails. Once the directory is kept, that is never
     /// in place of an error that comes before those of the stream's own page numbers.
     fn get(&mut self, alloc: Global, stream_number: u32, limit: Option<usize>) -> Result<Stream>
-        ensures answer { AnswersUnless (HasFailed (S.state (file self.old).source) (S.state (file self.new).source))
-            (λ stream. stream) result
+        ensures answer { IsFixed (S.state (file self.old).source) → AnswersUnless
+            (HasFailed (S.state (file self.old).source) (S.state (file self.new).source)) (λ stream. stream) result
             (stream_of (S.state (file self.old).source).bytes (file self.old).head stream_number limit) }
         ensures source { IsKept (S.state (file self.old).source) (S.state (file self.new).source) }
         ensures head { (file self.new).head ≡ (file self.old).head }
@@ -56,7 +56,7 @@ pub trait Msf<S: Source> {
         ensures kind { KeepsKind (S.state (file self.new).source) result }
         // A call requests the directory unless it is kept, and of the stream the bytes that it
         // returns.
-        ensures asked { Asks (file self.old).asked (file self.new).asked
+        ensures asked { IsFixed (S.state (file self.old).source) → Asks (file self.old).asked (file self.new).asked
             (locating (file self.old).located (file self.old).head.geometry
             + requested_size
             (described_stream (S.state (file self.old).source).bytes (file self.old).head stream_number limit))
@@ -65,13 +65,14 @@ pub trait Msf<S: Source> {
         // failed.
         ensures stays { IsTrue (file self.old).located → IsTrue (file self.new).located }
         ensures located { MatchResult result (λ _. IsTrue (file self.new).located)
-            (λ e. (file self.new).located ≡ false →
+            (λ e. (file self.new).located ≡ false → IsFixed (S.state (file self.old).source) →
             RefusesUnless (HasFailed (S.state (file self.old).source) (S.state (file self.new).source)) e
             (directory_of (S.state (file self.old).source).bytes (file self.old).head)) }
-        ensures read { IsTrue (file self.new).located →
+        ensures read { IsFixed (S.state (file self.old).source) → IsTrue (file self.new).located →
             IsOk (directory_of (S.state (file self.old).source).bytes (file self.old).head) }
         // Where the directory is kept, what it says of the stream's place needs no memory.
-        ensures exact { IsTrue (file self.old).located → RefusesExactly result
+        ensures exact { IsFixed (S.state (file self.old).source) → IsTrue (file self.old).located →
+            RefusesExactly result
             (place_of_stream (S.state (file self.old).source).bytes (file self.old).head stream_number) };
 }
 
@@ -97,7 +98,7 @@ impl<S: Source> Model for BigMSF<S> {
       located = is_some m.directory;
     } };
 
-    ghost invariant = { λ m. IsOpen (S.state m.source.source).bytes m.header m.directory };
+    ghost invariant = { λ m. IsOpen (S.state m.source.source) m.header m.directory };
 }
 
 impl<S: Source + Drop> BigMSF<S> {
@@ -154,9 +155,9 @@ impl<S: Source> BigMSF<S> {
         ensures fits { self.old.asked < 2 ^ 64 }
         ensures kept { IsTrue self.old.located → IsOk result × (self.new ≡ self.old) }
         ensures located { MatchResult result (λ _. IsTrue self.new.located)
-            (λ e. (self.new.located ≡ false) ×
+            (λ e. (self.new.located ≡ false) × (IsFixed (S.state self.old.source) →
             RefusesUnless (HasFailed (S.state self.old.source) (S.state self.new.source)) e
-            (directory_of (S.state self.old.source).bytes self.old.head)) }
+            (directory_of (S.state self.old.source).bytes self.old.head))) }
         ensures source { IsKept (S.state self.old.source) (S.state self.new.source) }
         ensures head { self.new.head ≡ self.old.head }
         ensures kind { KeepsKind (S.state self.new.source) result }
@@ -187,8 +188,9 @@ impl<S: Source> BigMSF<S> {
     /// Fails with `OutOfMemory` if an allocation fails. Memory is allocated only to read the
     /// directory.
     pub fn stream_count(&mut self, alloc: Global) -> Result<u32>
-        ensures answer { AnswersUnless (HasFailed (S.state self.old.source) (S.state self.new.source)) (λ count. count)
-            result (stream_count_of (S.state self.old.source).bytes self.old.head) }
+        ensures answer { IsFixed (S.state self.old.source) → AnswersUnless
+            (HasFailed (S.state self.old.source) (S.state self.new.source)) (λ count. count) result
+            (stream_count_of (S.state self.old.source).bytes self.old.head) }
         ensures source { IsKept (S.state self.old.source) (S.state self.new.source) }
         ensures kind { KeepsKind (S.state self.new.source) result }
         ensures head { self.new.head ≡ self.old.head }
@@ -215,8 +217,9 @@ impl<S: Source> BigMSF<S> {
     /// Fails with `OutOfMemory` if an allocation fails. Memory is allocated only to read the
     /// directory.
     pub fn stream_size(&mut self, alloc: Global, stream_number: u32) -> Result<u32>
-        ensures answer { AnswersUnless (HasFailed (S.state self.old.source) (S.state self.new.source)) (λ size. size)
-            result (stream_size_of (S.state self.old.source).bytes self.old.head stream_number) }
+        ensures answer { IsFixed (S.state self.old.source) → AnswersUnless
+            (HasFailed (S.state self.old.source) (S.state self.new.source)) (λ size. size) result
+            (stream_size_of (S.state self.old.source).bytes self.old.head stream_number) }
         ensures source { IsKept (S.state self.old.source) (S.state self.new.source) }
         ensures kind { KeepsKind (S.state self.new.source) result }
         ensures head { self.new.head ≡ self.old.head }
@@ -269,9 +272,10 @@ impl<S: Source + Drop> BigMSF<S> {
         stream_number: u32,
         limit: Option<usize>,
     ) -> Result<Stream>
-        ensures answer { AnswersUnless (¬ IsTrue (S.state self.source).is_sound) (λ stream. stream) result
+        ensures answer { IsFixed (S.state self.source) → AnswersUnless (¬ IsTrue (S.state self.source).is_sound)
+            (λ stream. stream) result
             (stream_of (S.state self.source).bytes self.head stream_number limit) }
-        ensures exact { IsTrue self.located → RefusesExactly result
+        ensures exact { IsFixed (S.state self.source) → IsTrue self.located → RefusesExactly result
             (place_of_stream (S.state self.source).bytes self.head stream_number) }
     {
         self.locate(alloc)?;
@@ -294,7 +298,8 @@ impl<S: Source + Drop> BigMSF<S> {
 /// fewer bytes.
 #[tactic(auto, unfolding(crate::specs::Header::opening), using(crate::proofs::PositionLemmas::front_there, crate::proofs::PositionLemmas::front_cut))]
 pub(crate) fn view_front<S: Source>(source: &mut S, alloc: Global, size: usize) -> Result<ReadView>
-    ensures bytes { AnswersUnless (HasFailed (S.state source.old) (S.state source.new)) (λ v. v) result
+    ensures bytes { IsFixed (S.state source.old) → AnswersUnless
+        (HasFailed (S.state source.old) (S.state source.new)) (λ v. v) result
         (opening size (S.state source.old).bytes) }
     ensures kept { IsKept (S.state source.old) (S.state source.new) }
     ensures kind { KeepsKind (S.state source.new) result }
@@ -322,7 +327,7 @@ pub(crate) fn view_front<S: Source>(source: &mut S, alloc: Global, size: usize) 
 /// Fails with `OutOfMemory` if an allocation fails.
 #[tactic(auto, unfolding(crate::specs::Header::file_head), using(crate::proofs::lemmas::Kept::unsound))]
 pub fn open_msf<S: Source + Drop>(alloc: Global, mut source: S) -> Result<BigMSF<S>>
-    ensures head { AnswersUnless (¬ IsTrue (S.state source).is_sound)
+    ensures head { IsFixed (S.state source) → AnswersUnless (¬ IsTrue (S.state source).is_sound)
         (λ m. m.head) result (file_head (S.state source).bytes) }
     ensures kept { IfOk result (λ m. IsKept (S.state source) (S.state m.source)) }
     ensures fresh { IfOk result (λ m. IsFresh m) }

@@ -3,8 +3,10 @@
 ghost use Rattle.std.specs.Prelude.{◌≡◌, ◌≢◌, ◌*◌, ◌^◌, ◌<◌, ◌≤◌, Ok, IsTrue, length, map, IfOk};
 ghost use Rattle.std.specs.IoError.{error_kind};
 ghost use Rattle.std.specs.List.{range_with_len};
+ghost use Rattle.pdb_base.specs.Refusal.{refusal_of};
 ghost use Rattle.pdb_base.specs.Answer.{Answers, AnswersUnless};
-ghost use Rattle.pdb_msf.specs.Source.{HasFailed, IsKept, KeepsKind, bytes_at, bytes_or_eof, positions};
+ghost use Rattle.pdb_msf.specs.Source.{HasFailed, IsFixed, IsKept, IsLastFault, KeepsKind, State, TellsKind, bytes_at};
+ghost use Rattle.pdb_msf.specs.Source.{bytes_or_eof, positions};
 ghost use Rattle.pdb_msf.specs.Pages.{position_of, scatter};
 ghost use Rattle.pdb_msf.specs.Asked.{Asks};
 
@@ -19,7 +21,8 @@ use std::io::ErrorKind;
 /// an `IoError` that holds the source's own error.
 pub fn source_error(error: io::Error) -> Error
     ensures memory { error_kind error ≡ ErrorKind.OutOfMemory → result ≡ Error.OutOfMemory }
-    ensures kind { error_kind error ≢ ErrorKind.OutOfMemory → result ≡ Error.IoError error }
+    ensures other { error_kind error ≢ ErrorKind.OutOfMemory → result ≡ Error.IoError error }
+    ensures kind { (state : State) → IsLastFault state (error_kind error) → TellsKind state (refusal_of result) }
 {
     match error.kind() {
         ErrorKind::OutOfMemory => Error::OutOfMemory,
@@ -29,18 +32,23 @@ pub fn source_error(error: io::Error) -> Error
 
 /// Views slices of a source.
 fn view<S: Source>(source: &mut S, alloc: Global, slices: &[SourceSlice]) -> Result<ReadView>
-    ensures bytes { AnswersUnless (HasFailed (S.state source.old) (S.state source.new)) (λ v. v) result
-        (bytes_or_eof (bytes_at (S.state source.old).bytes (positions slices.now))) }
+    ensures bytes { IsFixed (S.state source.old) → AnswersUnless (HasFailed (S.state source.old) (S.state source.new))
+        (λ v. v) result (bytes_or_eof (bytes_at (S.state source.old).bytes (positions slices.now))) }
+    ensures len { IfOk result (λ v. length v ≡ length (positions slices.now)) }
     ensures kept { IsKept (S.state source.old) (S.state source.new) }
     ensures kind { KeepsKind (S.state source.new) result }
 {
-    source.view(alloc, slices).map_err(source_error)
+    match source.view(alloc, slices) {
+        Ok(view) => Ok(view),
+        Err(error) => Err(source_error(error)),
+    }
 }
 
 /// Views slices of a source, and consumes it.
 fn into_view<S: Source + Drop>(source: S, alloc: Global, slices: &[SourceSlice]) -> Result<ReadView>
-    ensures { AnswersUnless (¬ IsTrue (S.state source).is_sound) (λ v. v) result
+    ensures bytes { IsFixed (S.state source) → AnswersUnless (¬ IsTrue (S.state source).is_sound) (λ v. v) result
         (bytes_or_eof (bytes_at (S.state source).bytes (positions slices.now))) }
+    ensures len { IfOk result (λ v. length v ≡ length (positions slices.now)) }
 {
     source.into_view(alloc, slices).map_err(source_error)
 }
@@ -106,7 +114,8 @@ impl<S: Source> CountedSource<S> {
         requires size { (0 < page_size) × (page_size ≤ 0x800000) }
         requires reached { size ≤ length numbers.now * page_size }
         requires few { length numbers.now ≤ 2 ^ 40 }
-        ensures bytes { AnswersUnless (HasFailed (S.state self.old.source) (S.state self.new.source)) (λ v. v) result
+        ensures bytes { IsFixed (S.state self.old.source) → AnswersUnless
+            (HasFailed (S.state self.old.source) (S.state self.new.source)) (λ v. v) result
             (bytes_or_eof (scatter (S.state self.old.source).bytes page_size numbers.now size)) }
         ensures len { IfOk result (λ v. length v ≡ size) }
         ensures kept { IsKept (S.state self.old.source) (S.state self.new.source) }
@@ -133,8 +142,8 @@ impl<S: Source + Drop> CountedSource<S> {
         requires size { (0 < page_size) × (page_size ≤ 0x800000) }
         requires reached { size ≤ length numbers.now * page_size }
         requires few { length numbers.now ≤ 2 ^ 40 }
-        ensures bytes { AnswersUnless (¬ IsTrue (S.state self.source).is_sound) (λ v. v) result
-            (bytes_or_eof (scatter (S.state self.source).bytes page_size numbers.now size)) }
+        ensures bytes { IsFixed (S.state self.source) → AnswersUnless (¬ IsTrue (S.state self.source).is_sound)
+            (λ v. v) result (bytes_or_eof (scatter (S.state self.source).bytes page_size numbers.now size)) }
         ensures len { IfOk result (λ v. length v ≡ size) }
     {
         let list = page_list(alloc, page_size, numbers, size)?;

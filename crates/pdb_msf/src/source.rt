@@ -1,9 +1,10 @@
 //! Where the bytes of a file come from.
 
-ghost use Rattle.std.specs.Prelude.{◌≡◌, ◌++◌, ℕ, List, length, map, IsTrue, IfOk, IfErr, IsErrAnd, None};
+ghost use Rattle.std.specs.Prelude.{◌≡◌, ◌++◌, ℕ, List, length, map, IsTrue, OnOk, IfOk, IfErr, IsErrAnd, None, true};
+ghost use Rattle.std.specs.Prelude.{false};
 ghost use Rattle.std.specs.Prelude.{slice_index};
 ghost use Rattle.std.specs.IoError.{error_kind};
-ghost use Rattle.pdb_msf.specs.Source.{State, IsKept, IsLastFault, in_memory, HasFailed, ShowsBytes, bytes_at};
+ghost use Rattle.pdb_msf.specs.Source.{State, IsFixed, IsKept, IsLastFault, in_memory, HasFailed, ShowsBytes, bytes_at};
 ghost use Rattle.pdb_msf.specs.Source.{positions, slice_positions};
 ghost use Rattle.std.specs.List.{list_all};
 ghost use Rattle.pdb_msf.specs.Within.{is_within, if_fits_usize};
@@ -74,11 +75,12 @@ impl SourceView for ReadView {
 
 /// A source of the bytes of a file.
 ///
-/// A source has fixed bytes. It may fail for other reasons than that its bytes end or that an
-/// allocation fails, and counts these faults; a sound source does not fail so.
+/// A source has bytes, which are the same whenever they are read if they are fixed. It may fail for
+/// other reasons than that its bytes end or that an allocation fails, and counts these faults; a
+/// sound source does not fail so.
 pub trait Source {
-    // The bytes, the count of faults so far and the kind of the last one, and whether the source is
-    // sound.
+    // The bytes, whether they are fixed, the count of faults so far and the kind of the last one,
+    // and whether the source is sound.
     ghost state: { Self → State };
 
     /// Returns the bytes that the slices name, slice after slice.
@@ -88,8 +90,9 @@ pub trait Source {
     /// the bytes, kind `OutOfMemory` only if an allocation fails, and any other kind only if the
     /// source's count of faults rises.
     fn view(&mut self, alloc: Global, slices: &[SourceSlice]) -> Result<ReadView, io::Error>
-        ensures view { ShowsBytes (HasFailed (state self.old) (state self.new)) (λ v. v) result
-            (bytes_at (state self.old).bytes (positions slices.now)) }
+        ensures view { IsFixed (state self.old) → ShowsBytes (HasFailed (state self.old) (state self.new)) (λ v. v)
+            result (bytes_at (state self.old).bytes (positions slices.now)) }
+        ensures len { IfOk result (λ v. length v ≡ length (positions slices.now)) }
         ensures kind { IfErr result (λ e. IsLastFault (state self.new) (error_kind e)) }
         ensures kept { IsKept (state self.old) (state self.new) };
 
@@ -100,8 +103,9 @@ pub trait Source {
     fn into_view(mut self, alloc: Global, slices: &[SourceSlice]) -> Result<ReadView, io::Error>
     where
         Self: Sized + Drop,
-        ensures { ShowsBytes (¬ IsTrue (state self).is_sound) (λ v. v) result
+        ensures view { IsFixed (state self) → ShowsBytes (¬ IsTrue (state self).is_sound) (λ v. v) result
             (bytes_at (state self).bytes (positions slices.now)) }
+        ensures len { IfOk result (λ v. length v ≡ length (positions slices.now)) }
     {
         self.view(alloc, slices)
     }
@@ -118,6 +122,7 @@ impl Source for Vec<u8> {
     /// if the sum of the sizes is above `usize::MAX`.
     fn view(&mut self, alloc: Global, slices: &[SourceSlice]) -> Result<ReadView, io::Error>
         ensures view { ShowsBytes ⊥ (λ v. v) result (bytes_at self.old.items (positions slices.now)) }
+        ensures len { IfOk result (λ v. length v ≡ length (positions slices.now)) }
         ensures exact { bytes_at self.old.items (positions slices.now) ≡ None →
             IsErrAnd result (λ e. error_kind e ≡ ErrorKind.UnexpectedEof) }
         ensures kept { self.new ≡ self.old }
@@ -144,6 +149,7 @@ impl<'b> Source for &'b [u8] {
     fn view(&mut self, alloc: Global, slices: &[SourceSlice]) -> Result<ReadView, io::Error>
         ensures view { ShowsBytes (HasFailed (in_memory self.old.now) (in_memory self.new.now)) (λ v. v) result
             (bytes_at self.old.now (positions slices.now)) }
+        ensures len { IfOk result (λ v. length v ≡ length (positions slices.now)) }
         ensures kind { IfErr result (λ e. IsLastFault (in_memory self.new.now) (error_kind e)) }
         ensures kept { IsKept (in_memory self.old.now) (in_memory self.new.now) }
         ensures exact { bytes_at self.old.now (positions slices.now) ≡ None →
@@ -157,27 +163,42 @@ impl<'b> Source for &'b [u8] {
 #[tactic(auto, using(crate::proofs::PositionLemmas::bytes_within, crate::proofs::PositionLemmas::bytes_past))]
 fn view_of(file: &[u8], alloc: Global, slices: &[SourceSlice]) -> Result<ReadView, io::Error>
     ensures view { ShowsBytes ⊥ (λ v. v) result (bytes_at file.now (positions slices.now)) }
+    ensures len { IfOk result (λ v. length v ≡ length (positions slices.now)) }
     ensures exact { bytes_at file.now (positions slices.now) ≡ None →
         IsErrAnd result (λ e. error_kind e ≡ ErrorKind.UnexpectedEof) }
 {
-    if !all_within(file.len(), slices) {
-        return Err(io::Error::from(ErrorKind::UnexpectedEof));
-    }
-    let Some(size) = total_size(slices) else {
-        return Err(io::Error::from(ErrorKind::OutOfMemory));
-    };
+    let size = named_size(file.len(), slices)?;
     Ok(ReadView::new(copy_slices(alloc, file, slices, size)?))
 }
 
 // A view of bytes in memory, which are joined in place where they can be.
 #[tactic(auto, using(crate::proofs::JoinLemmas::can_found))]
 fn into_view_of(file: Vec<u8>, alloc: Global, slices: &[SourceSlice]) -> Result<ReadView, io::Error>
-    ensures { ShowsBytes ⊥ (λ v. v) result (bytes_at file.items (positions slices.now)) }
+    ensures view { ShowsBytes ⊥ (λ v. v) result (bytes_at file.items (positions slices.now)) }
+    ensures len { IfOk result (λ v. length v ≡ length (positions slices.now)) }
 {
     if can_be_joined(file.len(), slices) {
         return Ok(ReadView::new(join_slices(file, slices)));
     }
     view_of(file.as_slice(), alloc, slices)
+}
+
+// How many bytes slices name, which are all within a file of this length.
+pub(crate) fn named_size(len: usize, slices: &[SourceSlice]) -> Result<usize, io::Error>
+    ensures within { OnOk result (IsTrue (list_all (is_within len) slices.now)) }
+    ensures size { IfOk result (λ size. size ≡ length (positions slices.now)) }
+    ensures end { list_all (is_within len) slices.now ≡ false →
+        IsErrAnd result (λ e. error_kind e ≡ ErrorKind.UnexpectedEof) }
+    ensures memory { list_all (is_within len) slices.now ≡ true →
+        IfErr result (λ e. error_kind e ≡ ErrorKind.OutOfMemory) }
+{
+    if !all_within(len, slices) {
+        return Err(io::Error::from(ErrorKind::UnexpectedEof));
+    }
+    match total_size(slices) {
+        Some(size) => Ok(size),
+        None => Err(io::Error::from(ErrorKind::OutOfMemory)),
+    }
 }
 
 // Whether no slice of any bytes passes the end of a file of this length.

@@ -5,12 +5,13 @@ use Rattle.pdb_msf.specs.Source.{State, IsKept, HasFailed}
 
 -- nothing happened yet
 pub kept_here : (state : State) → IsKept state state
-kept_here state = record { bytes = refl; counts = omega arith; sound = λ sound. (sound, refl) }
+kept_here state = record { bytes = refl; fixed = refl; counts = omega arith; sound = λ sound. (sound, refl) }
 
 -- one view after another
 pub kept_then : (old middle new : State) → IsKept old middle → IsKept middle new → IsKept old new
 kept_then old middle new first second = record {
   bytes = second.bytes ∙ first.bytes;
+  fixed = second.fixed ∙ first.fixed;
   counts = let a = first.counts in let b = second.counts in omega arith;
   sound = λ sound. let a = first.sound sound in let b = second.sound a.0 in (b.0, b.1 ∙ a.1);
 }

@@ -1,6 +1,7 @@
 //! Files, their pages and their sources.
 
 mod pages;
+mod read_files;
 mod sources;
 mod streams;
 pub(crate) mod watched;

@@ -3,7 +3,8 @@ use Rattle.pdb_cli.proofs.outcome.reply_to.Goals as goal
 
 pub returns-in-Some : goal.returns-in-Some
 returns-in-Some c =
-    one_reply c.args.file.items c.args.query c.in-Ok.replies _ c.in-Some.reply c.in-Ok.ensures c.in-Some.ensures.items
+    one_reply c.args.file.items c.args.query c.in-Ok.replies _ c.in-Some.reply (c.in-Ok.ensures tt)
+    c.in-Some.ensures.items
 
 pub returns-in-Err : goal.returns-in-Err
-returns-in-Err c = no_reply c.args.file.items c.args.query c.in-Err.error c.in-Err.ensures
+returns-in-Err c = no_reply c.args.file.items c.args.query c.in-Err.error (c.in-Err.ensures tt)

@@ -29,13 +29,13 @@ loop-query-preserved g c =
       count =
           ap (λ (all : List Reply). length all) pushed ∙ length_push c.loop-query.replies.items c.reply.result
           ∙ ap (λ (n : ℕ). n + 1) before.count;
-      replied =
+      replied = λ fixed.
           rw (take_more first place (queries.Stream 0 None) c.loop-query-test.true, pushed)
-          (one_more _ _ _ _ _ _ _ before.replied reply);
+          (one_more _ _ _ _ _ _ _ (before.replied fixed) (reply fixed));
     }
 
 pub returns : goal.returns
-returns g c =
+returns g c fixed =
     let state = g.S.Source.state in
     let before = c.loop-query.invariant in
     let first = c.in-Some.first.now in
@@ -46,4 +46,4 @@ returns g c =
     let reached : c.loop-query.query-index ≡ length first = omega arith in
     let all : take c.loop-query.query-index first ≡ first = ap (λ (n : ℕ). take n first) reached ∙ take-length first in
     rw (c.in-Some.ensures.cases.0, c.push_reserved-2.ensures.items)
-    (one_more _ _ _ _ _ _ _ (rw all at before.replied) reply)
+    (one_more _ _ _ _ _ _ _ (rw all at before.replied fixed) (reply fixed))

@@ -1,6 +1,6 @@
 use Rattle.std.proofs.Common.{◌≡◌, length, take}
 use Rattle.std.specs.Prelude.{vec_capacity, IsTrue}
-use Rattle.pdb_msf.specs.Source.{IsKept}
+use Rattle.pdb_msf.specs.Source.{IsFixed, IsKept}
 use Rattle.pdb_msf.specs.File.{stream_of}
 use Rattle.pdb_container.specs.OpenTables.{AreOf}
 use Rattle.pdb_container.specs.Reply.{AreReplies}
@@ -12,9 +12,9 @@ invariant-loop-query g l =
     record {
       kept : IsKept (state l.fn.file.source) (state l.file.source);
       head : l.file.head ≡ l.fn.file.head;
-      tables : AreOf (stream_of (state l.file.source).bytes l.file.head) l.tables;
+      tables : IsFixed (state l.file.source) → AreOf (stream_of (state l.file.source).bytes l.file.head) l.tables;
       room : vec_capacity l.replies ≡ vec_capacity l.fn.replies;
       count : length l.replies.items ≡ l.query-index;
-      replied : AreReplies (¬ IsTrue (state l.fn.file.source).is_sound) (state l.fn.file.source).bytes l.fn.file.head
-          (take l.query-index l.first) l.replies.items;
+      replied : IsFixed (state l.fn.file.source) → AreReplies (¬ IsTrue (state l.fn.file.source).is_sound)
+          (state l.fn.file.source).bytes l.fn.file.head (take l.query-index l.first) l.replies.items;
     }

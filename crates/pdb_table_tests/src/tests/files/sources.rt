@@ -1,5 +1,6 @@
 //! Sources, also one that notes its views.
 
+use super::read_files::are_read;
 use super::{are_views, bytes_in};
 use pdb_fixtures::{Noting, s1, with_bytes};
 use pdb_msf::{BigMSF, Msf, ReadView, Source, SourceSlice, SourceView, open_msf};
@@ -10,7 +11,7 @@ use std::test::Fail;
 
 /// Slices that are requested from a source, and the bytes of a view of them, or None if the view
 /// fails because the source ends too soon.
-type Views = &'static [(&'static [SourceSlice], Option<&'static [u8]>)];
+pub(super) type Views = &'static [(&'static [SourceSlice], Option<&'static [u8]>)];
 
 /// A slice of so many bytes from an offset on.
 macro_rules! slice {
@@ -45,7 +46,7 @@ const OF_TWO_BYTES: Views = rows! {
 };
 
 /// Whether a view has these bytes, or fails because the source ends too soon if there are none.
-fn is_view(view: io::Result<ReadView>, want: Option<&[u8]>) -> bool {
+pub(super) fn is_view(view: io::Result<ReadView>, want: Option<&[u8]>) -> bool {
     match want {
         Some(bytes) => matches!(view, Ok(view) if view.as_slice() == bytes),
         None => matches!(view, Err(error) if error.kind() == ErrorKind::UnexpectedEof),
@@ -53,7 +54,7 @@ fn is_view(view: io::Result<ReadView>, want: Option<&[u8]>) -> bool {
 }
 
 /// Whether the views of a source are these.
-fn sees<S: Source>(alloc: Global, source: &mut S, views: Views) -> bool {
+pub(super) fn sees<S: Source>(alloc: Global, source: &mut S, views: Views) -> bool {
     for (asked, want) in views {
         if !is_view(source.view(alloc, asked), *want) {
             return false;
@@ -62,22 +63,24 @@ fn sees<S: Source>(alloc: Global, source: &mut S, views: Views) -> bool {
     true
 }
 
-/// Whether the views of bytes are these, owned and borrowed.
-fn are_seen(alloc: Global, mut owned: Vec<u8>, views: Views) -> bool {
-    sees(alloc, &mut owned, views) && sees(alloc, &mut owned.as_slice(), views)
+/// Whether the views of bytes are these, owned, borrowed and read from a file.
+fn are_seen(alloc: Global, mut owned: Vec<u8>, views: Views) -> pdb_base::Result<bool> {
+    let seen = sees(alloc, &mut owned, views);
+    let lent = sees(alloc, &mut owned.as_slice(), views);
+    Ok(seen && lent && are_read(alloc, &owned, views)?)
 }
 
 #[test]
 fn views(rt: HostRuntime) -> Result<(), Fail> {
     let alloc = rt.alloc();
-    assert!(rt; are_seen(alloc, Vec::from_slice(alloc, b"abcdef")?, OF_SIX_BYTES));
+    assert!(rt; are_seen(alloc, Vec::from_slice(alloc, b"abcdef")?, OF_SIX_BYTES)?);
     let zeros = vec![in alloc; 0; 4096]?;
     assert!(rt;
         are_seen(
             alloc,
             with_bytes(zeros, &[(42, 42), (88, 88)]),
             OF_TWO_BYTES
-        )
+        )?
     );
     let view = ReadView::new(Vec::from_slice(alloc, b"xy")?);
     assert!(rt; view.as_slice() == b"xy".as_slice());

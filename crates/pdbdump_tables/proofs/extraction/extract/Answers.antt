@@ -7,4 +7,4 @@ use Rattle.pdbdump_tables.proofs.extraction.extract.Goals as goal
 pub returns-in_err-stream : goal.returns-in_err-stream
 unfolding extraction
 returns-in_err-stream g c =
-    rw (passed_on _ _ c.from_residual.ensures.1) (part_refused _ _ _ _ c.in_err-stream.ensures.answer)
+    rw (passed_on _ _ c.from_residual.ensures.1) (part_refused _ _ _ _ (c.in_err-stream.ensures.answer tt))

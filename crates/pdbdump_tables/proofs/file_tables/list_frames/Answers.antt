@@ -7,4 +7,4 @@ use Rattle.pdbdump_tables.proofs.file_tables.list_frames.Goals as goal
 pub returns-in_err-table : goal.returns-in_err-table
 unfolding file_frames
 returns-in_err-table g c = rw (passed_on _ _ c.from_residual.ensures.1)
-    (refused_listed _ frames_listing _ _ _ c.in_err-table.ensures.answer)
+    (refused_listed _ frames_listing _ _ _ (c.in_err-table.ensures.answer tt))

@@ -9,4 +9,4 @@ pub returns-in_err-table : goal.returns-in_err-table
 unfolding file_names
 returns-in_err-table g c =
     rw (passed_on _ _ c.from_residual.ensures.1)
-    (refused_listed _ (λ names. whole (name_rows (all_names names))) _ _ _ c.in_err-table.ensures.answer)
+    (refused_listed _ (λ names. whole (name_rows (all_names names))) _ _ _ (c.in_err-table.ensures.answer tt))

@@ -9,21 +9,21 @@ unfolding file_sections
 returns-in_err-number g c =
     rw (passed_on _ _ c.from_residual.ensures.1)
     (refused_listed _ (stream_listing sections_listing) _ _ _
-    (refused_then _ _ _ c.in_err-number.ensures.answer))
+    (refused_then _ _ _ (c.in_err-number.ensures.answer tt)))
 
 pub returns-in_err-stream : goal.returns-in_err-stream
 unfolding file_sections
 returns-in_err-stream g c =
     let refuses = rw (c.in_ok-number.ensures.source.bytes, c.in_ok-number.ensures.head) at
-    c.in_err-stream.ensures.answer in
+    (c.in_err-stream.ensures.answer tt) in
     rw (passed_on _ _ c.from_residual-in_err-stream.ensures.1)
     (refused_listed _ (stream_listing sections_listing) _ _ _
-    (answered_then _ _ _ _ c.in_ok-number.ensures.answer refuses))
+    (answered_then _ _ _ _ (c.in_ok-number.ensures.answer tt) refuses))
 
 pub returns : goal.returns
 unfolding file_sections
 returns g c =
     let stream = rw (c.in_ok-number.ensures.source.bytes, c.in_ok-number.ensures.head) at
-    c.in_ok-stream.ensures.answer in
+    (c.in_ok-stream.ensures.answer tt) in
     none_listed _ sections_listing _ _
-    (then_is _ _ _ _ c.in_ok-number.ensures.answer (rw c.in-None.is at stream))
+    (then_is _ _ _ _ (c.in_ok-number.ensures.answer tt) (rw c.in-None.is at stream))

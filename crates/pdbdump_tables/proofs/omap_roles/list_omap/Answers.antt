@@ -7,4 +7,4 @@ pub returns-in_err-roles-in-None : goal.returns-in_err-roles-in-None
 unfolding file_omap
 returns-in_err-roles-in-None g c =
     rw (c.in-None.is, passed_on _ _ c.from_residual.ensures.1)
-    (refused_listed _ (both_omaps _ _) _ _ _ c.in_err-roles-in-None.ensures.answer)
+    (refused_listed _ (both_omaps _ _) _ _ _ (c.in_err-roles-in-None.ensures.answer tt))
