@@ -1272,7 +1272,8 @@ typedef struct pdb_layout_row {
  * order of their records, and then rows for the bits that no field takes. It also writes the bytes
  * of the members' names, one name after another. Each bit of the class, up to 8 times its size, is
  * a bit of a field, or else of exactly one of the other rows. Fields may overlap, as those of a
- * union do, and in a damaged file they may go beyond the size. The status is PDB_NONE if the
+ * union do, and in a damaged file they may go beyond the size. A base class that has virtual bases
+ * ends before these, which the class holds elsewhere. The status is PDB_NONE if the
  * type has no definition, or its definition is an enumeration. */
 uint32_t pdb_layout(pdb_definitions *definitions, uint32_t index, pdb_layout_row *rows,
                     size_t rows_length, size_t *count, uint8_t *names, size_t names_length,

@@ -6,3 +6,4 @@ pub mod SpanLemmas
 pub mod GapLemmas
 pub mod LayoutLemmas
 pub mod ListLemmas
+pub mod PartLemmas

@@ -14,4 +14,5 @@ pub mod Extent
 pub mod FieldPlace
 pub mod Gap
 pub mod Layout
+pub mod Part
 pub mod Text

@@ -18,6 +18,7 @@ mod layout;
 mod memory;
 mod name_hash;
 mod open_definitions;
+mod part;
 mod primitive_size;
 mod qualifiers;
 mod shortcut;
