@@ -211,10 +211,12 @@ class Type(_Record):
 
     @property
     def fields(self) -> "List[Field]":
-        """The fields of a class, a union or an enumeration, or of a list of fields, through all its lists."""
+        """The fields of a class, a union or an enumeration, or of a list of fields, through all its lists. The values of an
+        enumeration are numbers of the type under it, which gives them their signs."""
         types: Types = self._table
         index = self.index if self.shape is Shape.FIELD_LIST else self.list_index
-        return types.fields(index) if index else []
+        underlying_type = self.type_index if self.shape is Shape.ENUMERATION else None
+        return types.fields(index, underlying_type) if index else []
 
     def _text(self, call: Any) -> Optional[str]:
         # A buffer of its own for each call: another thread may run before the text is decoded.
@@ -324,13 +326,18 @@ class Types:
         except KeyError:
             return default
 
-    def fields(self, list_index: int) -> List[Field]:
-        """The fields of the list of an index, and of the lists in which it continues."""
+    def fields(self, list_index: int, underlying_type: Optional[int] = None) -> List[Field]:
+        """The fields of the list of an index, and of the lists in which it continues. If the type under an enumeration is
+        given, the values are numbers of it; or else they have the signs that their records have, where -128 may be
+        128."""
         call, place = library().pdb_types_fields, unsigned(list_index)
         found = named_items(_sys.Field, call, self._table.handle, place, stream=self.number)
         fields, at = [], 0
         if found is not None:
             rows, count, names = found
+            if underlying_type is not None:
+                for row in rows[:count]:
+                    library().pdb_enumerator_typed(byref(row.info), underlying_type)
             for raw in _FIELD.iter_unpack(memoryview(rows).cast("B")[: count * _FIELD.size]):
                 length, has_name = raw[12:]
                 fields.append(Field(raw[:12], names[at : at + length].decode(errors="replace") if has_name else None))

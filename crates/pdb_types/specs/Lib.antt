@@ -15,4 +15,5 @@ pub mod FieldPlace
 pub mod Gap
 pub mod Layout
 pub mod Part
+pub mod Enumerator
 pub mod Text

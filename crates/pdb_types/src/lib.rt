@@ -9,6 +9,7 @@ mod definition_index;
 mod definition_walk;
 mod definitions;
 mod entry;
+mod enumerator;
 mod extent;
 mod field_place;
 mod gap;
@@ -30,6 +31,7 @@ mod type_at;
 mod type_name;
 
 pub use definitions::Definitions;
+pub use enumerator::enumerator_value;
 pub use extent::Extent;
 pub use field_place::{FieldKind, FieldPlace, VirtualBase};
 pub use gap::{Gap, GapKind};
