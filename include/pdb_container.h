@@ -1236,7 +1236,8 @@ uint32_t pdb_type_size(pdb_definitions *definitions, uint32_t index, uint64_t *s
                        pdb_fault *fault);
 
 /* Copies the declaration of a name that has a type, in C++, such as "int (*compare)(char)", or the
- * text of the type alone if the name is empty. What the text says is tested, and not proved. */
+ * text of the type alone if the name is empty. It has at most 65,536 bytes, and ends with ".." if it
+ * is cut. What the text says is tested, and not proved. */
 uint32_t pdb_type_text(pdb_definitions *definitions, uint32_t index, const uint8_t *name,
                        size_t name_length, uint8_t *room, size_t room_length, size_t *length,
                        pdb_fault *fault);

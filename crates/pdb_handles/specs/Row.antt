@@ -1,5 +1,6 @@
 -- The contents of a type record, as a caller sees them: a row of numbers, of which each shape has some.
-use Rattle.std.specs.Prelude.{ℕ, ◌+◌, ◌*◌, ◌==◌, ◌&&◌, nat_lt, if◌then◌else◌, Bool, true, false, is_some, unwrap_or, Option}
+use Rattle.std.specs.Prelude.{ℕ, ◌+◌, ◌*◌, ◌==◌, ◌&&◌, nat_lt, if◌then◌else◌, Bool, true, false, is_some}
+use Rattle.std.specs.Prelude.{unwrap_or, Option}
 use Rattle.std.specs.Prelude.{Some, None}
 use Rattle.std.specs.{Int.cast_signed, Int.cast_unsigned, Int.w64, Option.option_map}
 use Rattle.pdb_base.specs.{declared.index.TypeIndex.TypeIndex, declared.variant.Variant.Variant}

@@ -251,8 +251,10 @@ impl Row {
             return;
         }
         let value = value_of(self.kind == 1, self.count, self.number);
-        let (is_signed, _, number) =
-            value_numbers(enumerator_value(value, TypeIndex(underlying_type)));
+        let (is_signed, _, number) = value_numbers(enumerator_value(
+            value,
+            TypeIndex(underlying_type),
+        ));
         self.kind = flag(is_signed);
         self.number = number;
     }

@@ -18,7 +18,7 @@ use Rattle.pdb_values.specs.TypeView.{type_value}
 use Rattle.pdb_types.specs.declared.layout.LayoutField.{LayoutField}
 use Rattle.pdb_types.specs.Layout.{FieldValue, field_of, field_value, field_values_in, is_virtual_field}
 use Rattle.pdb_types.specs.Layout.{with_field}
-use Rattle.pdb_types.specs.Part.{is_virtual_value}
+use Rattle.pdb_types.specs.Part.{has_virtual_role}
 
 -- fields behind others
 abbrev pub behind : List FieldValue → Answer (List FieldValue) → Answer (List FieldValue)
@@ -107,6 +107,6 @@ fields_refused table records items i item found e so_far within here (inr memory
 
 -- the same of fields and of their values
 pub any_value : (fields : List LayoutField)
-    → list_any is_virtual_value (map field_value fields) ≡ list_any is_virtual_field fields
+    → list_any has_virtual_role (map field_value fields) ≡ list_any is_virtual_field fields
 any_value [] = refl
 any_value (field ∷ fields) = ap (λ (b : Bool). is_virtual_field field || b) (any_value fields)

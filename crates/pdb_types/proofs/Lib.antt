@@ -7,3 +7,4 @@ pub mod GapLemmas
 pub mod LayoutLemmas
 pub mod ListLemmas
 pub mod PartLemmas
+pub mod TextLemmas

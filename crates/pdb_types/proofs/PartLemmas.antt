@@ -1,5 +1,6 @@
 -- The parts of base classes.
-use Rattle.std.proofs.Common.{◌≡◌, ◌⊎◌, inl, inr, ℕ, zero, suc, ◌+◌, ◌-◌, ◌<◌, List, [], ◌∷◌, ◌++◌, length, get_or, drop}
+use Rattle.std.proofs.Common.{◌≡◌, ◌⊎◌, inl, inr, ℕ, zero, suc, ◌+◌, ◌-◌, ◌<◌, List, [], ◌∷◌, ◌++◌, length}
+use Rattle.std.proofs.Common.{get_or, drop}
 use Rattle.std.proofs.Common.{map, refl, sym, ap, ◌∙◌, Option, Some, None, Ok, Err, append_assoc, add-one, arith}
 use Rattle.std.proofs.Math.Seq.{drop-cons}
 use Rattle.std.proofs.lemmas.List.{append-nil}
@@ -12,8 +13,9 @@ use Rattle.pdb_types.specs.declared.layout.LayoutField.{LayoutField}
 use Rattle.pdb_types.specs.Layout.{FieldValue, field_value}
 use Rattle.pdb_types.specs.declared.part.Base.{Base}
 use Rattle.pdb_types.specs.declared.part.Outline.{Outline}
-use Rattle.pdb_types.specs.Part.{AreDepths, AreParts, base_within, end_at, field_there, one_part, outline_at, part_along}
-use Rattle.pdb_types.specs.Part.{part_before, part_extent, part_from, part_of, part_with, parted_fields}
+use Rattle.pdb_types.specs.Part.{AreDepths, AreParts, base_within, extent_end, field_there, one_part}
+use Rattle.pdb_types.specs.Part.{outline_at, part_along}
+use Rattle.pdb_types.specs.Part.{part_before, part_extent, part_from, class_part, part_with, parted_fields}
 use Rattle.pdb_types.specs.Size.{Sizes}
 
 -- ---- one more base class
@@ -108,7 +110,7 @@ with_same : (parts others : Sizes) (outline : Outline) (last : Option Base)
     → ((one : Base) → last ≡ Some one → parts one.class.0 ≡ others one.class.0)
     → part_with parts outline last ≡ part_with others outline last
 with_same parts others outline (Some one) same = ap (λ (answer : Answer (Option ℕ)). answer >>= λ part. Ok
-    (Some (part_before outline (end_at one.offset (part_extent one.extent part))))) (same one refl)
+    (Some (part_before outline (extent_end one.offset (part_extent one.extent part))))) (same one refl)
 with_same parts others outline None same = refl
 
 from_same : (parts others : Sizes) (answer : Answer (Option Outline))
@@ -131,8 +133,8 @@ parts_along table parts depth are deep (suc most) index below =
     parts_along table parts depth are deep most last.class.0 (omega (arith, less, below)))
 
 pub only_parts : (table : Table) (parts : Sizes) (depth : ℕ → ℕ) → AreParts table parts → AreDepths table depth
-    → (index : ℕ) → depth index < 64 → parts index ≡ part_of table index
-unfolding part_of
+    → (index : ℕ) → depth index < 64 → parts index ≡ class_part table index
+unfolding class_part
 only_parts table parts depth are deep index below = parts_along table parts depth are deep 64 index below
 
 -- ---- the part along one more base class
@@ -161,13 +163,13 @@ pub part_by : (most : ℕ) (table : Table) (index : ℕ) (outline : Outline) (la
     → 0 < most → outline_at table index ≡ Ok (Some outline) → base_within outline ≡ Some last
     → part_along (most - 1) table last.class.0 ≡ part
     → part_along most table index ≡ (part >>= λ size. Ok
-    (Some (part_before outline (end_at last.offset (part_extent last.extent size)))))
+    (Some (part_before outline (extent_end last.offset (part_extent last.extent size)))))
 part_by most table index outline last part some is within here =
     along_step most table index some
     ∙ ap (λ (o : Answer (Option Outline)). after o (most - 1) table) is
     ∙ ap (part_with (part_along (most - 1) table) outline) within
     ∙ ap (λ (p : Answer (Option ℕ)). p >>= λ size. Ok
-    (Some (part_before outline (end_at last.offset (part_extent last.extent size))))) here
+    (Some (part_before outline (extent_end last.offset (part_extent last.extent size))))) here
 
 pub part_refused : (most : ℕ) (table : Table) (index : ℕ) (e : Error) → 0 < most
     → (outline_at table index ≡ Err (refusal_of e)) ⊎ (e ≡ OutOfMemory)

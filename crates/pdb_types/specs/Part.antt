@@ -29,13 +29,13 @@ abbrev pub base_of : FieldValue → Option Base
 base_of field = base_by_role field.place.role field
 
 -- the byte behind those of which a field that begins at an offset has bits
-abbrev pub end_at : ℕ → Extent → ℕ
-end_at offset extent = (bytes_touched (bits_of offset extent)).end
+abbrev pub extent_end : ℕ → Extent → ℕ
+extent_end offset extent = (bytes_touched (bits_of offset extent)).end
 
 -- the byte behind a field that is no base class
 abbrev pub own_field_end : FieldRole → FieldValue → ℕ
 own_field_end base field = 0
-own_field_end role field = end_at field.place.offset field.extent
+own_field_end role field = extent_end field.place.offset field.extent
 
 -- the byte behind all fields that are no base classes
 abbrev pub own_end : List FieldValue → ℕ
@@ -54,14 +54,14 @@ last_base last [] = last
 last_base last (field ∷ fields) = last_base (later_base last (base_of field)) fields
 
 -- whether a field is a pointer to a table of virtual bases
-abbrev pub is_virtual_value : FieldValue → Bool
-is_virtual_value field = is_virtual_role field.place.role
+abbrev pub has_virtual_role : FieldValue → Bool
+has_virtual_role field = is_virtual_role field.place.role
 
 -- what a class of a size with these fields says of its part
 abbrev pub outline_of : ℕ → List FieldValue → Outline
 outline_of size fields = record {
   size = size;
-  is_virtual = list_any is_virtual_value fields;
+  is_virtual = list_any has_virtual_role fields;
   own_end = own_end fields;
   last_base = last_base None fields;
 }
@@ -94,7 +94,7 @@ part_before outline end =
 -- base class goes.
 abbrev pub part_with : Sizes → Outline → Option Base → Answer (Option ℕ)
 part_with parts outline (Some last) = parts last.class.0
-    >>= λ part. Ok (Some (part_before outline (end_at last.offset (part_extent last.extent part))))
+    >>= λ part. Ok (Some (part_before outline (extent_end last.offset (part_extent last.extent part))))
 part_with parts outline None = Ok (Some (part_before outline 0))
 
 -- the part of a class that says this of it, which only a class or a union that is defined does
@@ -122,8 +122,8 @@ part_along zero table index = Ok None
 part_along (suc most) table index = one_part table (part_along most table) index
 
 -- the part of a class
-unfoldable pub part_of : Table → ℕ → Answer (Option ℕ)
-part_of table index = part_along MOST_WITHIN table index
+unfoldable pub class_part : Table → ℕ → Answer (Option ℕ)
+class_part table index = part_along MOST_WITHIN table index
 
 -- ---- the layout
 
@@ -133,7 +133,7 @@ with_part field part = record { place = field.place; extent = part_extent field.
 
 -- a field that is this base class, which is as long as its part, or another field
 abbrev pub field_by_base : Table → FieldValue → Option Base → Answer FieldValue
-field_by_base table field (Some class) = part_of table class.class.0 >>= λ part. Ok (with_part field part)
+field_by_base table field (Some class) = class_part table class.class.0 >>= λ part. Ok (with_part field part)
 field_by_base table field None = Ok field
 
 unfoldable pub field_there : Table → FieldValue → Answer FieldValue
@@ -147,7 +147,7 @@ parted_fields table (field ∷ fields) = field_there table field >>= λ one. par
 
 -- The fields of a class as they lie in it. Only a class that has virtual bases has base classes that have some.
 abbrev pub fields_there : Table → List FieldValue → Answer (List FieldValue)
-fields_there table fields = if list_any is_virtual_value fields then parted_fields table fields else Ok fields
+fields_there table fields = if list_any has_virtual_role fields then parted_fields table fields else Ok fields
 
 -- the layout of a class or a union that says this of it
 abbrev pub body_layout : Table → ClassBody → Answer ClassLayout

@@ -6,7 +6,7 @@ ghost use Rattle.pdb_tpi.specs.Table.{Table};
 ghost use Rattle.pdb_types.specs.Declaration.{TypeName};
 ghost use Rattle.pdb_types.specs.Definition.{first_definition};
 ghost use Rattle.pdb_types.specs.DefinitionLaws.{IsFirstDefinition};
-ghost use Rattle.pdb_types.specs.Part.{AreDepths, AreParts, part_of};
+ghost use Rattle.pdb_types.specs.Part.{AreDepths, AreParts, class_part};
 ghost use Rattle.pdb_types.specs.Size.{AreSizes, Sizes, size_of};
 
 /// The definition of a name is the type with the least index that defines it. There is none exactly
@@ -21,7 +21,7 @@ pub fn definitions()
 /// before. No other parts are these.
 pub fn parts()
     ensures { (table : Table) (parts : Sizes) (depth : ℕ → ℕ) → AreParts table parts → AreDepths table depth →
-        (index : ℕ) → depth index < 64 → parts index ≡ part_of table index }
+        (index : ℕ) → depth index < 64 → parts index ≡ class_part table index }
 {}
 
 /// The sizes of the types of a table say of each type what its record says, or that of its

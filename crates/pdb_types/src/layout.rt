@@ -179,11 +179,7 @@ impl<'t> Definitions<'t> {
     }
 
     /// Returns the fields of a class or a union that says this of it, each as large as its type.
-    pub(crate) fn body_fields(
-        &self,
-        alloc: Global,
-        body: ClassBody,
-    ) -> Result<Vec<LayoutField<'t>>>
+    pub(crate) fn body_fields(&self, alloc: Global, body: ClassBody) -> Result<Vec<LayoutField<'t>>>
         ensures { Answers (λ fields. map field_value fields.items) result (body_fields self.now body) }
     {
         let records = self.records_of(alloc, body.list)?;

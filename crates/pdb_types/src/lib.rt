@@ -38,3 +38,4 @@ pub use gap::{Gap, GapKind};
 pub use layout::{Layout, LayoutField};
 pub use open_definitions::OpenDefinitions;
 pub use span::{Span, gaps};
+pub use text::TypeText;

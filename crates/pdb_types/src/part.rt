@@ -4,9 +4,10 @@ ghost use Rattle.std.specs.Prelude.{◌≡◌, None, map};
 ghost use Rattle.std.specs.List.{list_any};
 ghost use Rattle.pdb_base.specs.Answer.{Answers};
 ghost use Rattle.pdb_types.specs.Layout.{field_value};
-ghost use Rattle.pdb_types.specs.Part.{base_of, base_within, end_at, field_there, fields_there, is_virtual_value};
-ghost use Rattle.pdb_types.specs.Part.{last_base, later_base, outline_at, outline_of, own_end, own_field_end, part_along, part_before};
-ghost use Rattle.pdb_types.specs.Part.{part_extent, part_of, parted_fields, with_part};
+ghost use Rattle.pdb_types.specs.Part.{base_of, base_within, extent_end, field_there, fields_there, has_virtual_role};
+ghost use Rattle.pdb_types.specs.Part.{last_base, later_base, outline_at, outline_of, own_end, own_field_end};
+ghost use Rattle.pdb_types.specs.Part.{part_along, part_before};
+ghost use Rattle.pdb_types.specs.Part.{part_extent, class_part, parted_fields, with_part};
 
 use crate::definitions::Definitions;
 use crate::extent::Extent;
@@ -65,8 +66,8 @@ fn base_of(field: &LayoutField<'_>) -> Option<Base>
 }
 
 /// Returns the byte behind those of which a field that begins at an offset has bits.
-fn end_at(offset: u64, extent: Extent) -> u128
-    ensures { result ≡ end_at offset extent }
+fn extent_end(offset: u64, extent: Extent) -> u128
+    ensures { result ≡ extent_end offset extent }
 {
     bytes_of(extent.bits(offset)).end
 }
@@ -77,7 +78,7 @@ fn own_field_end(field: &LayoutField<'_>) -> u128
 {
     match field.place.kind {
         FieldKind::Base => 0,
-        _ => end_at(field.place.offset, field.extent),
+        _ => extent_end(field.place.offset, field.extent),
     }
 }
 
@@ -122,7 +123,7 @@ fn last_base(fields: &[LayoutField<'_>]) -> Option<Base>
 
 /// Returns whether fields have a pointer to a table of virtual bases.
 fn are_virtual(fields: &[LayoutField<'_>]) -> bool
-    ensures { result ≡ list_any is_virtual_value (map field_value fields.now) }
+    ensures { result ≡ list_any has_virtual_role (map field_value fields.now) }
 {
     has_virtual_bases(fields)
 }
@@ -155,7 +156,11 @@ impl Outline {
     fn base_within(self) -> Option<Base>
         ensures { result ≡ base_within self }
     {
-        if self.is_virtual { self.last_base } else { None }
+        if self.is_virtual {
+            self.last_base
+        } else {
+            None
+        }
     }
 
     /// Returns the byte behind the part, if the last base class ends there.
@@ -199,12 +204,12 @@ impl<'t> Definitions<'t> {
             return Ok(Some(outline.part_before(0)));
         };
         let part = self.part_along(alloc, last.class, most - 1)?;
-        let end = end_at(last.offset, part_extent(last.extent, part));
+        let end = extent_end(last.offset, part_extent(last.extent, part));
         Ok(Some(outline.part_before(end)))
     }
 
     /// Returns a field, as long as its part if it is a base class.
-    #[tactic(auto, unfolding(crate::specs::Part::field_there, crate::specs::Part::part_of))]
+    #[tactic(auto, unfolding(crate::specs::Part::field_there, crate::specs::Part::class_part))]
     fn field_there(&self, alloc: Global, field: &LayoutField<'t>) -> Result<LayoutField<'t>>
         ensures { Answers field_value result (field_there self.now (field_value field.now)) }
     {
@@ -221,7 +226,11 @@ impl<'t> Definitions<'t> {
     }
 
     /// Returns fields, of which each base class is as long as its part.
-    fn parted_fields(&self, alloc: Global, fields: &[LayoutField<'t>]) -> Result<Vec<LayoutField<'t>>>
+    fn parted_fields(
+        &self,
+        alloc: Global,
+        fields: &[LayoutField<'t>],
+    ) -> Result<Vec<LayoutField<'t>>>
         ensures { Answers (λ parted. map field_value parted.items) result
             (parted_fields self.now (map field_value fields.now)) }
     {

@@ -1,7 +1,7 @@
 use Rattle.std.proofs.Common.{ℕ, ◌∙◌, ap, sym, arith, Ok, Option, Some}
 use Rattle.pdb_base.specs.Answer.{Answer}
 use Rattle.pdb_base.proofs.lemmas.Refused.{passed_on}
-use Rattle.pdb_types.specs.Part.{end_at, part_before}
+use Rattle.pdb_types.specs.Part.{extent_end, part_before}
 use Rattle.pdb_types.proofs.PartLemmas.{part_alone, part_by, part_none, part_refused, part_refused_by, part_zero}
 use Rattle.pdb_types.proofs.definitions.Definitions.+part_along.Goals as goal
 
@@ -38,4 +38,4 @@ returns t c =
     (rw c.in-Some.is at c.in_ok-outline.ensures) (sym c.base_within.ensures ∙ c.in-Some-base_within.is)
     c.in_ok-part.ensures
     ∙ ap found (sym (c.part_before-2.ensures ∙ ap (part_before outline)
-    (c.end_at-end.ensures ∙ ap (end_at last.offset) c.part_extent.ensures)))
+    (c.extent_end-end.ensures ∙ ap (extent_end last.offset) c.part_extent.ensures)))
