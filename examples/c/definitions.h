@@ -1,8 +1,8 @@
 /* The definitions of types in Volatility's format ISF. */
 #include "references.h"
 
-/* Prints the members of a class, or the values of an enumeration. */
-static void print_fields(table *table, uint32_t list) {
+/* Prints the members of a class, or the values of an enumeration, as numbers of the type under it. */
+static void print_fields(table *table, uint32_t list, uint32_t underlying_type) {
     size_t count = 0, size = 0;
     uint32_t status = pdb_types_fields(&table->types, list, NULL, 0, &count, NULL, 0, &size, &fault);
     if (status != PDB_TOO_SMALL) check(status);
@@ -13,6 +13,7 @@ static void print_fields(table *table, uint32_t list) {
     for (size_t at = 0; at < count; name += fields[at++].name_length) {
         pdb_type_info it = fields[at].info;
         if (it.any.shape != PDB_MEMBER && it.any.shape != PDB_ENUMERATE) continue;
+        pdb_enumerator_typed(&it, underlying_type);
         fputs(before, stdout);
         before = ",";
         print_quoted(name, fields[at].name_length);
@@ -48,7 +49,7 @@ static void print_definitions(table *table, int is_of_enumerations) {
             is_met[base] = 1;
             printf("\"base\":\"%s\",\"constants\":{", base_name(table, base));
         } else printf("\"kind\":\"%s\",\"fields\":{", shape == PDB_CLASS ? "struct" : "union");
-        if (list) print_fields(table, list);
+        if (list) print_fields(table, list, is_of_enumerations ? it.info.enumeration.underlying_type : 0);
         fputs("}}", stdout);
     }
 }

@@ -682,6 +682,7 @@ FUNCTIONS = {
     "pdb_type_methods": (c_uint32, [c_void_p, c_size_t, c_uint32, c_void_p, c_size_t, c_void_p, c_void_p]),
     "pdb_type_fields": (c_uint32, [c_void_p, c_size_t, c_uint32, c_void_p, c_size_t, c_void_p, c_void_p, c_size_t, c_void_p, c_void_p]),
     "pdb_types_fields": (c_uint32, [c_void_p, c_uint32, c_void_p, c_size_t, c_void_p, c_void_p, c_size_t, c_void_p, c_void_p]),
+    "pdb_enumerator_typed": (None, [c_void_p, c_uint32]),
     "pdb_id_parse": (c_uint32, [c_void_p, c_size_t, c_void_p, c_void_p]),
     "pdb_id_name": (c_uint32, [c_void_p, c_size_t, c_void_p, c_size_t, c_void_p, c_void_p]),
     "pdb_id_list": (c_uint32, [c_void_p, c_size_t, c_void_p, c_size_t, c_void_p, c_void_p]),

@@ -97,14 +97,19 @@ class Types:
         except KeyError:
             return default
 
-    def fields(self, list_index: int) -> List[Field]:
-        """The fields of the list of an index, and of the lists in which it continues."""
+    def fields(self, list_index: int, underlying_type: Optional[int] = None) -> List[Field]:
+        """The fields of the list of an index, and of the lists in which it continues. If the type under an enumeration is
+        given, the values are numbers of it; or else they have the signs that their records have, where -128 may be
+        128."""
         call, place = library().pdb_types_fields, unsigned(list_index)
         found = named_items(_sys.Field, call, self._table.handle, place, stream=self.number)
         fields: List[Field] = []
         at = 0
         if found is not None:
             rows, count, names = found
+            if underlying_type is not None:
+                for row in rows[:count]:
+                    library().pdb_enumerator_typed(byref(row.info), underlying_type)
             data = memoryview(rows).cast("B")[: count * FIELD.size]
             for raw, (length, has_name) in zip(FIELD.iter_unpack(data), FIELD_NAME.iter_unpack(data)):
                 end = at + length

@@ -209,6 +209,11 @@ class Enum(UserDefinedType, shape=Shape.ENUMERATION):
     underlying_type = target("The type of its values.")
     fields_index = number("The list of its enumerators, 0 if it is only declared.")
 
+    @property
+    def fields(self) -> "List[Field]":
+        """Its enumerators, of all its lists, whose values are numbers of the type under it; none if it is only declared."""
+        return self._table.fields(self._raw[-2], self.underlying_type_index) if self._raw[-2] else []
+
 
 class Pointer(Type, shape=Shape.POINTER):
     """A pointer, a reference, or a pointer to a member."""

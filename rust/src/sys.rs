@@ -516,6 +516,7 @@ unsafe extern "C" {
     pub fn pdb_type_methods(record: *const u8, record_length: usize, index: u32, room: *mut Row, room_length: usize, length: *mut usize, fault: *mut Fault) -> u32;
     pub fn pdb_type_fields(record: *const u8, record_length: usize, index: u32, rows: *mut Field, rows_length: usize, count: *mut usize, names: *mut u8, names_length: usize, size: *mut usize, fault: *mut Fault) -> u32;
     pub fn pdb_types_fields(table: *mut Handle, index: u32, rows: *mut Field, rows_length: usize, count: *mut usize, names: *mut u8, names_length: usize, size: *mut usize, fault: *mut Fault) -> u32;
+    pub fn pdb_enumerator_typed(info: *mut Row, underlying_type: u32);
     pub fn pdb_id_parse(record: *const u8, record_length: usize, info: *mut Row, fault: *mut Fault) -> u32;
     pub fn pdb_id_name(record: *const u8, record_length: usize, room: *mut u8, room_length: usize, length: *mut usize, fault: *mut Fault) -> u32;
     pub fn pdb_id_list(record: *const u8, record_length: usize, room: *mut u32, room_length: usize, length: *mut usize, fault: *mut Fault) -> u32;

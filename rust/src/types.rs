@@ -127,6 +127,16 @@ impl Types {
         Ok(Fields { rows, names })
     }
 
+    /// The values of an enumeration, given the list of its fields and the type under it, of which they are numbers. In
+    /// `fields` they have the signs that their records have, where -128 may be 128.
+    pub fn enumerators(&self, list: u32, underlying_type: u32) -> Result<Fields> {
+        let mut found = self.fields(list)?;
+        for row in &mut found.rows {
+            unsafe { sys::pdb_enumerator_typed(&mut row.info, underlying_type) };
+        }
+        Ok(found)
+    }
+
     /// The definitions of the table, which are found once, and the sizes, layouts and texts of its types.
     pub fn definitions(&self) -> Result<&Definitions> {
         if let Some(found) = self.definitions.get() {

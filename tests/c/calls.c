@@ -275,6 +275,16 @@ static void ask_enumerates(void) {
         if (info.enumerate.is_signed) printf("%" PRId64 "\n", info.enumerate.value.as_signed);
         else printf("%" PRIu64 "\n", info.enumerate.value.as_unsigned);
     }
+    // 0x80 as an LF_CHAR, of a signed and an unsigned type of one byte, of one of eight bytes, and of no primitive type.
+    static const uint32_t under[] = {0x68, 0x69, 0x23, 0x1000};
+    for (size_t i = 0; i < sizeof under / sizeof *under; i++) {
+        pdb_type_info info = {0};
+        allowed(pdb_type_parse((const uint8_t *)"\2\x15\3\0\0\x80\x80" "A", 9, 0x1000, &info, &fault), PDB_OK);
+        pdb_enumerator_typed(&info, under[i]);
+        printf("enumerator of 0x%" PRIx32 " ", under[i]);
+        if (info.enumerate.is_signed) printf("%" PRId64 "\n", info.enumerate.value.as_signed);
+        else printf("%" PRIu64 "\n", info.enumerate.value.as_unsigned);
+    }
 }
 
 static void print_layout(pdb_definitions *definitions, uint32_t index) {

@@ -211,6 +211,40 @@ def fields_told(text):
     return list(zip(parts[0::2], parts[1::2]))
 
 
+# The integer types under enumerations, as cvinfo.h numbers them: how many bytes they have, and whether they have a sign.
+INTEGERS = {
+    0x10: (1, True), 0x20: (1, False), 0x68: (1, True), 0x69: (1, False), 0x30: (1, False), 0x70: (1, True),
+    0x11: (2, True), 0x21: (2, False), 0x72: (2, True), 0x73: (2, False), 0x71: (2, False), 0x7A: (2, False),
+    0x12: (4, True), 0x22: (4, False), 0x74: (4, True), 0x75: (4, False), 0x7B: (4, False),
+    0x13: (8, True), 0x23: (8, False), 0x76: (8, True), 0x77: (8, False),
+}  # fmt: skip
+
+
+def value_under(value, underlying_type):
+    """A value as a number of the type under its enumeration."""
+    size, is_signed = INTEGERS[underlying_type]
+    return int.from_bytes((value % (1 << 64)).to_bytes(8, "little")[:size], "little", signed=is_signed)
+
+
+def check_enumerators(tally, dumper, file):
+    """That pdbdump shows the values of each enumeration as numbers of the type under it: those that LLVM tells, which
+    reads one byte with a sign. Returns how many there are."""
+    records = {at: (kind, text) for at, kind, text in llvm.told_records(llvm.dump(file, "types"))}
+    count = 0
+    for at, (kind, text) in records.items():
+        facts = facts_told(RECORDS, kind, text) if kind == "LF_ENUM" else {}
+        if not facts.get("fields"):
+            continue
+        under = facts["underlying_type"]
+        told = [facts_told(FIELDS, *field) for field in fields_told(records[facts["fields"]][1])]
+        wanted = [(one["name"], value_under(one["value"], under)) for one in told if "value" in one]
+        _, *rows = objects_of(tally, dumper, ["types", "--json", "--index", at, file])
+        came = [(row["name"], row["value"]) for row in rows if "value" in row]
+        tally.check(came == wanted, f"{file.name}: {dumper.name} {at:#x}: {came}, and by LLVM {wanted}")
+        count += len(came)
+    return count
+
+
 def check_records(tally, dumper, file, known=()):
     """That pdbdump shows of each type, each id and each field what LLVM tells; the fields of these names may differ.
     Returns how many records, fields and facts agree, and which of those fields differ."""

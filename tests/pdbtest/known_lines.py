@@ -138,6 +138,9 @@ def type_lines():
     yield "enumerate 2 12345"
     yield from ("enumerate 2 -2", "enumerate 2 65534", "enumerate 4 -2", "enumerate 4 4294967294")
     yield from ("enumerate 8 -2", "enumerate 8 18446744073709551614")
+    # 0x80 of one byte, as numbers of types
+    yield from ("enumerator of 0x68 -128", "enumerator of 0x69 128", "enumerator of 0x23 18446744073709551488")
+    yield "enumerator of 0x1000 128"
 
 
 def identity_lines():

@@ -6,7 +6,7 @@ ghost use Rattle.pdb_tpi.specs.Record.{type_of};
 ghost use Rattle.pdb_handles.specs.Records.{id_info, id_list, of_id, CopiesIf, dimensions_in, methods_in};
 ghost use Rattle.pdb_handles.specs.Records.{unique_name_in, FieldsOrLacks, arguments_in, fields_told, listing_told};
 ghost use Rattle.pdb_handles.specs.Records.{of_type};
-ghost use Rattle.pdb_handles.specs.{Copied.IsAnswerTold, Row.type_info};
+ghost use Rattle.pdb_handles.specs.{Copied.IsAnswerTold, Row.type_info, Row.typed_row};
 
 use pdb_handles::copied::{copy_if, copy_name, write_listing};
 use pdb_handles::fields::{FieldRow, fields_of};
@@ -31,6 +31,15 @@ pub extern "C" fn pdb_type_parse(
     ensures status { result ≡ fault.new.status }
 {
     write_type_row(alloc, bytes, index, row).tell(fault)
+}
+
+/// Changes the row of an enumerator, so that its value is a number of the type under its
+/// enumeration. Changes no other row.
+#[unsafe(no_mangle)]
+pub extern "C" fn pdb_enumerator_typed(row: &mut Row, underlying_type: u32)
+    ensures { row.new ≡ typed_row row.old underlying_type }
+{
+    row.set_typed(underlying_type)
 }
 
 /// Copies the name in the record of a type.

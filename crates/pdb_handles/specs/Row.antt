@@ -1,12 +1,15 @@
 -- The contents of a type record, as a caller sees them: a row of numbers, of which each shape has some.
-use Rattle.std.specs.Prelude.{ℕ, ◌+◌, ◌*◌, Bool, true, false, is_some, unwrap_or, Option, Some, None}
-use Rattle.std.specs.{Int.cast_unsigned, Int.w64, Option.option_map}
+use Rattle.std.specs.Prelude.{ℕ, ◌+◌, ◌*◌, ◌==◌, ◌&&◌, nat_lt, if◌then◌else◌, Bool, true, false, is_some}
+use Rattle.std.specs.Prelude.{unwrap_or, Option}
+use Rattle.std.specs.Prelude.{Some, None}
+use Rattle.std.specs.{Int.cast_signed, Int.cast_unsigned, Int.w64, Option.option_map}
 use Rattle.pdb_base.specs.{declared.index.TypeIndex.TypeIndex, declared.variant.Variant.Variant}
 use Rattle.pdb_base.specs.declared.variant.Variant.TheVariants as variants
 use Rattle.pdb_values.specs.declared.class.ClassKind.{ClassKind}
 use Rattle.pdb_values.specs.TypeValue.{TypeValue, PlainValue, plain}
 use Rattle.pdb_values.specs.declared.class.ClassKind.TheVariants as kinds
 use Rattle.pdb_values.specs.TypeValue as values
+use Rattle.pdb_types.specs.Enumerator.{enumerator_value}
 use Rattle.pdb_handles.specs.{declared.row.Numbers.Numbers, declared.row.Row.Row, Frame.flag}
 
 -- the number of a kind of class
@@ -26,6 +29,17 @@ value_numbers (variants.I8 n) = (true, 1, cast_unsigned w64 n)
 value_numbers (variants.I16 n) = (true, 2, cast_unsigned w64 n)
 value_numbers (variants.I32 n) = (true, 4, cast_unsigned w64 n)
 value_numbers (variants.I64 n) = (true, 8, cast_unsigned w64 n)
+
+-- the value of an enumerator with these numbers: whether it has a sign, its width in bytes, and its number in 64 bits
+abbrev pub value_of : Bool → ℕ → ℕ → Variant
+value_of is_signed width number = if is_signed then variants.I64 (cast_signed w64 number)
+    else (if width == 1 && nat_lt number 256 then variants.U8 number else variants.U64 number)
+
+-- the row of an enumerator, of which the value is a number of the type of an index, or any other row
+abbrev pub typed_row : Row → ℕ → Row
+typed_row row index =
+    let typed = value_numbers (enumerator_value (value_of (row.kind == 1) row.count row.number) index) in
+    if row.shape == 15 then record row { kind = flag typed.0; number = typed.2 } else row
 
 -- the number of a type's index, if there is one
 abbrev pub index_in : Option TypeIndex → Option ℕ

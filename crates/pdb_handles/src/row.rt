@@ -2,10 +2,12 @@
 
 ghost use Rattle.std.specs.Prelude.{◌≡◌, ◌*◌, ◌≤◌};
 ghost use Rattle.pdb_values.specs.TypeView.{type_value};
-ghost use Rattle.pdb_handles.specs.{Frame.flag, Row.index_in, Row.type_info, Row.value_numbers, Row.zeroed_row};
+ghost use Rattle.pdb_handles.specs.{Frame.flag, Row.index_in, Row.type_info, Row.typed_row, Row.value_numbers};
+ghost use Rattle.pdb_handles.specs.{Row.value_of, Row.zeroed_row};
 
 use crate::frames::flag;
 use pdb_base::{TypeIndex, Variant};
+use pdb_types::enumerator_value;
 use pdb_values::TypeData;
 
 /// The numbers in the record of a type: what it says besides names and lists. Each shape has some
@@ -101,6 +103,20 @@ fn value_numbers(value: Variant) -> (bool, u32, u64)
         Variant::I16(n) => (true, 2, i64::from(n).cast_unsigned()),
         Variant::I32(n) => (true, 4, i64::from(n).cast_unsigned()),
         Variant::I64(n) => (true, 8, n.cast_unsigned()),
+    }
+}
+
+/// Returns the value of an enumerator with these numbers, of which only that of one byte without a
+/// sign is told from the others.
+fn value_of(is_signed: bool, width: u32, number: u64) -> Variant
+    ensures { result ≡ value_of is_signed width number }
+{
+    if is_signed {
+        Variant::I64(number.cast_signed())
+    } else if width == 1 && number < 256 {
+        Variant::U8(number as u8)
+    } else {
+        Variant::U64(number)
     }
 }
 
@@ -224,5 +240,22 @@ impl Row {
         let mut row = Row::of(0, &Numbers::default());
         row.set_type(value);
         row
+    }
+
+    /// Changes the row of an enumerator, so that its value is a number of the type under its
+    /// enumeration. Changes no other row.
+    pub fn set_typed(&mut self, underlying_type: u32)
+        ensures { self.new ≡ typed_row self.old underlying_type }
+    {
+        if self.shape != 15 {
+            return;
+        }
+        let value = value_of(self.kind == 1, self.count, self.number);
+        let (is_signed, _, number) = value_numbers(enumerator_value(
+            value,
+            TypeIndex(underlying_type),
+        ));
+        self.kind = flag(is_signed);
+        self.number = number;
     }
 }

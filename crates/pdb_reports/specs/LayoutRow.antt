@@ -15,7 +15,8 @@ use Rattle.pdb_types.specs.Extent.{bits_of}
 use Rattle.pdb_types.specs.FieldPlace.{FieldRole, base, is_virtual_role, member}
 use Rattle.pdb_types.specs.FieldPlace.{virtual_base_pointer, virtual_function_pointer}
 use Rattle.pdb_types.specs.Gap.{AreGapRows}
-use Rattle.pdb_types.specs.Layout.{FieldValue, ClassLayout, layout_of_type}
+use Rattle.pdb_types.specs.Layout.{FieldValue, ClassLayout}
+use Rattle.pdb_types.specs.Part.{layout_of_type}
 use Rattle.pdb_reports.specs.declared.layout_row.LayoutRow.{LayoutRow}
 use Rattle.pdb_handles.specs.Fault.{fault_of_refusal, no_value, not_open}
 use Rattle.pdb_handles.specs.Frame.{flag}

@@ -4,7 +4,8 @@ ghost use Rattle.std.specs.Prelude.{◌≡◌, ◌++◌, ◌<◌, ◌^◌, Ok, S
 ghost use Rattle.std.specs.List.{All, flat_map};
 ghost use Rattle.pdb_base.specs.Memory.{FailsOnlyForMemory};
 ghost use Rattle.pdb_types.specs.FieldPlace.{field_role};
-ghost use Rattle.pdb_types.specs.Layout.{HasGaps, field_value, layout_of_type, layout_value};
+ghost use Rattle.pdb_types.specs.Layout.{HasGaps, field_value, layout_value};
+ghost use Rattle.pdb_types.specs.Part.{layout_of_type};
 ghost use Rattle.pdb_reports.specs.LayoutRow.{LaysOutOrLacks, bytes_row, field_name, field_entry, gap_entry, rows_of};
 ghost use Rattle.pdb_reports.specs.LayoutRow.{with_extent, entry_of_role};
 

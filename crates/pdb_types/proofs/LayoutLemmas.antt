@@ -1,8 +1,9 @@
 -- The fields of a class, one after another.
 use Rattle.std.proofs.Common.{◌≡◌, ◌⊎◌, inl, inr, ℕ, suc, ◌+◌, ◌<◌, List, [], ◌∷◌, ◌++◌, length, get_or, drop, map}
+use Rattle.std.proofs.Common.{Bool, ◌||◌}
 use Rattle.std.proofs.Common.{refl, sym, ap, ◌∙◌, Option, Some, None, Ok, Err, append_assoc, add-one}
 use Rattle.std.specs.Option.{option_to_list}
-use Rattle.std.specs.List.{cons_option}
+use Rattle.std.specs.List.{cons_option, list_any}
 use Rattle.std.proofs.Math.Seq.{drop-cons}
 use Rattle.std.proofs.lemmas.List.{append-nil}
 use Rattle.pdb_base.proofs.lemmas.Collected.{bind_ok, ok, ok_is}
@@ -14,8 +15,10 @@ use Rattle.pdb_tpi.specs.Table.{Table}
 use Rattle.pdb_values.specs.declared.type_data.TypeData.{TypeData}
 use Rattle.pdb_values.specs.TypeValue.{TypeValue}
 use Rattle.pdb_values.specs.TypeView.{type_value}
-use Rattle.pdb_types.specs.Layout.{FieldValue, field_of, field_values_in}
+use Rattle.pdb_types.specs.declared.layout.LayoutField.{LayoutField}
+use Rattle.pdb_types.specs.Layout.{FieldValue, field_of, field_value, field_values_in, is_virtual_field}
 use Rattle.pdb_types.specs.Layout.{with_field}
+use Rattle.pdb_types.specs.Part.{has_virtual_role}
 
 -- fields behind others
 abbrev pub behind : List FieldValue → Answer (List FieldValue) → Answer (List FieldValue)
@@ -100,6 +103,10 @@ fields_refused table records items i item found e so_far within here (inl is) =
     (refused_one found (field_of table (type_value item)) (refusal_of e) is))
 fields_refused table records items i item found e so_far within here (inr memory) = inr memory
 
--- ---- one field
+-- ---- virtual bases
 
--- ---- gaps
+-- the same of fields and of their values
+pub any_value : (fields : List LayoutField)
+    → list_any has_virtual_role (map field_value fields) ≡ list_any is_virtual_field fields
+any_value [] = refl
+any_value (field ∷ fields) = ap (λ (b : Bool). is_virtual_field field || b) (any_value fields)

@@ -6,3 +6,5 @@ pub mod SpanLemmas
 pub mod GapLemmas
 pub mod LayoutLemmas
 pub mod ListLemmas
+pub mod PartLemmas
+pub mod TextLemmas

@@ -60,16 +60,16 @@ field_values_in table (value ∷ values) = field_of table value >>= λ field. fi
 abbrev pub list_there : TypeIndex → Option TypeIndex
 list_there list = if list.0 == 0 then None else Some list
 
--- what a class or a union says of its layout: its size, and the list of its fields
-abbrev pub plain_body : PlainValue → Option ClassBody
-plain_body (class value) = Some (record { size = value.size; list = value.fields })
-plain_body (union value) = Some (record { size = value.size; list = list_there value.fields })
-plain_body value = None
+-- what the class or union of an index says of its layout: its size, and the list of its fields
+abbrev pub plain_body : TypeIndex → PlainValue → Option ClassBody
+plain_body index (class value) = Some (record { index = index; size = value.size; list = value.fields })
+plain_body index (union value) = Some (record { index = index; size = value.size; list = list_there value.fields })
+plain_body index value = None
 
 -- the same of any type
-abbrev pub body_of : TypeValue → Option ClassBody
-body_of (plain value) = plain_body value
-body_of value = None
+abbrev pub body_of : TypeIndex → TypeValue → Option ClassBody
+body_of index (plain value) = plain_body index value
+body_of index value = None
 
 -- the records of a list of fields and of the lists in which it continues
 abbrev pub records_of : Table → Option TypeIndex → Answer (List TypeValue)
@@ -99,23 +99,15 @@ abbrev pub HasGaps : Layout → Type 0
 HasGaps layout = AreGapRows (map field_span layout.fields.items) layout.size
     (list_any is_virtual_field layout.fields.items) layout.gaps.items
 
--- the layout of a class or a union that says this of it
-abbrev pub body_layout : Table → ℕ → ClassBody → Answer ClassLayout
-body_layout table index body = do
-  records ← records_of table body.list
-  fields ← field_values_in table records
-  Ok (record { index = index; size = body.size; records = length records; fields = fields })
+-- the fields of a class or a union that says this of it, each as large as its type
+abbrev pub body_fields : Table → ClassBody → Answer (List FieldValue)
+body_fields table body = records_of table body.list >>= field_values_in table
 
--- the same if it is a class or a union
-abbrev pub layout_from : Table → ℕ → Option ClassBody → Answer (Option ClassLayout)
-layout_from table index (Some body) = body_layout table index body >>= λ layout. Ok (Some layout)
-layout_from table index None = Ok None
+-- what a definition says of its layout, if it is a class or a union
+abbrev pub definition_body : Table → Option ℕ → Answer (Option ClassBody)
+definition_body table (Some index) = type_at table index >>= λ value. Ok (body_of (record { 0 = index }) value)
+definition_body table None = Ok None
 
--- the layout of a definition
-abbrev pub definition_layout : Table → Option ℕ → Answer (Option ClassLayout)
-definition_layout table (Some index) = type_at table index >>= λ value. layout_from table index (body_of value)
-definition_layout table None = Ok None
-
--- the layout of the type of an index: that of its definition, if it is a class or a union and has a definition
-unfoldable pub layout_of_type : Table → ℕ → Answer (Option ClassLayout)
-layout_of_type table index = definition_of table index >>= definition_layout table
+-- what the type of an index says of its layout: its definition, if it has one that is a class or a union
+unfoldable pub class_at : Table → ℕ → Answer (Option ClassBody)
+class_at table index = definition_of table index >>= definition_body table

@@ -14,4 +14,6 @@ pub mod Extent
 pub mod FieldPlace
 pub mod Gap
 pub mod Layout
+pub mod Part
+pub mod Enumerator
 pub mod Text

@@ -30,9 +30,9 @@ impl Declarator {
         qualifiers: Qualifiers,
     ) -> AllocResult<Self> {
         let mut text = Vec::from_slice(alloc, sign)?;
-        text.extend_from_slice(qualifiers.text().trim_end().as_bytes())?;
-        if !self.text.is_empty() && !qualifiers.text().is_empty() {
-            text.push(b' ')?;
+        qualifiers.push_to(&mut text)?;
+        if self.text.is_empty() && !qualifiers.is_none() {
+            text.pop();
         }
         text.extend_from_slice(&self.text)?;
         Ok(Declarator {
@@ -42,16 +42,29 @@ impl Declarator {
     }
 
     /// Puts brackets behind, and parentheses around what is there if it begins with the sign of a
-    /// pointer.
-    pub(crate) fn push_brackets(&mut self, alloc: Global, brackets: &[u8]) -> AllocResult<()> {
-        if self.is_pointer {
-            let mut text = Vec::from_slice(alloc, "(".as_bytes())?;
-            text.extend_from_slice(&self.text)?;
-            text.push(b')')?;
-            self.text = text;
-            self.is_pointer = false;
+    /// pointer; and before that a calling convention, if there is one.
+    pub(crate) fn push_brackets(
+        &mut self,
+        alloc: Global,
+        convention: &str,
+        brackets: &[u8],
+    ) -> AllocResult<()> {
+        let (open, close) = if self.is_pointer {
+            ("(", ")")
+        } else {
+            ("", "")
+        };
+        let mut text = Vec::from_slice(alloc, open.as_bytes())?;
+        text.extend_from_slice(convention.as_bytes())?;
+        if !convention.is_empty() && !self.text.is_empty() {
+            text.push(b' ')?;
         }
-        self.push_behind(brackets)
+        text.extend_from_slice(&self.text)?;
+        text.extend_from_slice(close.as_bytes())?;
+        text.extend_from_slice(brackets)?;
+        self.text = text;
+        self.is_pointer = false;
+        Ok(())
     }
 
     /// Puts a text behind.
@@ -67,7 +80,8 @@ impl Declarator {
         qualifiers: Qualifiers,
         type_name: &[u8],
     ) -> AllocResult<Vec<u8>> {
-        let mut text = Vec::from_slice(alloc, qualifiers.text().as_bytes())?;
+        let mut text = Vec::new(alloc);
+        qualifiers.push_to(&mut text)?;
         text.extend_from_slice(type_name)?;
         if !text.is_empty() && !self.text.is_empty() {
             text.push(b' ')?;

@@ -35,7 +35,7 @@ pub struct Gap {
 }
 
 /// Returns the bytes of which a span of bits has some.
-fn bytes_of(bits: Span) -> Span
+pub(crate) fn bytes_of(bits: Span) -> Span
     ensures { result ≡ bytes_touched bits }
 {
     if bits.start < bits.end {

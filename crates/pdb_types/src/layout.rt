@@ -5,10 +5,11 @@ ghost use Rattle.std.specs.List.{list_any};
 ghost use Rattle.std.specs.Option.{option_map};
 ghost use Rattle.pdb_base.specs.Answer.{Answers};
 ghost use Rattle.pdb_values.specs.TypeView.{type_value};
-ghost use Rattle.pdb_types.specs.Layout.{HasGaps, body_layout, body_of, field_of, field_span, field_value};
+ghost use Rattle.pdb_types.specs.Layout.{HasGaps, body_fields, body_of, class_at, field_of, field_span, field_value};
 ghost use Rattle.pdb_types.specs.Layout.{field_values_in};
-ghost use Rattle.pdb_types.specs.Layout.{is_virtual_field, layout_of_type, layout_value, list_there, records_of};
+ghost use Rattle.pdb_types.specs.Layout.{is_virtual_field, layout_value, list_there, records_of};
 ghost use Rattle.pdb_types.specs.Layout.{with_field};
+ghost use Rattle.pdb_types.specs.Part.{body_layout, layout_of_type};
 
 use crate::definitions::Definitions;
 use crate::extent::Extent;
@@ -78,8 +79,11 @@ pub struct Layout<'t> {
 /// What a class or a union says of its layout.
 #[derive(Clone, Copy)]
 pub(crate) struct ClassBody {
+    /// The index of the definition.
+    index: TypeIndex,
+
     /// How many bytes an object takes.
-    size: u64,
+    pub(crate) size: u64,
 
     /// The list of its fields, if it has one.
     list: Option<TypeIndex>,
@@ -92,17 +96,19 @@ fn list_there(list: TypeIndex) -> Option<TypeIndex>
     if list.0 == 0 { None } else { Some(list) }
 }
 
-/// Returns what a class, a structure, an interface or a union says of its layout, or None for
-/// another type.
-fn body_of(value: &TypeData<'_>) -> Option<ClassBody>
-    ensures { result ≡ body_of (type_value value.now) }
+/// Returns what the class, structure, interface or union of an index says of its layout, or None
+/// for another type.
+fn body_of(index: TypeIndex, value: &TypeData<'_>) -> Option<ClassBody>
+    ensures { result ≡ body_of index (type_value value.now) }
 {
     match value {
         TypeData::Class(class) => Some(ClassBody {
+            index,
             size: class.size,
             list: class.fields,
         }),
         TypeData::Union(union_type) => Some(ClassBody {
+            index,
             size: union_type.size,
             list: list_there(union_type.fields),
         }),
@@ -122,7 +128,7 @@ fn spans_of(alloc: Global, fields: &[LayoutField<'_>]) -> AllocResult<Vec<Span>>
 }
 
 /// Returns whether a class with these fields has virtual base classes.
-fn has_virtual_bases(fields: &[LayoutField<'_>]) -> bool
+pub(crate) fn has_virtual_bases(fields: &[LayoutField<'_>]) -> bool
     ensures { result ≡ list_any is_virtual_field fields.now }
 {
     fields.iter().any(|field| field.is_virtual())
@@ -172,23 +178,45 @@ impl<'t> Definitions<'t> {
         }
     }
 
+    /// Returns the fields of a class or a union that says this of it, each as large as its type.
+    pub(crate) fn body_fields(&self, alloc: Global, body: ClassBody) -> Result<Vec<LayoutField<'t>>>
+        ensures { Answers (λ fields. map field_value fields.items) result (body_fields self.now body) }
+    {
+        let records = self.records_of(alloc, body.list)?;
+        self.fields_in(alloc, &records)
+    }
+
     /// Returns the layout of a class or a union that says this of it.
-    fn body_layout(&self, alloc: Global, index: TypeIndex, body: ClassBody) -> Result<Layout<'t>>
-        ensures fields { Answers layout_value result (body_layout self.now index.0 body) }
+    fn body_layout(&self, alloc: Global, body: ClassBody) -> Result<Layout<'t>>
+        ensures fields { Answers layout_value result (body_layout self.now body) }
         ensures gaps { IfOk result HasGaps }
     {
         let records = self.records_of(alloc, body.list)?;
-        let fields = self.fields_in(alloc, &records)?;
+        let stated = self.fields_in(alloc, &records)?;
+        let fields = self.fields_there(alloc, stated)?;
         let spans = spans_of(alloc, &fields)?;
         let is_virtual = has_virtual_bases(&fields);
         let gaps = gap_rows(alloc, spans, body.size, is_virtual)?;
         Ok(Layout {
-            index,
+            index: body.index,
             size: body.size,
             records: records.len(),
             fields,
             gaps,
         })
+    }
+
+    /// Returns what the definition of a type says of its layout, or None if
+    /// it has no definition or is no class or union.
+    #[tactic(auto, unfolding(crate::specs::Layout::class_at))]
+    pub(crate) fn class_at(&self, alloc: Global, index: TypeIndex) -> Result<Option<ClassBody>>
+        ensures { Answers (λ body. body) result (class_at self.now index.0) }
+    {
+        let Some(index) = self.definition_of(alloc, index)? else {
+            return Ok(None);
+        };
+        let value = type_at(self.types(), alloc, index)?;
+        Ok(body_of(index, &value))
     }
 
     /// Returns the layout of a class, a structure, an interface or a union: of the definition, if
@@ -197,24 +225,23 @@ impl<'t> Definitions<'t> {
     ///
     /// The fields are the base classes, the data members, and the pointers to tables of virtual
     /// functions and of virtual bases, as the records in the list of fields state them, with the
-    /// sizes that `size_of` gives for their types. Static data members, methods and nested types
-    /// take no place.
+    /// sizes that `size_of` gives for their types. A base class that has virtual bases ends before
+    /// these, which the class holds elsewhere: behind the last of its own members, of its pointers
+    /// and of the parts of its other base classes, along at most 64 base classes. Static data
+    /// members, methods and nested types take no place.
     ///
     /// # Errors
     /// Fails with the first error along the records: those of `definition_of`, those of
-    /// `OpenTable::fields`, and then those of `size_of` for the type of each field. Fails with
-    /// `OutOfMemory` if an allocation fails.
-    #[tactic(auto, unfolding(crate::specs::Layout::layout_of_type))]
+    /// `OpenTable::fields`, and then those of `size_of` for the type of each field; and for a class
+    /// that has virtual bases with the first of the same errors for each of its base classes. Fails
+    /// with `OutOfMemory` if an allocation fails.
+    #[tactic(auto, unfolding(crate::specs::Part::layout_of_type))]
     pub fn layout_of(&self, alloc: Global, index: TypeIndex) -> Result<Option<Layout<'t>>>
         ensures fields { Answers (option_map layout_value) result (layout_of_type self.now index.0) }
         ensures gaps { IfOk result (λ layout. IfSome layout HasGaps) }
     {
-        let Some(index) = self.definition_of(alloc, index)? else {
-            return Ok(None);
-        };
-        let value = type_at(self.types(), alloc, index)?;
-        match body_of(&value) {
-            Some(body) => Ok(Some(self.body_layout(alloc, index, body)?)),
+        match self.class_at(alloc, index)? {
+            Some(body) => Ok(Some(self.body_layout(alloc, body)?)),
             None => Ok(None),
         }
     }

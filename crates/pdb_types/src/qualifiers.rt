@@ -1,13 +1,25 @@
-//! The qualifiers `const` and `volatile`.
+//! The qualifiers of types: `const`, `volatile`, `__restrict` and `__unaligned`.
 
+use crate::memory::AllocResult;
 use pdb_flags::PointerAttributes;
 use pdb_values::ModifierType;
 
-/// Whether a type is `const` and `volatile`.
+/// Which qualifiers a type has.
 #[derive(Clone, Copy)]
 pub(crate) struct Qualifiers {
     is_const: bool,
     is_volatile: bool,
+    is_restrict: bool,
+    is_unaligned: bool,
+}
+
+/// Appends a word and a space, if it is there.
+fn push_word(text: &mut Vec<u8>, is_there: bool, word: &str) -> AllocResult<()> {
+    if is_there {
+        text.extend_from_slice(word.as_bytes())?;
+        text.push(b' ')?;
+    }
+    Ok(())
 }
 
 impl Qualifiers {
@@ -16,7 +28,14 @@ impl Qualifiers {
         Qualifiers {
             is_const: false,
             is_volatile: false,
+            is_restrict: false,
+            is_unaligned: false,
         }
+    }
+
+    /// Returns whether there are none.
+    pub(crate) fn is_none(self) -> bool {
+        !(self.is_const || self.is_volatile || self.is_restrict || self.is_unaligned)
     }
 
     /// Returns these qualifiers and those of a modifier.
@@ -24,6 +43,8 @@ impl Qualifiers {
         Qualifiers {
             is_const: self.is_const || modifier.constant,
             is_volatile: self.is_volatile || modifier.volatile,
+            is_restrict: self.is_restrict,
+            is_unaligned: self.is_unaligned || modifier.unaligned,
         }
     }
 
@@ -32,32 +53,16 @@ impl Qualifiers {
         Qualifiers {
             is_const: self.is_const || attributes.is_const(),
             is_volatile: self.is_volatile || attributes.is_volatile(),
+            is_restrict: self.is_restrict || attributes.is_restrict(),
+            is_unaligned: self.is_unaligned || attributes.is_unaligned(),
         }
     }
 
-    /// Returns the qualifiers as C++ spells them, with a space behind each.
-    pub(crate) fn text(self) -> &'static str {
-        if self.is_const && self.is_volatile {
-            "const volatile "
-        } else if self.is_const {
-            "const "
-        } else if self.is_volatile {
-            "volatile "
-        } else {
-            ""
-        }
-    }
-
-    /// Returns the qualifiers as C++ spells them behind a method, with a space before each.
-    pub(crate) fn suffix(self) -> &'static str {
-        if self.is_const && self.is_volatile {
-            " const volatile"
-        } else if self.is_const {
-            " const"
-        } else if self.is_volatile {
-            " volatile"
-        } else {
-            ""
-        }
+    /// Appends the qualifiers as C++ spells them, with a space behind each.
+    pub(crate) fn push_to(self, text: &mut Vec<u8>) -> AllocResult<()> {
+        push_word(text, self.is_const, "const")?;
+        push_word(text, self.is_volatile, "volatile")?;
+        push_word(text, self.is_restrict, "__restrict")?;
+        push_word(text, self.is_unaligned, "__unaligned")
     }
 }

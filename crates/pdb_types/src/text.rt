@@ -1,6 +1,7 @@
 //! The text of types as C++ declares them.
 
-ghost use Rattle.pdb_types.specs.Text.{FailsAsTable};
+ghost use Rattle.std.specs.Prelude.{◌≡◌, ◌++◌, IfOk, take};
+ghost use Rattle.pdb_types.specs.Text.{FailsAsTable, IsShownText, is_left_out, points, shown_bytes};
 
 use crate::declaration::declaration_of;
 use crate::declarator::Declarator;
@@ -22,11 +23,126 @@ const MOST_TYPES: u32 = 4096;
 /// a pointer points to.
 const MOST_WITHIN: u32 = 32;
 
+/// How many bytes a text has at most.
+const MOST_BYTES: usize = 65_536;
+
 /// The index of no type, which in a list of arguments means any further arguments.
 const ANY_ARGUMENTS: u32 = 0;
 
 /// How deep the arguments of functions may be nested.
 const MOST_DEPTH: u32 = 16;
+
+/// The calling conventions of functions that are no methods and of methods by default, as
+/// `CV_call_e` of Microsoft's cvinfo.h numbers them; that of methods only in programs of 32 bits.
+const NEAR_C: u8 = 0;
+
+const THIS_CALL: u8 = 11;
+
+/// The text of a type or of a declaration.
+#[derive(Debug, Drop)]
+pub struct TypeText {
+    /// The text, with the names as the file has them.
+    pub bytes: Vec<u8>,
+
+    /// Whether it is cut: it then ends with `..`.
+    pub is_cut: bool,
+}
+
+/// What a text may yet read and have.
+#[derive(Clone, Copy)]
+struct Budget {
+    /// How many types it may read.
+    types: u32,
+
+    /// How many bytes of names it may have.
+    bytes: usize,
+
+    /// Whether something was left out.
+    is_cut: bool,
+}
+
+impl Budget {
+    /// Takes a name, or as much of it as there are bytes for.
+    fn take<'n>(&mut self, name: &'n [u8]) -> &'n [u8] {
+        if name.len() <= self.bytes {
+            self.bytes -= name.len();
+            name
+        } else {
+            let most = self.bytes;
+            self.bytes = 0;
+            self.is_cut = true;
+            &name[..most]
+        }
+    }
+
+    /// Returns whether no more may be read.
+    fn is_spent(&self) -> bool {
+        self.types == 0 || self.bytes == 0
+    }
+}
+
+/// Returns whether something of a text is left out: a part of it was, or it is too long.
+fn is_left_out(text: &[u8], is_cut: bool) -> bool
+    ensures { result ≡ is_left_out text.now is_cut }
+{
+    is_cut || text.len() > MOST_BYTES
+}
+
+/// Returns the front of a text, with two points behind it.
+fn front_of(text: Vec<u8>) -> AllocResult<Vec<u8>>
+    ensures { IfOk result (λ front. front.items ≡ take 65534 text.items ++ points) }
+{
+    let mut front = text;
+    front.truncate(MOST_BYTES - 2);
+    front.extend_from_slice(b"..")?;
+    Ok(front)
+}
+
+/// Returns a text as it is shown: cut if something of it is left out.
+#[tactic(auto, using(crate::proofs::TextLemmas::shown_is))]
+fn shown(text: Vec<u8>, is_cut: bool) -> AllocResult<TypeText>
+    ensures bytes { IfOk result (λ shown. shown.bytes.items ≡ shown_bytes text.items is_cut) }
+    ensures cut { IfOk result (λ shown. shown.is_cut ≡ is_left_out text.items is_cut) }
+    ensures shown { IfOk result IsShownText }
+{
+    if is_left_out(&text, is_cut) {
+        let bytes = front_of(text)?;
+        Ok(TypeText {
+            bytes,
+            is_cut: true,
+        })
+    } else {
+        Ok(TypeText {
+            bytes: text,
+            is_cut: false,
+        })
+    }
+}
+
+/// Returns how compilers spell a calling convention of this number, or no text for the default one
+/// and for those of other machines.
+fn convention_word(number: u8) -> &'static str {
+    match number {
+        2 | 3 => "__pascal",
+        4 | 5 => "__fastcall",
+        7 | 8 => "__stdcall",
+        9 | 10 => "__syscall",
+        THIS_CALL => "__thiscall",
+        22 => "__clrcall",
+        24 => "__vectorcall",
+        _ => "",
+    }
+}
+
+/// Returns how compilers spell the calling convention of a method, if it isn't the default one,
+/// where a pointer to its object has so many bytes.
+fn method_convention(number: u8, pointer_size: u8) -> &'static str {
+    match number {
+        THIS_CALL => "",
+        NEAR_C if pointer_size == 4 => "__cdecl",
+        _ => convention_word(number),
+    }
+}
 
 /// Returns the sign of a pointer or a reference.
 fn sign_of(mode: PointerMode) -> &'static str {
@@ -65,7 +181,7 @@ fn push_dimensions(
         all = brackets;
         part = whole;
     }
-    declarator.push_brackets(alloc, &all)
+    declarator.push_brackets(alloc, "", &all)
 }
 
 /// Puts the width of a bit field behind a declarator.
@@ -127,12 +243,16 @@ fn last_text(
     value: &TypeData<'_>,
     qualifiers: Qualifiers,
     declarator: &Declarator,
+    budget: &mut Budget,
 ) -> AllocResult<Vec<u8>> {
     if let TypeData::Primitive(primitive) = value {
         return primitive_text(alloc, *primitive, qualifiers, declarator);
     }
     match declaration_of(value) {
-        Some(names) => declarator.declaration(alloc, qualifiers, names.name.as_bytes()),
+        Some(names) => {
+            let name = budget.take(names.name.as_bytes());
+            declarator.declaration(alloc, qualifiers, name)
+        }
         None => declarator.declaration(alloc, qualifiers, other_name(value).as_bytes()),
     }
 }
@@ -156,12 +276,14 @@ impl<'t> Definitions<'t> {
         pointer: PointerType,
         qualifiers: Qualifiers,
         declarator: &mut Declarator,
+        budget: &mut Budget,
     ) -> Result<()>
         ensures { FailsAsTable self.now result }
     {
         let mut sign = Vec::new(alloc);
         if let Some(class) = pointer.containing_class {
-            sign.extend_from_slice(self.class_name(alloc, class)?)?;
+            let name = self.class_name(alloc, class)?;
+            sign.extend_from_slice(budget.take(name))?;
             sign.extend_from_slice("::".as_bytes())?;
         }
         sign.extend_from_slice(sign_of(pointer.attributes.pointer_mode()).as_bytes())?;
@@ -203,9 +325,46 @@ impl<'t> Definitions<'t> {
         else {
             return Ok(());
         };
-        let qualifiers = Qualifiers::none().with_modifier(modifier);
-        declarator.push_behind(qualifiers.suffix().as_bytes())?;
+        let mut suffix = Vec::from_slice(alloc, " ".as_bytes())?;
+        Qualifiers::none()
+            .with_modifier(modifier)
+            .push_to(&mut suffix)?;
+        suffix.pop();
+        declarator.push_behind(&suffix)?;
         Ok(())
+    }
+
+    /// Returns how many bytes a pointer to the object of a method has.
+    fn object_pointer_size(&self, alloc: Global, this: TypeIndex) -> Result<u8>
+        ensures { FailsAsTable self.now result }
+    {
+        let TypeData::Pointer(pointer) = type_at(self.types(), alloc, this)? else {
+            return Ok(0);
+        };
+        Ok(pointer.attributes.size())
+    }
+
+    /// Returns how compilers spell the calling convention of a function, if it isn't the default
+    /// one.
+    fn convention(&self, alloc: Global, value: &TypeData<'t>) -> Result<&'static str>
+        ensures { FailsAsTable self.now result }
+    {
+        match value {
+            TypeData::Procedure(function) => {
+                Ok(convention_word(function.attributes.calling_convention()))
+            }
+            TypeData::MemberFunction(function) => {
+                let number = function.attributes.calling_convention();
+                match function.this_pointer_type {
+                    Some(this) => {
+                        let size = self.object_pointer_size(alloc, this)?;
+                        Ok(method_convention(number, size))
+                    }
+                    None => Ok(convention_word(number)),
+                }
+            }
+            _ => Ok(""),
+        }
     }
 
     /// Puts what a type says of the name around a declarator, and returns the qualifiers of the
@@ -216,13 +375,14 @@ impl<'t> Definitions<'t> {
         value: &TypeData<'t>,
         qualifiers: Qualifiers,
         declarator: &mut Declarator,
+        budget: &mut Budget,
     ) -> Result<Qualifiers>
         ensures { FailsAsTable self.now result }
     {
         match value {
             TypeData::Modifier(modifier) => Ok(qualifiers.with_modifier(*modifier)),
             TypeData::Pointer(pointer) => {
-                self.push_pointer(alloc, *pointer, qualifiers, declarator)?;
+                self.push_pointer(alloc, *pointer, qualifiers, declarator, budget)?;
                 Ok(Qualifiers::none())
             }
             TypeData::Array(array) => {
@@ -258,32 +418,38 @@ impl<'t> Definitions<'t> {
         alloc: Global,
         list: TypeIndex,
         depth: u32,
-        most: &mut u32,
+        budget: &mut Budget,
     ) -> Result<Vec<u8>>
         ensures { FailsAsTable self.now result }
     {
         let mut text = Vec::from_slice(alloc, "(".as_bytes())?;
         if depth == 0 {
-            text.extend_from_slice("..".as_bytes())?;
-        } else {
-            let arguments = self.arguments(alloc, list)?;
-            for argument in &arguments {
-                if text.len() > 1 {
-                    text.extend_from_slice(", ".as_bytes())?;
-                }
-                if argument.0 == ANY_ARGUMENTS {
-                    text.extend_from_slice("...".as_bytes())?;
-                    continue;
-                }
-                let declared = self.declare(alloc, *argument, &[], depth - 1, most)?;
-                text.extend_from_slice(&declared)?;
+            budget.is_cut = true;
+            text.extend_from_slice("..)".as_bytes())?;
+            return Ok(text);
+        }
+        let arguments = self.arguments(alloc, list)?;
+        for argument in &arguments {
+            if text.len() > 1 {
+                text.extend_from_slice(", ".as_bytes())?;
             }
+            if budget.is_spent() {
+                budget.is_cut = true;
+                text.extend_from_slice("..".as_bytes())?;
+                break;
+            }
+            if argument.0 == ANY_ARGUMENTS {
+                text.extend_from_slice("...".as_bytes())?;
+                continue;
+            }
+            let declared = self.declare(alloc, *argument, &[], depth - 1, budget)?;
+            text.extend_from_slice(&declared)?;
         }
         text.push(b')')?;
         Ok(text)
     }
 
-    /// Returns the declaration of a name that has a type, reading at most so many types.
+    /// Returns the declaration of a name that has a type, within what may yet be read.
     #[cycle(text)]
     fn declare(
         &self,
@@ -291,7 +457,7 @@ impl<'t> Definitions<'t> {
         index: TypeIndex,
         name: &[u8],
         depth: u32,
-        most: &mut u32,
+        budget: &mut Budget,
     ) -> Result<Vec<u8>>
         ensures { FailsAsTable self.now result }
     {
@@ -299,21 +465,23 @@ impl<'t> Definitions<'t> {
         let mut qualifiers = Qualifiers::none();
         let mut declarator = Declarator::of(alloc, name)?;
         for _ in 0..MOST_WITHIN {
-            if *most == 0 {
+            if budget.types == 0 {
                 break;
             }
-            *most -= 1;
+            budget.types -= 1;
             let value = type_at(self.types(), alloc, index)?;
             if let Some(list) = arguments_of(&value) {
-                let arguments = self.arguments_text(alloc, list, depth, most)?;
-                declarator.push_brackets(alloc, &arguments)?;
+                let convention = self.convention(alloc, &value)?;
+                let arguments = self.arguments_text(alloc, list, depth, budget)?;
+                declarator.push_brackets(alloc, convention, &arguments)?;
             }
-            qualifiers = self.push_part(alloc, &value, qualifiers, &mut declarator)?;
+            qualifiers = self.push_part(alloc, &value, qualifiers, &mut declarator, budget)?;
             match next_of(&value) {
                 Some(next) => index = next,
-                None => return Ok(last_text(alloc, &value, qualifiers, &declarator)?),
+                None => return Ok(last_text(alloc, &value, qualifiers, &declarator, budget)?),
             }
         }
+        budget.is_cut = true;
         Ok(declarator.declaration(alloc, qualifiers, "..".as_bytes())?)
     }
 
@@ -321,17 +489,39 @@ impl<'t> Definitions<'t> {
     /// `int (*compare)(const char *, int)`, or the text of the type alone if the name is empty. A
     /// bit field has its width behind the name.
     ///
-    /// The names of classes are those of their records. The text is cut with `..` where functions
-    /// are nested in the arguments of functions 16 deep, behind 32 types of which each is within the
-    /// one before, such as pointers and modifiers, and after 4,096 types.
+    /// The names of classes are those of their records. A calling convention is said where it isn't
+    /// the default one, which is that of C for functions and static methods, and for other methods
+    /// `__thiscall`, and on machines of 64 bits that of C too.
+    ///
+    /// A text has at most 65,536 bytes, and says if it is cut: where functions are nested in the
+    /// arguments of functions 16 deep, behind 32 types of which each is within the one before, such
+    /// as pointers and modifiers, after 4,096 types, and after that many bytes of names.
     ///
     /// # Errors
     /// Fails as `OpenTable::item`, `Type::parse` and `size_of` do for a type on the way, and with
     /// `OutOfMemory` if an allocation fails.
+    pub fn type_text(&self, alloc: Global, index: TypeIndex, name: &[u8]) -> Result<TypeText>
+        ensures fails { FailsAsTable self.now result }
+        ensures shown { IfOk result IsShownText }
+    {
+        let mut budget = Budget {
+            types: MOST_TYPES,
+            bytes: MOST_BYTES,
+            is_cut: false,
+        };
+        let name = budget.take(name);
+        let text = self.declare(alloc, index, name, MOST_DEPTH, &mut budget)?;
+        Ok(shown(text, budget.is_cut)?)
+    }
+
+    /// Returns the bytes of what `type_text` returns.
+    ///
+    /// # Errors
+    /// Fails as `type_text` does.
     pub fn text_of(&self, alloc: Global, index: TypeIndex, name: &[u8]) -> Result<Vec<u8>>
         ensures { FailsAsTable self.now result }
     {
-        let mut most = MOST_TYPES;
-        self.declare(alloc, index, name, MOST_DEPTH, &mut most)
+        let text = self.type_text(alloc, index, name)?;
+        Ok(text.bytes)
     }
 }

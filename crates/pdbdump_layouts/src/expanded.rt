@@ -5,7 +5,7 @@ ghost use Rattle.std.specs.Prelude.{◌<◌, ◌≤◌, IsTrue};
 use crate::classes::class_layout;
 use crate::layout_row::{LayoutRow, rows_of};
 use pdb_base::{Result, TypeIndex};
-use pdb_types::{Definitions, FieldKind, Layout};
+use pdb_types::{Definitions, Extent, FieldKind, Layout};
 use std::alloc::Global;
 
 /// How deep classes within a class are shown at most.
@@ -103,6 +103,34 @@ fn inner_start(start: u64, row: &LayoutRow<'_>) -> u64 {
     }
 }
 
+/// Returns whether a row of a class lies in a field with the class as its type. All rows do but the
+/// virtual bases of a base class, which the derived class holds elsewhere.
+fn is_within(outer: &LayoutRow<'_>, row: &LayoutRow<'_>) -> bool {
+    match (outer, row) {
+        (LayoutRow::Field(field), LayoutRow::Gap(gap)) => match field.extent {
+            Extent::Bytes(size) => gap.bits.start < size as u128 * 8,
+            _ => true,
+        },
+        _ => true,
+    }
+}
+
+/// Returns the fields and gaps of a layout that lie in a field with the class as its type.
+fn inner_rows<'t>(
+    alloc: Global,
+    layout: &Layout<'t>,
+    outer: &LayoutRow<'t>,
+) -> Result<Vec<LayoutRow<'t>>> {
+    let all = rows_of(alloc, layout)?;
+    let mut rows = Vec::new(alloc);
+    for row in &all {
+        if is_within(outer, row) {
+            rows.push(*row)?;
+        }
+    }
+    Ok(rows)
+}
+
 /// Appends the fields and gaps of the class that is the type of a field, if it is one.
 #[cycle(rows)]
 fn push_inner<'t>(
@@ -126,7 +154,7 @@ fn push_inner<'t>(
     let Some(layout) = class_layout(alloc, definitions, index)? else {
         return Ok(());
     };
-    let rows = rows_of(alloc, &layout)?;
+    let rows = inner_rows(alloc, &layout, &outer.row)?;
     if !budget.take(outer.depth, rows.len(), layout.records) {
         return Ok(());
     }

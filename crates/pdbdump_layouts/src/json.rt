@@ -3,7 +3,7 @@
 use crate::classes::Class;
 use crate::expanded::{Expansion, ShownRow};
 use crate::layout_row::LayoutRow;
-use crate::object::{show_field, show_gap};
+use crate::object::{FieldTexts, show_field, show_gap};
 use crate::totals::totals_of;
 use pdb_base::Result;
 use pdb_types::{Definitions, FieldKind, Layout, LayoutField};
@@ -23,10 +23,15 @@ fn show_part<'t>(
         FieldKind::Member(name) => name.as_bytes(),
         _ => b"".as_slice(),
     };
-    let type_text = definitions.text_of(alloc, index, b"")?;
-    let declaration = definitions.text_of(alloc, index, name)?;
+    let type_text = definitions.type_text(alloc, index, b"")?;
+    let declaration = definitions.type_text(alloc, index, name)?;
     let offset = shown.start.saturating_add(part.place.offset);
-    show_field(line, shown.depth, offset, part, &type_text, &declaration)?;
+    let texts = FieldTexts {
+        type_text: &type_text.bytes,
+        declaration: &declaration.bytes,
+        is_cut: type_text.is_cut || declaration.is_cut,
+    };
+    show_field(line, shown.depth, offset, part, texts)?;
     Ok(())
 }
 

@@ -2,7 +2,7 @@
 
 use crate::classes::class_layout;
 use crate::cut::cut_at;
-use crate::object::show_field;
+use crate::object::{FieldTexts, show_field};
 use crate::text::escape_text;
 use pdb_base::{Result, TypeIndex};
 use pdb_types::{Definitions, Extent, FieldKind, Layout, LayoutField};
@@ -95,13 +95,20 @@ pub(crate) fn member_text<'t>(
     found: &FoundMember<'t>,
     form: Form,
 ) -> Result<Vec<u8>> {
-    let type_text = definitions.text_of(alloc, found.field.place.field_type, b"")?;
+    let type_text = definitions.type_text(alloc, found.field.place.field_type, b"")?;
     match form {
-        Form::Text => text_line(alloc, path, &type_text, found),
+        Form::Text => text_line(alloc, path, &type_text.bytes, found),
         Form::Json => {
             let mut line = Line::new(alloc);
             line.begin(Form::Json);
-            let added = show_field(&mut line, 0, found.offset, &found.field, &type_text, path);
+            let is_cut = type_text.is_cut;
+            let type_text = &type_text.bytes;
+            let texts = FieldTexts {
+                type_text,
+                declaration: path,
+                is_cut,
+            };
+            let added = show_field(&mut line, 0, found.offset, &found.field, texts);
             line.finish(added)?;
             Ok(Vec::from_slice(alloc, line.as_bytes())?)
         }

@@ -4,6 +4,8 @@ pub(crate) const BIT: &str = "bit";
 
 pub(crate) const BITS: &str = "bits";
 
+pub(crate) const CUT: &str = "cut";
+
 pub(crate) const DECLARATION: &str = "declaration";
 
 pub(crate) const DEPTH: &str = "depth";

@@ -1,7 +1,7 @@
 //! The fields and gaps of a layout as objects of JSON.
 
 use crate::gap_place::gap_place;
-use crate::names::{BIT, BITS, DECLARATION, DEPTH, TYPE, TYPE_INDEX, VIRTUAL_BASE};
+use crate::names::{BIT, BITS, CUT, DECLARATION, DEPTH, TYPE, TYPE_INDEX, VIRTUAL_BASE};
 use pdb_base::RawString;
 use pdb_types::{Extent, FieldKind, Gap, GapKind, LayoutField};
 use pdbdump_rows::names::{DIRECT, KIND, NAME, OFFSET, POSITION, SIZE};
@@ -52,6 +52,19 @@ fn show_virtual_base(line: &mut Line, kind: &FieldKind<'_>) -> LineResult {
     }
 }
 
+/// The texts of a field.
+#[derive(Clone, Copy)]
+pub(crate) struct FieldTexts<'t> {
+    /// That of its type.
+    pub(crate) type_text: &'t [u8],
+
+    /// Its declaration, or the path that led to it.
+    pub(crate) declaration: &'t [u8],
+
+    /// Whether one of them is cut.
+    pub(crate) is_cut: bool,
+}
+
 /// Adds what the object of a field holds, which begins at an offset from the start of what is
 /// shown, and whose class is so deep in it.
 ///
@@ -62,16 +75,18 @@ pub(crate) fn show_field(
     depth: u32,
     offset: u64,
     part: &LayoutField<'_>,
-    type_text: &[u8],
-    declaration: &[u8],
+    texts: FieldTexts<'_>,
 ) -> LineResult {
     let kind = &part.place.kind;
     line.field(KIND, Value::Word(role_word(kind)))?;
     line.field(DEPTH, Value::Number(depth as u64))?;
     line.field(NAME, optional_text(role_name(kind)))?;
     line.field(TYPE_INDEX, Value::Hexadecimal(part.place.field_type.0))?;
-    line.field(TYPE, Value::Text(RawString::from(type_text)))?;
-    line.field(DECLARATION, Value::Text(RawString::from(declaration)))?;
+    line.field(TYPE, Value::Text(RawString::from(texts.type_text)))?;
+    line.field(DECLARATION, Value::Text(RawString::from(texts.declaration)))?;
+    if texts.is_cut {
+        line.field(CUT, Value::Flag(true))?;
+    }
     line.field(OFFSET, Value::Number(offset))?;
     show_extent(line, &part.extent)?;
     show_virtual_base(line, kind)?;

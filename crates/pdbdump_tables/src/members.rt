@@ -4,7 +4,7 @@
 ghost use Rattle.std.specs.Prelude.{◌≡◌, []};
 ghost use Rattle.std.specs.Option.{option_map};
 ghost use Rattle.pdb_values.specs.TypeView.{type_value};
-ghost use Rattle.pdbdump_rows.specs.Line.{AddsText, IsRow};
+ghost use Rattle.pdbdump_rows.specs.Line.{AddsText, IsRow, ShowsRow};
 ghost use Rattle.pdbdump_rows.specs.Lines.{row_text};
 ghost use Rattle.pdbdump_rows.specs.Rows.{AreLines};
 ghost use Rattle.pdbdump_tables.specs.Listed.{Pushes};
@@ -12,9 +12,34 @@ ghost use Rattle.pdbdump_tables.specs.Records.{fields_end, list_of_fields, membe
 
 use pdb_base::{Result, TypeIndex};
 use pdb_tpi::OpenTable;
-use pdb_values::{MethodListEntry, TypeData};
-use pdbdump_rows::{Form, Line, append_line, show_entry, show_listed_method};
+use pdb_types::enumerator_value;
+use pdb_values::{EnumerateType, MethodListEntry, TypeData};
+use pdbdump_rows::{Form, Line, LineResult, append_line, show_entry, show_listed_method};
 use std::alloc::Global;
+
+/// Adds the fields of a field. The value of an enumerator is a number of the type under its
+/// enumeration, if that is given.
+fn show_typed(
+    alloc: Global,
+    field: &TypeData<'_>,
+    underlying_type: Option<TypeIndex>,
+    line: &mut Line,
+) -> LineResult
+    ensures { ShowsRow [] line.old line.new result }
+{
+    match (field, underlying_type) {
+        (TypeData::Enumerate(enumerator), Some(underlying_type)) => {
+            let value = enumerator_value(enumerator.value, underlying_type);
+            let typed = TypeData::Enumerate(EnumerateType {
+                value,
+                attributes: enumerator.attributes,
+                name: enumerator.name,
+            });
+            show_entry(alloc, line, &typed)
+        }
+        _ => show_entry(alloc, line, field),
+    }
+}
 
 /// Appends the line of a field.
 #[tactic(auto, using(pdbdump_rows::proofs::lemmas::Line::showing))]
@@ -22,13 +47,14 @@ fn push_entry(
     alloc: Global,
     form: Form,
     field: &TypeData<'_>,
+    underlying_type: Option<TypeIndex>,
     line: &mut Line,
     lines: &mut Vec<u8>,
 ) -> Result<()>
     ensures { AddsText (IsRow (row_text form) []) lines.old.items lines.new.items result }
 {
     line.begin(form);
-    let added = show_entry(alloc, line, field);
+    let added = show_typed(alloc, field, underlying_type, line);
     append_line(added, line, lines)
 }
 
@@ -38,13 +64,14 @@ fn push_entries(
     alloc: Global,
     form: Form,
     fields: &[TypeData<'_>],
+    underlying_type: Option<TypeIndex>,
     lines: &mut Vec<u8>,
 ) -> Result<()>
     ensures { AddsText (AreLines form) lines.old.items lines.new.items result }
 {
     let mut line = Line::new(alloc);
     for field in fields {
-        push_entry(alloc, form, field, &mut line, lines)?;
+        push_entry(alloc, form, field, underlying_type, &mut line, lines)?;
     }
     Ok(())
 }
@@ -88,12 +115,13 @@ fn push_list(
     form: Form,
     types: &OpenTable<TypeIndex>,
     list: TypeIndex,
+    underlying_type: Option<TypeIndex>,
     lines: &mut Vec<u8>,
 ) -> Result<()>
     ensures { Pushes form result lines.old.items lines.new.items (fields_end types.now.table list.0) }
 {
     let fields = types.fields(alloc, list)?;
-    push_entries(alloc, form, fields.as_slice(), lines)?;
+    push_entries(alloc, form, fields.as_slice(), underlying_type, lines)?;
     Ok(())
 }
 
@@ -107,6 +135,14 @@ pub(crate) fn list_of_fields(index: TypeIndex, value: &TypeData<'_>) -> Option<T
         TypeData::Union(union_type) => Some(union_type.fields),
         TypeData::Enumeration(enumeration) => Some(enumeration.fields),
         TypeData::FieldList(_) => Some(index),
+        _ => None,
+    }
+}
+
+/// Returns the type under an enumeration, or None for another type.
+fn underlying_type(value: &TypeData<'_>) -> Option<TypeIndex> {
+    match value {
+        TypeData::Enumeration(enumeration) => Some(enumeration.underlying_type),
         _ => None,
     }
 }
@@ -131,7 +167,7 @@ pub(crate) fn push_members(
         return push_methods(alloc, form, &list.methods, lines);
     }
     match list_of_fields(index, value) {
-        Some(list) => push_list(alloc, form, types, list, lines),
+        Some(list) => push_list(alloc, form, types, list, underlying_type(value), lines),
         None => Ok(()),
     }
 }
