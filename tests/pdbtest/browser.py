@@ -9,14 +9,14 @@ import signal
 import subprocess
 import time
 import urllib.request
-
-import websockets
+from pathlib import Path
 
 from pdbtest.report import Trouble
 from pdbtest.tools import tool
 
 SECONDS = 300  # for one command, or until something is shown: the machine may be busy
 POLL = 0.05
+WORKERS = ("DedicatedWorker", "DOM Worker")  # the names of their threads in Chromium and in Firefox
 
 
 class Bidi:
@@ -28,6 +28,8 @@ class Bidi:
         self.asked, self.events = 0, []
 
     async def connected(self, url):
+        import websockets  # of Debian's python3, which may lack it
+
         return await websockets.connect(url, max_size=None, ping_interval=None)
 
     def wait(self, coroutine):
@@ -117,10 +119,10 @@ class Browser:
             raise Trouble(f"{self.name}: no {selector}")
         return {"sharedId": found[0]["sharedId"]}
 
-    def by_name(self, role, name):
-        """How many elements the accessibility tree has of a role and a name."""
+    def accessible(self, role, name):
+        """Whether the accessibility tree has an element of a role and a name."""
         locator = {"type": "accessibility", "value": {"role": role, "name": name}}
-        return len(self.bidi.call("browsingContext.locateNodes", context=self.context, locator=locator)["nodes"])
+        return bool(self.bidi.call("browsingContext.locateNodes", context=self.context, locator=locator)["nodes"])
 
     def choose_files(self, selector, *files):
         self.bidi.call("input.setFiles", context=self.context, element=self.node(selector), files=list(map(str, files)))
@@ -149,19 +151,18 @@ class Browser:
         logged = [it["params"] for it in self.bidi.events if it.get("method") == "log.entryAdded"]
         return [it["text"] for it in logged if it["level"] in ("error", "warn")]
 
-    def processor_seconds(self):
-        """How long all processes of the browser have had a processor."""
-        groups = {process.pid for process in self.processes}
-        total = 0
-        for path in filter(str.isdigit, os.listdir("/proc")):
+    def worker_seconds(self):
+        """How long the threads of workers have had a processor, which other work on the machine doesn't prolong much."""
+        sessions, ticks = {process.pid for process in self.processes}, 0
+        for task in Path("/proc").glob("[0-9]*/task/[0-9]*/stat"):
             try:
-                with open(f"/proc/{path}/stat", encoding="utf-8", errors="replace") as file:
-                    fields = file.read().rpartition(")")[2].split()
+                name, _, rest = task.read_text(errors="replace").partition("(")[2].rpartition(")")
             except OSError:
-                continue
-            if int(fields[3]) in groups:
-                total += int(fields[11]) + int(fields[12])
-        return total / os.sysconf("SC_CLK_TCK")
+                continue  # it has ended
+            fields = rest.split()
+            if int(fields[3]) in sessions and name.startswith(WORKERS):
+                ticks += int(fields[11]) + int(fields[12])
+        return ticks / os.sysconf("SC_CLK_TCK")
 
     def close(self):
         try:
@@ -179,6 +180,7 @@ class Browser:
 class Chromium(Browser):
     name = "chromium"
     needs = ["chromium", "chromedriver"]
+    schemes = ["light", "dark"]
 
     def start(self):
         port = self.launch([tool("chromedriver"), "--port=0"], r"started successfully on port (\d+)")
@@ -201,19 +203,19 @@ class Chromium(Browser):
         features = [{"name": "prefers-color-scheme", "value": scheme}]
         self.ask("/goog/cdp/execute", {"cmd": "Emulation.setEmulatedMedia", "params": {"features": features}})
 
-    def accessible(self):
-        """The role and the name of each element that can be focused, in the order of the accessibility tree."""
-        nodes = self.ask("/goog/cdp/execute", {"cmd": "Accessibility.getFullAXTree", "params": {}})["nodes"]
-        for node in nodes:
-            focusable = any(it["name"] == "focusable" and it["value"]["value"] for it in node.get("properties", []))
-            if focusable and not node["ignored"]:
-                yield node["role"]["value"], node["name"]["value"]
-
 
 class Firefox(Browser):
+    """Firefox, in a dark scheme from the start, since BiDi can't change that."""
+
     name = "firefox"
     needs = ["firefox-esr"]
-    PREFERENCES = {"app.normandy.enabled": False, "browser.shell.checkDefaultBrowser": False, "datareporting.policy.dataSubmissionEnabled": False}
+    schemes = ["dark"]
+    PREFERENCES = {
+        "layout.css.prefers-color-scheme.content-override": 0,
+        "app.normandy.enabled": False,
+        "browser.shell.checkDefaultBrowser": False,
+        "datareporting.policy.dataSubmissionEnabled": False,
+    }
 
     def start(self):
         profile = self.room / "profile"
@@ -225,6 +227,9 @@ class Firefox(Browser):
 
     def begin(self):
         self.bidi.call("session.new", capabilities={})
+
+    def prefer(self, scheme):
+        """It has the one of its start."""
 
 
 def until(found, trouble):

@@ -10,7 +10,7 @@ const MACHINES = { 0x14c: "x86", 0x8664: "x86-64", 0xaa64: "ARM64", 0x1c0: "ARM"
 const STREAM_COLUMNS = [
   { title: "Stream", width: "short number", cell: (row) => row.number },
   { title: "Bytes", width: "short number", cell: (row) => (row.size === undefined ? "absent" : decimal(row.size)) },
-  { title: "Role", width: "medium", cell: (row) => row.role },
+  { title: "Role", width: "wide", cell: (row) => row.role },
   { title: "Name", width: "code", cell: (row) => row.name },
 ];
 
@@ -45,7 +45,8 @@ export class FileView {
   }
 
   async #identity(size, format) {
-    const pages = await this.#session.ask("directory").then(({ pageSize }) => `${decimal(size / pageSize)} of ${decimal(pageSize)} bytes`, () => undefined);
+    const pageSize = await this.#session.ask("pageSize").catch(() => undefined);
+    const pages = pageSize && `${decimal(size / pageSize)} of ${decimal(pageSize)} bytes`;
     const rows = [["Format", format], ["Size", plural(size, "byte")], ["Pages", pages]]; // prettier-ignore
     const identity = await this.#session.ask("identity").catch(() => ({}));
     rows.push(["Key", identity.key], ["GUID", identity.guid], ["Age", identity.age], ["Machine", machineOf(identity)]);

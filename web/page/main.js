@@ -9,14 +9,19 @@ import { decimal } from "./texts.js";
 import { TypesView } from "./types_view.js";
 
 const at = (id) => document.getElementById(id);
+/** The reader is there before a file is, so that the browser has compiled it by then. */
 let session;
+let isUsed = false;
 let file;
 /** The views of the file, each made when it is first shown. */
 let views = {};
 
 async function open(opened) {
-  session?.end();
-  session = new Session();
+  if (isUsed) {
+    session.end();
+    session = new Session();
+  }
+  isUsed = true;
   views = {};
   file = undefined;
   const asked = session;
@@ -62,6 +67,7 @@ async function openSample() {
 }
 
 if (hasMemory64()) {
+  session = new Session();
   at("open").hidden = false;
   at("file").addEventListener("change", () => at("file").files[0] && open(at("file").files[0]));
   at("sample").addEventListener("click", openSample);

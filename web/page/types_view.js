@@ -41,6 +41,7 @@ export class TypesView {
         html("p", {}, html("label", { for: "type-name" }, "Name, pattern or index"), this.#text),
         html("p", {}, html("label", { for: "type-kind" }, "Kind"), this.#group),
       ),
+      html("p", {}, "A part of a name, or all of it with * and ?. Classes, unions and enumerations have names."),
       this.#count,
       html("div", { class: "panes" }, this.#table.element, this.#type),
     );

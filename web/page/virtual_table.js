@@ -14,7 +14,9 @@ export class VirtualTable {
   #onOpen;
   #source = [];
   #rows = [];
+  /** The row that keys move to and from, and the one that was opened. */
   #active = 0;
+  #opened;
   #first = 0;
   #scrolledTo = 0;
   #head;
@@ -45,7 +47,8 @@ export class VirtualTable {
   show(source) {
     this.#source = source;
     this.#table.setAttribute("aria-rowcount", source.length + 1);
-    this.#active = this.#first = this.#scrolledTo = this.element.scrollTop = 0;
+    this.#active = this.#first = 0;
+    this.#opened = undefined;
     return this.#resized();
   }
 
@@ -66,6 +69,7 @@ export class VirtualTable {
     const rows = this.#rowHeight;
     this.element.style.height = `${rows * (Math.min(this.#source.length, VISIBLE_MOST) + 1) + 2}px`;
     this.#sizer.style.height = `${Math.min(rows * (this.#source.length + 1), HEIGHT_MOST)}px`;
+    this.#scrollTo(Math.min(this.#first, this.#lastFirst));
     return this.#render();
   }
 
@@ -109,12 +113,18 @@ export class VirtualTable {
       for (const link of made.querySelectorAll("a")) link.tabIndex = isActive ? 0 : -1;
       return made;
     });
-    const attributes = { role: "row", id: this.#rowId(place), "aria-rowindex": place + 2, "aria-selected": String(isActive), class: row.class };
+    const attributes = {
+      role: "row",
+      id: this.#rowId(place),
+      "aria-rowindex": place + 2,
+      "aria-selected": this.#onOpen && String(place === this.#opened),
+      class: [row.class, isActive && "active"].filter(Boolean).join(" "),
+    };
     return html("tr", { ...attributes, onclick: () => this.#open(place) }, ...cells);
   }
 
   #open(place) {
-    this.#active = place;
+    this.#active = this.#opened = place;
     const [, row] = this.#rows.find(([shown]) => shown === place) ?? [];
     this.#render();
     if (row) this.#onOpen?.(row);

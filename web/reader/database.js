@@ -16,6 +16,7 @@ const FRAME_KINDS = { 0: "fpo", 1: "trap", 2: "tss", 3: "standard", 4: "fdata" }
 export class Database {
   #native;
   #file;
+  #opened;
   #tables = new Map();
 
   /** The file in the module's memory. */
@@ -25,13 +26,14 @@ export class Database {
     this.format = FORMATS[native.library.calls.pdb_format_of(at, length)];
   }
 
-  /** Reads the header and the directory. Everything but the identity and the findings needs them. */
-  open() {
-    this.#file.handle = this.#native.opened("pdb_bytes_open", this.#file.at, this.#file.length);
-    return {
-      pageSize: this.#native.value(u32, "pdb_file_page_size", this.#file.handle),
-      streams: this.#native.value(u32, "pdb_file_stream_count", this.#file.handle),
-    };
+  /** The header and the directory, which are read when they are first needed. */
+  get #handle() {
+    this.#opened ??= this.#native.opened("pdb_bytes_open", this.#file.at, this.#file.length);
+    return this.#opened;
+  }
+
+  pageSize() {
+    return this.#native.value(u32, "pdb_file_page_size", this.#handle);
   }
 
   /** Asks for a value of the whole file. */
@@ -75,7 +77,7 @@ export class Database {
 
   /** A stream in the module's memory. */
   #streamOf(number, what) {
-    const stream = number === NO_STREAM ? undefined : this.#native.stream(this.#file, number);
+    const stream = number === NO_STREAM ? undefined : this.#native.stream(this.#handle, this.#file, number);
     if (!stream) throw new Error(`The file has no stream of ${what}.`);
     return stream;
   }
@@ -93,10 +95,10 @@ export class Database {
   }
 
   #streams() {
-    const count = this.#native.value(u32, "pdb_file_stream_count", this.#file.handle);
+    const count = this.#native.value(u32, "pdb_file_stream_count", this.#handle);
     const rows = Array.from({ length: count }, (_, number) => ({
       number,
-      size: this.#native.value(u32, "pdb_file_stream_size", this.#file.handle, number),
+      size: this.#native.value(u32, "pdb_file_stream_size", this.#handle, number),
       role: FIXED_ROLES[number] ?? "",
       name: "",
     }));

@@ -130,12 +130,12 @@ export class Native {
     }
   }
 
-  /** A stream of a file, which stays in the module's memory; undefined if the file has none of this number. */
-  stream(file, number) {
+  /** A stream of an open file, which stays in the module's memory; undefined if the file has none of this number. */
+  stream(handle, file, number) {
     const { library } = this;
     return library.with(8, (length) => {
       const ask = (room, size) =>
-        library.call("pdb_bytes_stream", [file.handle, file.at, file.length, number, NO_LIMIT, room, size, length], [TOO_SMALL, ...ABSENT]);
+        library.call("pdb_bytes_stream", [handle, file.at, file.length, number, NO_LIMIT, room, size, length], [TOO_SMALL, ...ABSENT]);
       if (ABSENT.includes(ask(0n, 0n))) return undefined;
       const stream = { at: library.room(library.long(length)), length: library.long(length) };
       if (stream.length) ask(stream.at, stream.length);

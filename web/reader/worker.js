@@ -36,7 +36,7 @@ const questions = {
     database = new Database(new Native(library), at, BigInt(file.size));
     return database.format;
   },
-  directory: () => database.open(),
+  pageSize: () => database.pageSize(),
   identity: () => database.identity(),
   findings: () => database.findings(),
   table(name) {
