@@ -14,7 +14,7 @@ from pathlib import Path
 from pdbtest.report import Trouble
 from pdbtest.tools import tool
 
-SECONDS = 300  # for one command, or until something is shown: the machine may be busy
+SECONDS = 30  # for one command, or until something is shown: the machine may be busy
 POLL = 0.05
 WORKERS = ("DedicatedWorker", "DOM Worker")  # the names of their threads in Chromium and in Firefox
 
@@ -64,7 +64,7 @@ def value_of(remote):
 
 
 class Browser:
-    """A browser with one page."""
+    """A browser with one page. `file_control` is what the accessibility tree calls a control that chooses a file."""
 
     def __init__(self, room):
         self.room = room / self.name
@@ -75,6 +75,7 @@ class Browser:
             self.begin()
             self.bidi.call("session.subscribe", events=["network.beforeRequestSent", "log.entryAdded"])
             self.context = self.bidi.call("browsingContext.getTree")["contexts"][0]["context"]
+            self.bidi.call("browsingContext.activate", context=self.context)
         except BaseException:
             self.end()
             raise
@@ -118,11 +119,6 @@ class Browser:
         if not found:
             raise Trouble(f"{self.name}: no {selector}")
         return {"sharedId": found[0]["sharedId"]}
-
-    def accessible(self, role, name):
-        """Whether the accessibility tree has an element of a role and a name."""
-        locator = {"type": "accessibility", "value": {"role": role, "name": name}}
-        return bool(self.bidi.call("browsingContext.locateNodes", context=self.context, locator=locator)["nodes"])
 
     def choose_files(self, selector, *files):
         self.bidi.call("input.setFiles", context=self.context, element=self.node(selector), files=list(map(str, files)))
@@ -181,6 +177,7 @@ class Chromium(Browser):
     name = "chromium"
     needs = ["chromium", "chromedriver"]
     schemes = ["light", "dark"]
+    file_control = "{label}"
 
     def start(self):
         port = self.launch([tool("chromedriver"), "--port=0"], r"started successfully on port (\d+)")
@@ -204,14 +201,22 @@ class Chromium(Browser):
         self.ask("/goog/cdp/execute", {"cmd": "Emulation.setEmulatedMedia", "params": {"features": features}})
 
 
+    def accessible(self, role, name):
+        """Whether the accessibility tree has an element of a role and a name."""
+        nodes = self.ask("/goog/cdp/execute", {"cmd": "Accessibility.getFullAXTree", "params": {}})["nodes"]
+        return any((it["role"]["value"], it["name"]["value"]) == (role, name) for it in nodes if not it["ignored"] and "name" in it)
+
+
 class Firefox(Browser):
     """Firefox, in a dark scheme from the start, since BiDi can't change that."""
 
     name = "firefox"
     needs = ["firefox-esr"]
     schemes = ["dark"]
+    file_control = "{label} Browse… {file}"
     PREFERENCES = {
         "layout.css.prefers-color-scheme.content-override": 0,
+        "focusmanager.testmode": True,
         "app.normandy.enabled": False,
         "browser.shell.checkDefaultBrowser": False,
         "datareporting.policy.dataSubmissionEnabled": False,
@@ -230,6 +235,11 @@ class Firefox(Browser):
 
     def prefer(self, scheme):
         """It has the one of its start."""
+
+    def accessible(self, role, name):
+        """Whether the accessibility tree has an element of a role and a name."""
+        locator = {"type": "accessibility", "value": {"role": role, "name": name}}
+        return bool(self.bidi.call("browsingContext.locateNodes", context=self.context, locator=locator)["nodes"])
 
 
 def until(found, trouble):

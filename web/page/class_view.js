@@ -14,8 +14,8 @@ const TEXTS = {
 };
 
 const COLUMNS = [
-  { title: "Offset", width: "short", cell: (row) => hexadecimal(row.offset, 3) + (row.bit === undefined ? "" : `:${row.bit}`) },
-  { title: "Size", width: "short", cell: (row) => (row.bits === undefined ? sizeOf(row) : plural(row.bits, "bit")) },
+  { title: "Offset", width: "shorter", cell: (row) => hexadecimal(row.offset, 3) + (row.bit === undefined ? "" : `:${row.bit}`) },
+  { title: "Size", width: "shorter", cell: (row) => (row.bits === undefined ? sizeOf(row) : plural(row.bits, "bit")) },
   { title: "Member", width: "code", cell: (row) => TEXTS[row.kind]?.(row) ?? [...linkedDeclaration(row), row.kind === "base" ? ";  // base" : ";"] },
 ];
 
@@ -30,11 +30,12 @@ export function classView(layout) {
   return html(
     "div",
     { class: "class" },
-    html("p", { class: "code" }, ...head(layout)),
+    html("h4", {}, "Bytes"),
+    drawing(layout) ?? html("p", {}, "There is no drawing of a class without bytes, or with more than 500 members."),
+    html("h4", {}, "Declaration"),
+    html("p", { class: "code" }, head(layout)),
     table.element,
     html("p", { class: "code" }, `};  ${totals(layout)}`),
-    html("h4", {}, "Its bytes"),
-    drawing(layout) ?? html("p", {}, "There is nothing to draw: the class has no bytes, or more than 500 members."),
     html("p", {}, html("button", { type: "button", onclick: () => copy(layout, copied) }, "Copy layout as JSON"), " ", copied),
   );
 }
@@ -44,7 +45,7 @@ function head({ kind, name, rows }) {
   const bases = rows
     .map((row) => (row.kind === "base" ? row.declaration : row.direct ? `virtual ${row.base}` : undefined))
     .filter((base) => base !== undefined);
-  return [`${kind} ${name}${bases.length ? ` : ${bases.join(", ")}` : ""} {`];
+  return `${kind} ${name}${bases.length ? ` : ${bases.join(", ")}` : ""} {`;
 }
 
 function totals({ holes, hole_bytes, unused_bits }) {

@@ -3,7 +3,7 @@ import { svg } from "./dom.js";
 import { hexadecimal } from "./texts.js";
 
 const MARGIN = 52, WIDTH = 600;
-const LINES_MOST = 24, LINE_LEAST = 8;
+const LINES_MOST = 12, LINE_LEAST = 8;
 const LANE = 26, LANE_LEAST = 10, HEIGHT_MOST = 900;
 const BOXES_MOST = 500;
 const HUES = 6;
