@@ -74,8 +74,7 @@ class Browser:
             self.bidi = Bidi(self.start())
             self.begin()
             self.bidi.call("session.subscribe", events=["network.beforeRequestSent", "log.entryAdded"])
-            self.context = self.bidi.call("browsingContext.getTree")["contexts"][0]["context"]
-            self.bidi.call("browsingContext.activate", context=self.context)
+            self.context = self.page()
         except BaseException:
             self.end()
             raise
@@ -91,6 +90,10 @@ class Browser:
 
     def begin(self):
         """Begins a session where starting did not."""
+
+    def page(self):
+        """The page that is driven."""
+        return self.bidi.call("browsingContext.getTree")["contexts"][0]["context"]
 
     def go(self, url):
         self.bidi.call("browsingContext.navigate", context=self.context, url=url, wait="complete")
@@ -216,7 +219,6 @@ class Firefox(Browser):
     file_control = "{label} Browse… {file}"
     PREFERENCES = {
         "layout.css.prefers-color-scheme.content-override": 0,
-        "focusmanager.testmode": True,
         "app.normandy.enabled": False,
         "browser.shell.checkDefaultBrowser": False,
         "datareporting.policy.dataSubmissionEnabled": False,
@@ -232,6 +234,10 @@ class Firefox(Browser):
 
     def begin(self):
         self.bidi.call("session.new", capabilities={})
+
+    def page(self):
+        """Another page than the first one, which lacks the focus."""
+        return self.bidi.call("browsingContext.create", type="tab")["context"]
 
     def prefer(self, scheme):
         """It has the one of its start."""

@@ -6,7 +6,7 @@ import { hexadecimal, plural } from "./texts.js";
 import { VirtualTable } from "./virtual_table.js";
 
 const column = (title, width, cell) => ({ title, width, cell });
-const hex = (title, field, digits = 0) => column(title, "medium", (row) => hexadecimal(row[field], digits));
+const hex = (title, field, width = "short") => column(title, width, (row) => hexadecimal(row[field]));
 const text = (title, field, width) => column(title, width, (row) => row[field]);
 
 /** What an id refers to: types as links, ids and lines as numbers. */
@@ -30,7 +30,7 @@ export const TABLES = {
   ids: {
     title: "Ids",
     tables: [
-      ["Ids", "ids", [hex("Index", "index"), text("Kind", "kind", "medium"), column("Name", "code", (row) => row.problem ?? row.name), column("Refers to", "code", referencesOf)]],
+      ["Ids", "ids", [hex("Index", "index"), text("Kind", "kind", "wide"), column("Name", "code", (row) => row.problem ?? row.name), column("Refers to", "code", referencesOf)]],
     ],
   },
   names: { title: "Names", tables: [["Names", "names", [hex("Offset", "offset"), text("Name", "name", "code")]]] },
@@ -42,7 +42,8 @@ export const TABLES = {
         "sections",
         [
           text("Section", "number", "short number"), text("Name", "name", "medium"), hex("Address", "virtualAddress"), hex("Size", "virtualSize"),
-          hex("File offset", "pointerToRawData"), hex("Size in file", "sizeOfRawData"), hex("Characteristics", "characteristics", 8),
+          hex("File offset", "pointerToRawData", "medium"), hex("Size in file", "sizeOfRawData", "medium"),
+          hex("Characteristics", "characteristics", "medium"),
         ], // prettier-ignore
       ],
     ],

@@ -5,6 +5,8 @@ import { latest } from "./latest.js";
 
 const HEIGHT_MOST = 10_000_000;
 const VISIBLE_MOST = 20;
+/** The least width of a column, on average. */
+const COLUMN_LEAST = 7.5;
 
 let made = 0;
 
@@ -38,6 +40,7 @@ export class VirtualTable {
       html("thead", { role: "rowgroup" }, this.#head),
       this.#body,
     );
+    this.#table.style.minWidth = `${COLUMN_LEAST * columns.length}rem`;
     this.#sizer = html("div", { class: "sizer" }, this.#table);
     this.element = html("div", { class: "scroller", tabindex: -1, onscroll: () => this.#scrolled() }, this.#sizer);
     new ResizeObserver(() => this.#resized()).observe(this.element);
@@ -67,7 +70,8 @@ export class VirtualTable {
 
   #resized() {
     const rows = this.#rowHeight;
-    this.element.style.height = `${rows * (Math.min(this.#source.length, VISIBLE_MOST) + 1) + 2}px`;
+    const edges = this.element.offsetHeight - this.element.clientHeight;
+    this.element.style.height = `${rows * (Math.min(this.#source.length, VISIBLE_MOST) + 1) + edges}px`;
     this.#sizer.style.height = `${Math.min(rows * (this.#source.length + 1), HEIGHT_MOST)}px`;
     this.#scrollTo(Math.min(this.#first, this.#lastFirst));
     return this.#render();
