@@ -13,6 +13,7 @@ SECONDS = 120  # for one run of a tool
 LINKER = "x86_64-w64-mingw32-ld"  # GNU ld for Windows
 NEWER = "llvm-pdbutil-19"
 WINE = "/usr/lib/wine"  # where Debian has what /usr/bin lacks of it
+WEBSOCKETS = "/usr/lib/python3/dist-packages/websockets"
 CROSS = "/usr/aarch64-linux-gnu/lib/libc.so"  # the C library that programs for ARM are linked with
 
 # those that only bench/run needs, and all
@@ -38,6 +39,10 @@ PACKAGES = {
     "aarch64-linux-gnu-gcc": "gcc-aarch64-linux-gnu",
     CROSS: "libc6-dev-arm64-cross",
     "node": "nodejs",
+    "chromium": "chromium",
+    "chromedriver": "chromium-driver",
+    "firefox-esr": "firefox-esr",
+    WEBSOCKETS: "python3-websockets",
     "wasm-ld": "lld",
     **BENCH_PACKAGES,
 }

@@ -1,0 +1,57 @@
+// An address, translated between the image as it is loaded and the original image.
+import { html } from "./dom.js";
+import { failure } from "./failure.js";
+import { hexadecimal, numberOf } from "./texts.js";
+
+/** The forms of an address, by their numbers in pdb_container.h. */
+const FORMS = ["address", "section and offset", "address in the original image", "section and offset in the original image"];
+
+export class AddressView {
+  element;
+  #session;
+  #form = html("select", { id: "address-form" }, ...FORMS.map((text, value) => html("option", { value }, text)));
+  #number = html("input", { id: "address", required: true, placeholder: "0x1008 or 1:0x8", autocomplete: "off", spellcheck: "false" });
+  #result = html("div", { role: "status" });
+
+  constructor(session) {
+    this.#session = session;
+    this.element = html(
+      "section",
+      { "aria-labelledby": "address-heading" },
+      html("h2", { id: "address-heading" }, "Address"),
+      html("p", {}, "A tool may have rearranged the image after it was linked. Addresses are relative to the start of the image (RVA)."),
+      html(
+        "form",
+        { onsubmit: (event) => this.#submit(event) },
+        html("p", {}, html("label", { for: "address-form" }, "Given as"), this.#form),
+        html("p", {}, html("label", { for: "address" }, "Address, or section:offset"), this.#number),
+        html("p", {}, html("button", {}, "Translate")),
+      ),
+      this.#result,
+    );
+  }
+
+  async #submit(event) {
+    event.preventDefault();
+    const parts = this.#number.value.split(":").map(numberOf);
+    const section = parts.length > 1 ? parts[0] : 0;
+    const offset = parts.at(-1);
+    if (parts.length > 2 || section === undefined || section > 0xffff || offset === undefined) {
+      this.#result.replaceChildren(failure(new Error("Give a number such as 4104 or 0x1008, or a section and an offset such as 1:0x8.")));
+      return;
+    }
+    const shown = await this.#session.ask("translate", Number(this.#form.value), section, offset).then(translationView, failure);
+    this.#result.replaceChildren(shown);
+  }
+}
+
+function translationView(found) {
+  const place = ({ section, offset }) => `${section}:${hexadecimal(offset)}`;
+  const rows = [
+    [FORMS[0], found.hasRva && hexadecimal(found.rva)],
+    [FORMS[1], found.hasPlace && place(found.place)],
+    [FORMS[2], found.hasInternalRva && hexadecimal(found.internalRva)],
+    [FORMS[3], found.hasInternalPlace && place(found.internalPlace)],
+  ];
+  return html("dl", {}, ...rows.flatMap(([name, value]) => [html("dt", {}, name), html("dd", {}, value || "none")]));
+}

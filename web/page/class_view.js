@@ -1,0 +1,68 @@
+// A class: its declaration with the places of its members, a drawing of its bytes, and its layout as JSON.
+import { html } from "./dom.js";
+import { drawing } from "./drawing.js";
+import { linkedDeclaration, typeLink } from "./links.js";
+import { hexadecimal, plural } from "./texts.js";
+import { VirtualTable } from "./virtual_table.js";
+
+const TEXTS = {
+  hole: () => "// hole",
+  unused_bits: (row) => `// ${plural(row.bits, "bit")} unused`,
+  virtual_bases: () => "// virtual bases and padding",
+  vbptr: (row) => ["vbptr;  // of virtual base ", typeLink(row.virtual_base, row.base)],
+  vfptr: () => "vfptr;",
+};
+
+const COLUMNS = [
+  { title: "Offset", width: "shorter", cell: (row) => hexadecimal(row.offset, 3) + (row.bit === undefined ? "" : `:${row.bit}`) },
+  { title: "Size", width: "shorter", cell: (row) => (row.bits === undefined ? sizeOf(row) : plural(row.bits, "bit")) },
+  { title: "Member", width: "code", cell: (row) => TEXTS[row.kind]?.(row) ?? [...linkedDeclaration(row), row.kind === "base" ? ";  // base" : ";"] },
+];
+
+const sizeOf = (row) => (row.size === undefined ? "?" : hexadecimal(row.size, 2));
+
+const isGap = (row) => row.declaration === undefined;
+
+export function classView(layout) {
+  const table = new VirtualTable(`Members of ${layout.name}`, COLUMNS);
+  table.show(layout.rows.map((row) => ({ ...row, class: isGap(row) ? "gap" : undefined })));
+  const copied = html("span", { role: "status" });
+  return html(
+    "div",
+    { class: "class" },
+    html("h4", {}, "Bytes"),
+    drawing(layout) ?? html("p", {}, "There is no drawing of a class without bytes, or with more than 500 members."),
+    html("h4", {}, "Declaration"),
+    html("p", { class: "code" }, head(layout)),
+    table.element,
+    html("p", { class: "code" }, `};  ${totals(layout)}`),
+    html("p", {}, html("button", { type: "button", onclick: () => copy(layout, copied) }, "Copy layout as JSON"), " ", copied),
+  );
+}
+
+/** The line with which the declaration begins. */
+function head({ kind, name, rows }) {
+  const bases = rows
+    .map((row) => (row.kind === "base" ? row.declaration : row.direct ? `virtual ${row.base}` : undefined))
+    .filter((base) => base !== undefined);
+  return `${kind} ${name}${bases.length ? ` : ${bases.join(", ")}` : ""} {`;
+}
+
+function totals({ holes, hole_bytes, unused_bits }) {
+  const texts = [];
+  if (holes) texts.push(`${plural(holes, "hole")} of ${plural(hole_bytes, "byte")}`);
+  if (unused_bits) texts.push(`${plural(unused_bits, "bit")} unused`);
+  return texts.length ? `// ${texts.join(", ")}` : "";
+}
+
+async function copy(layout, copied) {
+  const rows = layout.rows.map(({ link, base, ...row }) => row);
+  // A number of 64 bits may be too large for a number of JavaScript.
+  const text = JSON.stringify({ ...layout, rows }, (_, value) => (typeof value === "bigint" ? JSON.rawJSON(value) : value));
+  try {
+    await navigator.clipboard.writeText(text);
+    copied.textContent = "Copied.";
+  } catch {
+    copied.textContent = "The browser doesn't allow copying.";
+  }
+}

@@ -1,0 +1,32 @@
+// A worker that reads one file. A question gets its answer by a number.
+
+export class Session {
+  #worker = new Worker(new URL("../reader/worker.js", import.meta.url), { type: "module" });
+  #waiting = new Map();
+  #asked = 0;
+
+  constructor() {
+    this.#worker.addEventListener("message", ({ data: { number, answer, error } }) => {
+      const { resolve, reject } = this.#waiting.get(number);
+      this.#waiting.delete(number);
+      if (error === undefined) resolve(answer);
+      else reject(new Error(error));
+    });
+    this.#worker.addEventListener("error", (event) => {
+      for (const { reject } of this.#waiting.values()) reject(new Error(event.message || "The reader can't be loaded."));
+      this.#waiting.clear();
+    });
+  }
+
+  /** Asks one of the questions of reader/worker.js. */
+  ask(question, ...words) {
+    const number = this.#asked++;
+    this.#worker.postMessage({ number, question, words });
+    return new Promise((resolve, reject) => this.#waiting.set(number, { resolve, reject }));
+  }
+
+  /** Ends the worker, which gives its memory back. What it has not answered stays without an answer. */
+  end() {
+    this.#worker.terminate();
+  }
+}

@@ -1,0 +1,1 @@
+../dist/wasm/lib/pdb_container.mjs

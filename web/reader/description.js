@@ -1,0 +1,74 @@
+// What a record says, for any kind of record.
+import { fieldKindName, isNamed, kindName, shapeOf, SHAPE } from "./kinds.js";
+import { Field, Row, u32 } from "./structures.js";
+
+/** The names in pdb_container.h of the indexes to which a record of a shape refers. */
+const REFERENCES = {
+  [SHAPE.CLASS]: { secondIndex: "derived from", thirdIndex: "virtual table shape", listIndex: "fields" },
+  [SHAPE.MEMBER_FUNCTION]: { typeIndex: "return type", secondIndex: "class", thirdIndex: "this pointer", listIndex: "arguments" },
+  [SHAPE.PROCEDURE]: { typeIndex: "return type", listIndex: "arguments" },
+  [SHAPE.POINTER]: { typeIndex: "underlying type", secondIndex: "containing class" },
+  [SHAPE.MODIFIER]: { typeIndex: "underlying type" },
+  [SHAPE.ENUMERATION]: { typeIndex: "underlying type", listIndex: "fields" },
+  [SHAPE.ARRAY]: { typeIndex: "element type", secondIndex: "indexing type" },
+  [SHAPE.UNION]: { listIndex: "fields" },
+  [SHAPE.BITFIELD]: { typeIndex: "underlying type" },
+  [SHAPE.FIELD_LIST]: { listIndex: "continuation" },
+};
+const HAS = { typeIndex: 16, secondIndex: 32, thirdIndex: 64, listIndex: 128 };
+
+/** What the record of an index says, beside its layout and its entries. */
+export function describe(types, index) {
+  const { records } = types;
+  if (!records.has(index)) throw new Error(`The table has no record of index 0x${index.toString(16)}.`);
+  const code = records.code(index);
+  const info = types.info(index);
+  return {
+    index,
+    kind: kindName(code),
+    title: types.label(index),
+    size: types.size(index),
+    uniqueName: types.uniqueName(index),
+    definition: isNamed(code) ? types.definition(index) : undefined,
+    references: referencesOf(types, info),
+  };
+}
+
+function referencesOf(types, info) {
+  return Object.entries(REFERENCES[info.shape] ?? {})
+    .filter(([number]) => info.has & HAS[number])
+    .map(([number, role]) => ({ role, index: info[number], text: types.anyLabel(info[number]) }));
+}
+
+/** The entries of a list, or of the list of an enumeration; undefined for another record. */
+export function entriesOf(types, index) {
+  const info = types.info(index);
+  if (info.shape === SHAPE.ENUMERATION) return fieldsOf(types, info.listIndex);
+  const words = [...types.records.record(index), index];
+  const read = {
+    [SHAPE.FIELD_LIST]: () => fieldsOf(types, index),
+    [SHAPE.METHOD_LIST]: () => types.native.rows(Row, "pdb_type_methods", ...words).slice().map((row) => entryOf(types, row)),
+    [SHAPE.ARGUMENT_LIST]: () =>
+      types.native.rows(u32, "pdb_type_arguments", ...words).slice().map((type) => ({ kind: "argument", type, text: types.anyLabel(type) })),
+  };
+  return read[info.shape]?.();
+}
+
+/** The fields of a list, and of the lists in which it continues, each below the one before it. */
+function fieldsOf(types, first) {
+  const fields = [];
+  for (let list = first; types.records.has(list) && shapeOf(types.records.code(list)) === SHAPE.FIELD_LIST; ) {
+    fields.push(...types.native.named(Field, "pdb_type_fields", ...types.records.record(list), list));
+    const info = types.info(list);
+    if (!(info.has & HAS.listIndex) || info.listIndex >= list) break;
+    list = info.listIndex;
+  }
+  return fields.map((field) => entryOf(types, field.info, field.name));
+}
+
+/** An entry: its kind, its name, its value if it is an enumerator, its offset if it has one, and its type. */
+function entryOf(types, row, name = "") {
+  const entry = { kind: fieldKindName(row), name };
+  if (row.shape === SHAPE.ENUMERATE) return { ...entry, value: row.kind ? BigInt.asIntN(64, row.number) : row.number };
+  return { ...entry, ...(row.has & HAS.typeIndex && { type: row.typeIndex, text: types.anyLabel(row.typeIndex) }) };
+}

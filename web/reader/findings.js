@@ -1,0 +1,45 @@
+// What `pdb_validate` finds, in the words of `pdbdump validate`.
+import { Finding } from "./structures.js";
+
+const PARTS = [
+  "header", "directory", "sizes", "stream", "stream names", "string table", "stream roles", "types", "ids",
+  "section headers", "original section headers", "OMAP to source", "OMAP from source", "old frames", "new frames",
+]; // prettier-ignore
+
+const hexadecimal = (number) => `0x${number.toString(16)}`;
+
+/** The text of each inconsistency, by its number. */
+const INCONSISTENCIES = [
+  undefined,
+  () => "the directory is larger than the file",
+  () => "the streams together are larger than the file",
+  () => "the records are out of order",
+  (page) => `page ${page} is used twice`,
+  (page) => `page ${page} is in use and marked as free`,
+  (stream) => `stream ${stream} has a name or a role and is missing`,
+  () => "the parts of stream 3 do not add up to its size",
+  (index) => `a reference to index ${hexadecimal(index)} is not below the record's own`,
+  () => "the record does not end at a multiple of four bytes",
+  (kind) => `records of kind ${hexadecimal(kind)} are not read`,
+  (count) => `there are ${count} hash values for other records`,
+  (value) => `hash value ${value} is not below the number of buckets`,
+  (index) => `the place of index ${hexadecimal(index)} is not that of its record`,
+  () => "the string table ends before its buckets do",
+  (offset) => `no name begins at offset ${offset}`,
+  (count) => `the buckets do not hold ${count} names`,
+  () => "the section begins below the end of the one before it",
+];
+
+/** The first thing that is wrong in each part of a file. */
+export function findingsOf(native, file) {
+  const found = native.rows(Finding, "pdb_validate", file.at, file.length, 0).slice();
+  return found.map((finding) => ({
+    part: PARTS[finding.part],
+    isWarning: Boolean(finding.isWarning),
+    problem: INCONSISTENCIES[finding.inconsistency]?.(finding.number) ?? native.problem(finding.fault),
+    stream: finding.hasStream ? finding.stream : undefined,
+    index: finding.hasIndex ? finding.index : undefined,
+    byte: finding.hasByte ? finding.byte : undefined,
+    fileByte: finding.hasFileByte ? finding.fileByte : undefined,
+  }));
+}

@@ -1,0 +1,64 @@
+// The table of ids.
+import { textOf } from "./errors.js";
+import { idKindName, ID } from "./kinds.js";
+import { Records } from "./records.js";
+import { Row, u32 } from "./structures.js";
+
+/** The bits of `has`, each with its number of structure pdb_row. */
+const HAS = { typeIndex: 16, secondIndex: 32, thirdIndex: 64, listIndex: 128 };
+/** What the numbers of an id of a shape are: an index of a table, or a number alone. */
+const NUMBERS = {
+  [ID.FUNCTION]: { typeIndex: "type", secondIndex: "scope" },
+  [ID.MEMBER_FUNCTION]: { typeIndex: "type", thirdIndex: "parent type" },
+  [ID.STRING]: { listIndex: "substrings" },
+  [ID.TYPE_SOURCE]: { typeIndex: "type", secondIndex: "file", thirdIndex: "module" },
+};
+const IN_TYPES = ["type", "parent type"];
+
+export class Ids {
+  constructor(native, stream) {
+    this.native = native;
+    this.records = new Records(native, stream);
+  }
+
+  get length() {
+    return this.records.length;
+  }
+
+  get problem() {
+    return this.records.problem;
+  }
+
+  slice(from, to) {
+    const count = Math.max(Math.min(to, this.length) - from, 0);
+    return Array.from({ length: count }, (_, place) => this.#row(this.records.first + from + place));
+  }
+
+  #row(index) {
+    const record = this.records.record(index);
+    try {
+      const info = this.native.value(Row, "pdb_id_parse", ...record);
+      return {
+        index,
+        kind: idKindName(info),
+        name: this.native.string("pdb_id_name", ...record) ?? "",
+        numbers: [...this.#numbers(info), ...this.#list(info, record)],
+      };
+    } catch (error) {
+      return { index, kind: "not read", problem: textOf(error) };
+    }
+  }
+
+  #numbers(info) {
+    const found = Object.entries(NUMBERS[info.shape] ?? {})
+      .filter(([number]) => info.has & HAS[number])
+      .map(([number, role]) => ({ role, index: info[number], isType: IN_TYPES.includes(role) }));
+    return info.shape === ID.TYPE_SOURCE ? [...found, { role: "line", number: info.extra }] : found;
+  }
+
+  #list(info, record) {
+    if (info.shape !== ID.BUILD_INFO && info.shape !== ID.STRING_LIST) return [];
+    const ids = this.native.rows(u32, "pdb_id_list", ...record).slice();
+    return ids.map((index, place) => ({ role: `part ${place + 1}`, index }));
+  }
+}

@@ -1,0 +1,154 @@
+// The calls of pdb_container.h, with values in place of pointers. What a call writes is read from the module's memory.
+import { textOf } from "./errors.js";
+import { Fault } from "./structures.js";
+
+const TOO_SMALL = 102;
+/** A stream, a name or a value that is not there. */
+const ABSENT = [4, 5, 106, 107];
+const HANDLE_SIZE = 32;
+const NO_LIMIT = 2n ** 64n - 1n;
+const decoder = new TextDecoder();
+
+/** An array of structures, each read when it is asked for. */
+export class Rows {
+  #type;
+  #view;
+
+  constructor(type, buffer) {
+    this.#type = type;
+    this.#view = new DataView(buffer);
+    this.length = buffer.byteLength / type.size;
+  }
+
+  slice(from = 0, to = this.length) {
+    return Array.from({ length: Math.max(Math.min(to, this.length) - from, 0) }, (_, place) => this.at(from + place));
+  }
+
+  at(place) {
+    return this.#type.read(this.#view, place * this.#type.size);
+  }
+}
+
+export class Native {
+  constructor(library) {
+    this.library = library;
+  }
+
+  view() {
+    return new DataView(this.library.calls.memory.buffer);
+  }
+
+  text(at, length) {
+    return decoder.decode(this.library.bytes(at, length));
+  }
+
+  /** The handle that a call opens. */
+  opened(name, ...words) {
+    const handle = this.library.room(HANDLE_SIZE);
+    try {
+      this.library.call(name, [...words, handle]);
+      return handle;
+    } catch (error) {
+      this.library.free(handle);
+      throw error;
+    }
+  }
+
+  close(handle) {
+    this.library.calls.pdb_close(handle);
+    this.library.free(handle);
+  }
+
+  /** The value that a call writes, or undefined if there is none. */
+  value(type, name, ...words) {
+    return this.library.with(type.size, (at) => {
+      const status = this.library.call(name, [...words, at], ABSENT);
+      return ABSENT.includes(status) ? undefined : type.read(this.view(), Number(at));
+    });
+  }
+
+  /** Gives a function the array that a call writes: its place and its number of items of a size. Undefined if the call
+   * has no answer. */
+  #written(size, name, words, use) {
+    const { library } = this;
+    return library.with(8, (count) => {
+      const ask = (room, most) => library.call(name, [...words, room, most, count], [TOO_SMALL, ...ABSENT]);
+      if (ABSENT.includes(ask(0n, 0n))) return undefined;
+      const length = library.long(count);
+      return library.with(length * BigInt(size), (room) => {
+        if (length) ask(room, length);
+        return use(room, Number(length));
+      });
+    });
+  }
+
+  #items(type, at, count) {
+    return new Rows(type, this.library.bytes(at, count * type.size).slice().buffer);
+  }
+
+  /** The array that a call writes, or undefined. */
+  rows(type, name, ...words) {
+    return this.#written(type.size, name, words, (at, count) => this.#items(type, at, count));
+  }
+
+  /** The text that a call writes, or undefined. */
+  string(name, ...words) {
+    return this.#written(1, name, words, (at, length) => this.text(at, length));
+  }
+
+  /** The array that a call writes whose items have names, each with its `name`, or undefined. */
+  named(type, name, ...words) {
+    const { library } = this;
+    return library.with(16, (lengths) => {
+      const sizes = [lengths, lengths + 8n];
+      const ask = (rows, count, names, size) =>
+        library.call(name, [...words, rows, count, sizes[0], names, size, sizes[1]], [TOO_SMALL, ...ABSENT]);
+      if (ABSENT.includes(ask(0n, 0n, 0n, 0n))) return undefined;
+      const [count, size] = sizes.map((at) => library.long(at));
+      return library.with(count * BigInt(type.size), (rows) =>
+        library.with(size, (names) => {
+          if (count) ask(rows, count, names, size);
+          let at = names;
+          return this.#items(type, rows, Number(count)).slice().map((item) => {
+            const text = this.text(at, item.nameLength);
+            at += item.nameLength;
+            return { ...item, name: text };
+          });
+        }),
+      );
+    });
+  }
+
+  /** Gives a function a text in the module's memory: its place and its length. */
+  withText(text, use) {
+    const bytes = new TextEncoder().encode(text);
+    const at = this.library.place(bytes);
+    try {
+      return use(at, BigInt(bytes.length));
+    } finally {
+      this.library.free(at);
+    }
+  }
+
+  /** A stream of an open file, which stays in the module's memory; undefined if the file has none of this number. */
+  stream(handle, file, number) {
+    const { library } = this;
+    return library.with(8, (length) => {
+      const ask = (room, size) =>
+        library.call("pdb_bytes_stream", [handle, file.at, file.length, number, NO_LIMIT, room, size, length], [TOO_SMALL, ...ABSENT]);
+      if (ABSENT.includes(ask(0n, 0n))) return undefined;
+      const stream = { at: library.room(library.long(length)), length: library.long(length) };
+      if (stream.length) ask(stream.at, stream.length);
+      return stream;
+    });
+  }
+
+  /** The text of a fault that a structure reports. */
+  problem(fault) {
+    return this.library.with(Fault.size, (at) => {
+      const view = this.view();
+      [fault.status, fault.first, fault.second].forEach((word, place) => view.setUint32(Number(at) + 4 * place, word, true));
+      return textOf(this.library.error(at));
+    });
+  }
+}

@@ -1,0 +1,147 @@
+// The table of types: its records and their names, and what is chosen among them.
+import { textOf } from "./errors.js";
+import { GROUPS, isClass, isDeclaredOnly, isList, isNamed, kindName } from "./kinds.js";
+import { Records } from "./records.js";
+import { nameOf, NameIndex, patternOf } from "./search.js";
+import { Row, u32, u64 } from "./structures.js";
+
+export const FIRST_RECORD = 0x1000;
+
+export class Types {
+  #records;
+  #names;
+  #definitions;
+  #chosen = new Uint32Array();
+
+  constructor(native, stream) {
+    this.native = native;
+    this.#records = new Records(native, stream);
+  }
+
+  get records() {
+    return this.#records;
+  }
+
+  /** Why the table can't be read to its end, if it can't. */
+  get problem() {
+    return this.#records.problem;
+  }
+
+  /** How many records each group has. */
+  groups() {
+    const counts = new Uint32Array(256);
+    for (let place = 0; place < this.#records.length; place++) counts[this.#records.codeAt(place)]++;
+    return Object.entries(GROUPS).map(([name, has]) => ({
+      name,
+      count: counts.reduce((sum, count, code) => (has(code) ? sum + count : sum), 0),
+    }));
+  }
+
+  /** Chooses the records of a group whose names match a text, or all if it is empty. */
+  choose(group, text) {
+    const isIn = Uint8Array.from({ length: 256 }, (_, code) => GROUPS[group](code));
+    const { length } = this.#records;
+    const chosen = new Uint32Array(length);
+    let count = 0;
+    const add = (place) => {
+      if (isIn[this.#records.codeAt(place)]) chosen[count++] = place;
+    };
+    if (text) this.#index().search(patternOf(text), add);
+    else for (let place = 0; place < length; place++) add(place);
+    this.#chosen = chosen.slice(0, count);
+  }
+
+  get length() {
+    return this.#chosen.length;
+  }
+
+  slice(from, to) {
+    return Array.from(this.#chosen.subarray(from, to), (place) => this.row(this.#records.first + place));
+  }
+
+  row(index) {
+    const code = this.#records.code(index);
+    const row = { index, kind: kindName(code), isDeclaredOnly: isDeclaredOnly(code) };
+    try {
+      return { ...row, name: this.label(index), size: this.size(index) };
+    } catch (error) {
+      return { ...row, problem: textOf(error) };
+    }
+  }
+
+  /** The indexes of all records of the type of an index: its definition, and its declarations. */
+  sameAs(index) {
+    const records = this.#records;
+    const definition = isNamed(records.code(index)) ? this.definition(index) : undefined;
+    if (definition === undefined) return [index];
+    const found = [];
+    this.#index().search(nameOf(this.name(index)), (place) => {
+      if (this.definition(records.first + place) === definition) found.push(records.first + place);
+    });
+    return found;
+  }
+
+  #index() {
+    if (this.#names) return this.#names;
+    const { native } = this;
+    const records = this.#records;
+    native.library.with(8 + 12, (length) => {
+      this.#names = new NameIndex(native.library, records.length, (place, at) => {
+        const index = records.first + place;
+        const code = records.codeAt(place);
+        if (!isNamed(code)) return 0;
+        const status = native.library.calls.pdb_type_name(...records.record(index), index, at, 0x10000n, length, length + 8n);
+        return status ? 0 : Number(native.library.long(length));
+      });
+    });
+    return this.#names;
+  }
+
+  /** The definitions of the table, which are opened when they are first needed. */
+  get definitions() {
+    const { at, length } = this.#records.stream;
+    this.#definitions ??= this.native.opened("pdb_definitions_open", at, length);
+    return this.#definitions;
+  }
+
+  /** What the record of an index says. */
+  info(index) {
+    return this.native.value(Row, "pdb_type_parse", ...this.#records.record(index), index);
+  }
+
+  name(index) {
+    return this.native.string("pdb_type_name", ...this.#records.record(index), index);
+  }
+
+  uniqueName(index) {
+    return this.native.string("pdb_type_unique_name", ...this.#records.record(index), index);
+  }
+
+  /** The declaration of a name that has a type, in C++, or the text of the type alone. */
+  text(index, name = "") {
+    return this.native.withText(name, (at, length) => this.native.string("pdb_type_text", this.definitions, index, at, length));
+  }
+
+  definition(index) {
+    return this.native.value(u32, "pdb_definition_of", this.definitions, index);
+  }
+
+  /** The size of a type in bytes, which for a class is in its record. */
+  size(index) {
+    const code = this.#records.code(index);
+    if (isClass(code)) return isDeclaredOnly(code) ? undefined : this.info(index).number;
+    return this.native.value(u64, "pdb_type_size", this.definitions, index);
+  }
+
+  /** The name of a type, or its text in C++; empty for a list, which has neither. */
+  label(index) {
+    const code = this.#records.code(index);
+    if (isList(code)) return "";
+    return isNamed(code) ? this.name(index) : this.text(index);
+  }
+
+  /** The same for an index that may be that of a primitive type, or of none. */
+  anyLabel(index) {
+    return this.#records.has(index) ? this.label(index) : this.text(index);
+  }
+}
