@@ -279,6 +279,19 @@ class Closing(unittest.TestCase):
                 pdb.roles
             pdb.close()
 
+    @unittest.skipUnless(sys.platform == "linux", "no list of what is mapped")
+    def test_mapping_of_the_package(self):
+        """What `open` maps is there until the file is closed, and no longer, also where an error of it is kept."""
+        is_mapped = lambda: str(SAMPLE) in pathlib.Path("/proc/self/maps").read_text(encoding="utf-8")
+        with pdb_container.open(SAMPLE) as pdb:
+            types = pdb.types
+            self.assertTrue(is_mapped())
+            with self.assertRaises(PdbError) as raised:
+                pdb.named_stream("/none")
+        self.assertFalse(is_mapped())
+        self.assertEqual(raised.exception.status, Status.STREAM_NAME_NOT_FOUND)
+        self.assertEqual(types["Derived"].name, "Derived")
+
     def test_files_in_a_row(self):
         """Files that were closed, or that no one has any more, give back what was read of them, without a collection."""
         gc.disable()

@@ -27,8 +27,11 @@ from . import PACKAGE, SAMPLE, parts_of
 
 def read_types(pdb):
     for it in pdb.types:
-        for one in (it, *parts_of(it).get("fields", ()), *parts_of(it).get("methods", ())):
-            str((one, parts_of(one)))
+        parts = parts_of(it)
+        str((it, parts))
+        # A class and its list have the same fields.
+        for field in parts.get("fields", ()) if it.shape is Shape.FIELD_LIST else parts.get("methods", ()):
+            str((field, parts_of(field)))
 
 
 def read_layouts(pdb):
