@@ -15,7 +15,12 @@ pub record StaysOpen {S : Type 0} (state : S → State) (old new : Opened S) : T
 -- so it does where nothing is read
 pub stays_open : {S : Type 0} (state : S → State) (file : Opened S) → StaysOpen state file file
 stays_open state file = record {
-  source = record { bytes = refl; fixed = refl; counts = le_refl (state file.source).faults; sound = λ sound. (sound, refl) };
+  source = record {
+    bytes = refl;
+    fixed = refl;
+    counts = le_refl (state file.source).faults;
+    sound = λ sound. (sound, refl);
+  };
   head = refl;
 }
 

@@ -181,7 +181,8 @@ impl OpenTables {
     pub fn reply<F: ReadStreams>(&mut self, alloc: Global, file: &mut F, query: Query) -> Reply
         requires can_read { F.can_read file.old }
         requires of { F.is_fixed file.old → AreOf (F.stream file.old) self.old }
-        ensures reply { F.is_fixed file.old → IsReply (F.failed file.old file.new) result (reply_by (F.stream file.old) query) }
+        ensures reply { F.is_fixed file.old →
+            IsReply (F.failed file.old file.new) result (reply_by (F.stream file.old) query) }
         ensures of { F.is_fixed file.old → AreOf (F.stream file.old) self.new }
         ensures few { IsTrue F.lasts → F.is_fixed file.old → calls_of self.new.reads ≤
             calls_of self.old.reads + 8 * most_look_ups (F.stream file.old) query }

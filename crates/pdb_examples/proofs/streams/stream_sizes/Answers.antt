@@ -6,7 +6,7 @@ use Rattle.pdb_examples.proofs.streams.stream_sizes.Goals.{in-Ok+in_ok-push-in-O
 pub loop-number-init : goal.loop-number-init
 loop-number-init c =
     record {
-      head = rw c.in_ok-file.ensures.kept.bytes (c.in_ok-file.ensures.head tt);
+      head = rw c.in_ok-file.ensures.kept.bytes (c.in_ok-file.ensures.head refl);
       same = refl;
       so_far = c.new-sizes.ensures.items ∙ none_yet _ _;
     }
@@ -25,9 +25,10 @@ loop-number-preserved c =
           w.in_ok-push-in-Ok.was,
           w.as_slice.ensures.bytes,
         )
-            (one_more _ _ _ _ _ (w.in-Ok.ensures.answer tt) c.loop-number.invariant.so_far)
+            (one_more _ _ _ _ _ (w.in-Ok.ensures.answer refl) c.loop-number.invariant.so_far)
         | in-Err-StreamNotFound w ↦ rw (c.get.ensures.source.bytes, c.get.ensures.head, w.sizes-is)
-            (no_more _ _ _ _ _ _ (rw w.in-Err-StreamNotFound.field-0-is at (w.in-Err-StreamNotFound.ensures.answer tt))
+            (no_more _ _ _ _ _ _
+            (rw w.in-Err-StreamNotFound.field-0-is at (w.in-Err-StreamNotFound.ensures.answer refl))
             c.loop-number.invariant.so_far)
       ];
     }

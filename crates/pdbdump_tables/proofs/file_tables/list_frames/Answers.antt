@@ -1,3 +1,4 @@
+use Rattle.std.proofs.Common.{refl}
 use Rattle.pdb_base.proofs.lemmas.Refused.{passed_on}
 use Rattle.pdbdump_tables.specs.Files.{file_frames}
 use Rattle.pdbdump_tables.specs.Tables.{frames_listing}
@@ -7,4 +8,4 @@ use Rattle.pdbdump_tables.proofs.file_tables.list_frames.Goals as goal
 pub returns-in_err-table : goal.returns-in_err-table
 unfolding file_frames
 returns-in_err-table g c = rw (passed_on _ _ c.from_residual.ensures.1)
-    (refused_listed _ frames_listing _ _ _ (c.in_err-table.ensures.answer tt))
+    (refused_listed _ frames_listing _ _ _ (c.in_err-table.ensures.answer refl))
