@@ -10,10 +10,11 @@ use std::error::Error;
 mod publics;
 mod references;
 
-/// The members of a class, or the values of an enumeration.
-fn fields(types: &Types, base: &mut Entries, list: u32) -> Result<String, Box<dyn Error>> {
+/// The members of a class, or the values of an enumeration, as numbers of the type under it.
+fn fields(types: &Types, base: &mut Entries, list: u32, under: Option<u32>) -> Result<String, Box<dyn Error>> {
     let mut fields = Vec::new();
-    for it in types.fields(list)?.iter() {
+    let found = under.map_or_else(|| types.fields(list), |under| types.enumerators(list, under))?;
+    for it in found.iter() {
         let (offset, of) = (it.row.number().unwrap_or_default(), it.row.type_index().unwrap_or_default());
         let text = match it.shape() {
             Shape::Member => format!(r#"{{"offset":{offset},"type":{}}}"#, reference(types, base, of)?),
@@ -36,7 +37,7 @@ fn main() -> Result<(), Box<dyn Error>> {
         if types.definitions()?.definition_of(it.index)?.is_none_or(|definition| definition == it.index) {
             let size = types.definitions()?.size_of(it.index)?.unwrap_or_default();
             let list = it.row.list_index().filter(|list| *list != 0);
-            let fields = list.map_or(Ok("{}".into()), |list| fields(&types, &mut base, list))?;
+            let fields = list.map_or(Ok("{}".into()), |list| fields(&types, &mut base, list, it.row.type_index()))?;
             if let (Shape::Enumeration, Some(of)) = (it.shape(), it.row.type_index()) {
                 let of = base_type(&types, &mut base, of, size)?;
                 enums.insert(key_of(&it)?, format!(r#"{{"size":{size},"base":{of},"constants":{fields}}}"#));

@@ -1,19 +1,15 @@
 -- The parts of base classes.
-use Rattle.std.proofs.Common.{◌≡◌, ◌⊎◌, inl, inr, ℕ, zero, suc, ◌+◌, ◌-◌, ◌<◌, List, [], ◌∷◌, ◌++◌, length}
-use Rattle.std.proofs.Common.{get_or, drop}
-use Rattle.std.proofs.Common.{map, refl, sym, ap, ◌∙◌, Option, Some, None, Ok, Err, append_assoc, add-one, arith}
-use Rattle.std.proofs.Math.Seq.{drop-cons}
-use Rattle.std.proofs.lemmas.List.{append-nil}
+use Rattle.std.proofs.Common.{◌≡◌, ◌⊎◌, inl, inr, ℕ, zero, suc, ◌+◌, ◌-◌, ◌<◌, List, ◌++◌}
+use Rattle.std.proofs.Common.{refl, ap, ◌∙◌, Option, Some, None, Ok, Err, arith}
 use Rattle.pdb_base.specs.Answer.{Answer, ◌>>=◌}
-use Rattle.pdb_base.specs.Refusal.{Refusal, refusal_of}
+use Rattle.pdb_base.specs.Refusal.{refusal_of}
 use Rattle.pdb_base.specs.declared.error.Error.{Error}
 use Rattle.pdb_base.specs.declared.error.Error.TheVariants.{OutOfMemory}
 use Rattle.pdb_tpi.specs.Table.{Table}
-use Rattle.pdb_types.specs.declared.layout.LayoutField.{LayoutField}
-use Rattle.pdb_types.specs.Layout.{FieldValue, field_value}
+use Rattle.pdb_types.specs.Layout.{FieldValue}
 use Rattle.pdb_types.specs.declared.part.Base.{Base}
 use Rattle.pdb_types.specs.declared.part.Outline.{Outline}
-use Rattle.pdb_types.specs.Part.{AreDepths, AreParts, base_within, extent_end, field_there, one_part}
+use Rattle.pdb_types.specs.Part.{AreDepths, AreParts, base_within, extent_end, one_part}
 use Rattle.pdb_types.specs.Part.{outline_at, part_along}
 use Rattle.pdb_types.specs.Part.{part_before, part_extent, part_from, class_part, part_with, parted_fields}
 use Rattle.pdb_types.specs.Size.{Sizes}
@@ -41,68 +37,6 @@ parted_behind found fields = fields >>= λ more. Ok (found ++ more)
 -- the fields so far are as long as their parts
 pub record ArePartedTo (table : Table) (fields rest found : List FieldValue) : Type 0 where
   pub is : parted_fields table fields ≡ parted_behind found (parted_fields table rest)
-
-behind_none : (fields : Answer (List FieldValue)) → fields ≡ parted_behind [] fields
-behind_none (Ok fields) = refl
-behind_none (Err refusal) = refl
-
-pub parted_none : (table : Table) (fields : List FieldValue) → ArePartedTo table fields fields []
-parted_none table fields = record { is = behind_none (parted_fields table fields) }
-
--- the fields from one on
-fields_from : (fields : List LayoutField) (i : ℕ) (field : LayoutField) → i < length fields
-    → get_or fields i field ≡ field
-    → map field_value (drop i fields) ≡ field_value field ∷ map field_value (drop (i + 1) fields)
-fields_from fields i field within here =
-    let next : drop i fields ≡ field ∷ drop (i + 1) fields =
-    rw (add-one, drop-cons fields i field within) (ap (λ (x : LayoutField). x ∷ drop (suc i) fields) here) in
-    ap (map field_value) next
-
-abbrev next_parted : Answer FieldValue → Answer (List FieldValue) → Answer (List FieldValue)
-next_parted field fields = field >>= λ one. fields >>= λ more. Ok (one ∷ more)
-
-ok_next : (found : List FieldValue) (field : FieldValue) (fields : Answer (List FieldValue))
-    → parted_behind found (next_parted (Ok field) fields) ≡ parted_behind (found ++ field ∷ []) fields
-ok_next found field (Ok fields) = ap (λ (l : List FieldValue). Ok l) (sym (append_assoc found (field ∷ []) fields))
-ok_next found field (Err refusal) = refl
-
-next_is : (table : Table) (all : List FieldValue) (fields : List LayoutField) (i : ℕ) (field : LayoutField)
-    (found : List FieldValue) (there : Answer FieldValue)
-    → ArePartedTo table all (map field_value (drop i fields)) found → i < length fields → get_or fields i field ≡ field
-    → field_there table (field_value field) ≡ there
-    → parted_fields table all ≡ parted_behind found (next_parted there
-    (parted_fields table (map field_value (drop (i + 1) fields))))
-next_is table all fields i field found there so_far within here is =
-    so_far.is
-    ∙ ap (λ (l : List FieldValue). parted_behind found (parted_fields table l)) (fields_from fields i field within here)
-    ∙ ap (λ (f : Answer FieldValue). parted_behind found
-    (next_parted f (parted_fields table (map field_value (drop (i + 1) fields))))) is
-
--- one more field
-pub parted_more : (table : Table) (all : List FieldValue) (fields : List LayoutField) (i : ℕ) (field : LayoutField)
-    (found : List FieldValue) (there : FieldValue)
-    → ArePartedTo table all (map field_value (drop i fields)) found → i < length fields → get_or fields i field ≡ field
-    → field_there table (field_value field) ≡ Ok there
-    → ArePartedTo table all (map field_value (drop (i + 1) fields)) (found ++ there ∷ [])
-parted_more table all fields i field found there so_far within here is = record {
-  is =
-      next_is table all fields i field found (Ok there) so_far within here is
-      ∙ ok_next found there (parted_fields table (map field_value (drop (i + 1) fields)));
-}
-
--- a field that is refused
-pub parted_refused : (table : Table) (all : List FieldValue) (fields : List LayoutField) (i : ℕ) (field : LayoutField)
-    (found : List FieldValue) (e : Error)
-    → ArePartedTo table all (map field_value (drop i fields)) found → i < length fields → get_or fields i field ≡ field
-    → (field_there table (field_value field) ≡ Err (refusal_of e)) ⊎ (e ≡ OutOfMemory)
-    → (parted_fields table all ≡ Err (refusal_of e)) ⊎ (e ≡ OutOfMemory)
-parted_refused table all fields i field found e so_far within here (inl is) =
-    inl (next_is table all fields i field found (Err (refusal_of e)) so_far within here is)
-parted_refused table all fields i field found e so_far within here (inr memory) = inr memory
-
-parted_end : (table : Table) (all found : List FieldValue) → ArePartedTo table all [] found
-    → parted_fields table all ≡ Ok found
-parted_end table all found so_far = so_far.is ∙ ap (λ (l : List FieldValue). Ok l) (append-nil found)
 
 -- ---- the law
 

@@ -90,7 +90,7 @@ const TEXTS: &[(u32, &str, &str)] = &[
     (0x100e, "s", "const volatile S s"),
     (0x1010, "f", "void f(S *const)"),
     (0x1002, "x", "<no type> x"),
-    (0x1011, "x", "const .. x"),
+    (0x1011, "x", "const .. x.."),
 ];
 
 /// Indexes, the sizes of their types, and the indexes of their definitions.
