@@ -35,17 +35,17 @@ impl Seek for Halting {
 
 /// A file that tells a size of two bytes more than it has, as one that became shorter since.
 #[derive(Drop)]
-struct Shrunk {
+struct ShorterFile {
     file: Cursor<Vec<u8>>,
 }
 
-impl Read for Shrunk {
+impl Read for ShorterFile {
     fn read(&mut self, room: &mut [u8]) -> io::Result<usize> {
         self.file.read(room)
     }
 }
 
-impl Seek for Shrunk {
+impl Seek for ShorterFile {
     fn seek(&mut self, to: SeekFrom) -> io::Result<u64> {
         let place = self.file.seek(to)?;
         Ok(match to {
@@ -56,7 +56,7 @@ impl Seek for Shrunk {
 }
 
 /// Returns a source that reads these bytes one by one, and is interrupted.
-fn halting(bytes: Vec<u8>) -> io::Result<FileSource<SeekFile<Halting>>> {
+fn open_halting(bytes: Vec<u8>) -> io::Result<FileSource<SeekFile<Halting>>> {
     FileSource::new(SeekFile::new(Halting {
         file: Cursor::new(bytes),
         is_interrupted: false,
@@ -67,13 +67,13 @@ fn halting(bytes: Vec<u8>) -> io::Result<FileSource<SeekFile<Halting>>> {
 pub(super) fn are_read(alloc: Global, bytes: &[u8], views: Views) -> pdb_base::Result<bool> {
     let whole = SeekFile::new(Cursor::new(bytes.to_vec(alloc)?));
     let seen = sees(alloc, &mut FileSource::new(whole)?, views);
-    Ok(seen && sees(alloc, &mut halting(bytes.to_vec(alloc)?)?, views))
+    Ok(seen && sees(alloc, &mut open_halting(bytes.to_vec(alloc)?)?, views))
 }
 
 #[test]
 fn halting_files(rt: HostRuntime) -> Result<(), Fail> {
     let alloc = rt.alloc();
-    let mut file = open_msf(alloc, halting(s1(alloc)?)?)?;
+    let mut file = open_msf(alloc, open_halting(s1(alloc)?)?)?;
     assert!(rt; Want::Front(600).fits(&file.get(alloc, 1, None)));
     Ok(())
 }
@@ -106,7 +106,7 @@ fn is_seen<S: Source>(
 fn shrunk_files(rt: HostRuntime) -> Result<(), Fail> {
     let alloc = rt.alloc();
     let file = Cursor::new(Vec::from_slice(alloc, b"abcdef")?);
-    let mut source = FileSource::new(SeekFile::new(Shrunk { file }))?;
+    let mut source = FileSource::new(SeekFile::new(ShorterFile { file }))?;
     for (offset, size, want) in SHRUNK {
         let slice = SourceSlice {
             offset: *offset,
