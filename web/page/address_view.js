@@ -10,7 +10,7 @@ export class AddressView {
   element;
   #session;
   #form = html("select", { id: "address-form" }, ...FORMS.map((text, value) => html("option", { value }, text)));
-  #number = html("input", { id: "address", required: true, placeholder: "0x1008 or 1:0x8", autocomplete: "off", spellcheck: "false" });
+  #number = html("input", { id: "address", required: true, placeholder: "0x1008 or 1:0x8", autocomplete: "off" });
   #result = html("div", { role: "status" });
 
   constructor(session) {
@@ -19,7 +19,8 @@ export class AddressView {
       "section",
       { "aria-labelledby": "address-heading" },
       html("h2", { id: "address-heading" }, "Address"),
-      html("p", {}, "A tool may have rearranged the image after it was linked. Addresses are relative to the start of the image (RVA)."),
+      html("p", {}, "Addresses are relative to the start of the image (RVA). The original image is the one that was linked;"
+        + " a tool may have rearranged it since."),
       html(
         "form",
         { onsubmit: (event) => this.#submit(event) },
@@ -37,7 +38,8 @@ export class AddressView {
     const section = parts.length > 1 ? parts[0] : 0;
     const offset = parts.at(-1);
     if (parts.length > 2 || section === undefined || section > 0xffff || offset === undefined) {
-      this.#result.replaceChildren(failure(new Error("Give a number such as 4104 or 0x1008, or a section and an offset such as 1:0x8.")));
+      const wanted = "Give a number such as 4104 or 0x1008, or a section and an offset such as 1:0x8.";
+      this.#result.replaceChildren(failure(new Error(wanted)));
       return;
     }
     const shown = await this.#session.ask("translate", Number(this.#form.value), section, offset).then(translationView, failure);

@@ -6,6 +6,8 @@ import { hexadecimal, plural } from "./texts.js";
 import { VirtualTable } from "./virtual_table.js";
 
 const TEXTS = {
+  member: (row) => [...linkedDeclaration(row), ";"],
+  base: (row) => [...linkedDeclaration(row), ";  // base"],
   hole: () => "// hole",
   unused_bits: (row) => `// ${plural(row.bits, "bit")} unused`,
   virtual_bases: () => "// virtual bases and padding",
@@ -16,7 +18,7 @@ const TEXTS = {
 const COLUMNS = [
   { title: "Offset", width: "shorter", cell: (row) => hexadecimal(row.offset, 3) + (row.bit === undefined ? "" : `:${row.bit}`) },
   { title: "Size", width: "shorter", cell: (row) => (row.bits === undefined ? sizeOf(row) : plural(row.bits, "bit")) },
-  { title: "Member", width: "code", cell: (row) => TEXTS[row.kind]?.(row) ?? [...linkedDeclaration(row), row.kind === "base" ? ";  // base" : ";"] },
+  { title: "Member", width: "code", cell: (row) => TEXTS[row.kind](row) },
 ];
 
 const sizeOf = (row) => (row.size === undefined ? "?" : hexadecimal(row.size, 2));

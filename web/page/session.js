@@ -1,7 +1,11 @@
 // A worker that reads one file. A question gets its answer by a number.
 
+/** The worker's script. As a blob it has the page's Content-Security-Policy, which one that a server sends has not. */
+const READER = new URL("../reader/worker.js", import.meta.url);
+const SCRIPT = new Blob([`import ${JSON.stringify(READER)};`], { type: "text/javascript" });
+
 export class Session {
-  #worker = new Worker(new URL("../reader/worker.js", import.meta.url), { type: "module" });
+  #worker = new Worker(URL.createObjectURL(SCRIPT), { type: "module" });
   #waiting = new Map();
   #asked = 0;
 

@@ -11,7 +11,7 @@ import { VirtualTable } from "./virtual_table.js";
 export class TypesView {
   element = html("section", { "aria-labelledby": "types-heading" }, html("h2", { id: "types-heading" }, "Types"));
   #session;
-  #text = html("input", { id: "type-name", type: "search", placeholder: "std::* or Point or 0x1026", autocomplete: "off", spellcheck: "false" });
+  #text = html("input", { id: "type-name", type: "search", placeholder: "std::* or Point or 0x1026", autocomplete: "off" });
   #group = html("select", { id: "type-kind" });
   #count = html("p", { role: "status" });
   #type = html("article", { "aria-label": "Chosen type" }, html("p", {}, "Choose a type in the list."));

@@ -45,13 +45,12 @@ export function entriesOf(types, index) {
   const info = types.info(index);
   if (info.shape === SHAPE.ENUMERATION) return fieldsOf(types, info.listIndex);
   const words = [...types.records.record(index), index];
-  const read = {
-    [SHAPE.FIELD_LIST]: () => fieldsOf(types, index),
-    [SHAPE.METHOD_LIST]: () => types.native.rows(Row, "pdb_type_methods", ...words).slice().map((row) => entryOf(types, row)),
-    [SHAPE.ARGUMENT_LIST]: () =>
-      types.native.rows(u32, "pdb_type_arguments", ...words).slice().map((type) => ({ kind: "argument", type, text: types.anyLabel(type) })),
-  };
-  return read[info.shape]?.();
+  const rows = (type, call) => types.native.rows(type, call, ...words).slice();
+  const argument = (type) => ({ kind: "argument", type, text: types.anyLabel(type) });
+  if (info.shape === SHAPE.FIELD_LIST) return fieldsOf(types, index);
+  if (info.shape === SHAPE.METHOD_LIST) return rows(Row, "pdb_type_methods").map((row) => entryOf(types, row));
+  if (info.shape === SHAPE.ARGUMENT_LIST) return rows(u32, "pdb_type_arguments").map(argument);
+  return undefined;
 }
 
 /** The fields of a list, and of the lists in which it continues, each below the one before it. */

@@ -74,11 +74,11 @@ export class Types {
     const records = this.#records;
     const definition = isNamed(records.code(index)) ? this.definition(index) : undefined;
     if (definition === undefined) return [index];
-    const found = [];
+    const found = new Set([index, definition]);
     this.#index().search(nameOf(this.name(index)), (place) => {
-      if (this.definition(records.first + place) === definition) found.push(records.first + place);
+      if (this.definition(records.first + place) === definition) found.add(records.first + place);
     });
-    return found;
+    return [...found];
   }
 
   #index() {
