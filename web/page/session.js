@@ -8,6 +8,8 @@ export class Session {
   #worker = new Worker(URL.createObjectURL(SCRIPT), { type: "module" });
   #waiting = new Map();
   #asked = 0;
+  /** Why the worker can't answer, if it can't be loaded. */
+  #failure;
 
   constructor() {
     this.#worker.addEventListener("message", ({ data: { number, answer, error } }) => {
@@ -17,13 +19,15 @@ export class Session {
       else reject(new Error(error));
     });
     this.#worker.addEventListener("error", (event) => {
-      for (const { reject } of this.#waiting.values()) reject(new Error(event.message || "The reader can't be loaded."));
+      this.#failure = new Error(event.message || "The reader can't be loaded.");
+      for (const { reject } of this.#waiting.values()) reject(this.#failure);
       this.#waiting.clear();
     });
   }
 
   /** Asks one of the questions of reader/worker.js. */
   ask(question, ...words) {
+    if (this.#failure) return Promise.reject(this.#failure);
     const number = this.#asked++;
     this.#worker.postMessage({ number, question, words });
     return new Promise((resolve, reject) => this.#waiting.set(number, { resolve, reject }));

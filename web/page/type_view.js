@@ -10,7 +10,7 @@ import { VirtualTable } from "./virtual_table.js";
 const ENTRY_COLUMNS = [
   { title: "Kind", width: "medium", cell: (row) => row.kind },
   { title: "Name", width: "code", cell: (row) => row.name },
-  { title: "Value", width: "medium", cell: (row) => row.value ?? "" },
+  { title: "Value or offset", width: "medium", cell: (row) => row.value ?? "" },
   { title: "Type", width: "code", cell: (row) => (row.type === undefined ? "" : typeLink(row.type, row.text)) },
 ];
 

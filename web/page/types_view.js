@@ -17,6 +17,7 @@ export class TypesView {
   #type = html("article", { "aria-label": "Chosen type" }, html("p", {}, "Choose a type in the list."));
   #table = new VirtualTable("Types", typeColumns, (row) => location.assign(typeAddress(row.index)));
   #choose = latest(() => this.#show());
+  #showType = latest((index) => showType(this.#session, index, this.#type));
 
   constructor(session) {
     this.#session = session;
@@ -26,7 +27,7 @@ export class TypesView {
   /** Shows the type whose index is behind the slash of the page's address. */
   select(address) {
     const index = numberOf(address);
-    if (index !== undefined) showType(this.#session, index, this.#type);
+    if (index !== undefined) this.#showType(index);
   }
 
   async #open() {

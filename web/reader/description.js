@@ -1,6 +1,6 @@
 // What a record says, for any kind of record.
 import { fieldKindName, isNamed, kindName, shapeOf, SHAPE } from "./kinds.js";
-import { Field, Row, u32 } from "./structures.js";
+import { Field, HAS, Row, u32 } from "./structures.js";
 
 /** The names in pdb_container.h of the indexes to which a record of a shape refers. */
 const REFERENCES = {
@@ -15,7 +15,6 @@ const REFERENCES = {
   [SHAPE.BITFIELD]: { typeIndex: "underlying type" },
   [SHAPE.FIELD_LIST]: { listIndex: "continuation" },
 };
-const HAS = { typeIndex: 16, secondIndex: 32, thirdIndex: 64, listIndex: 128 };
 
 /** What the record of an index says, beside its layout and its entries. */
 export function describe(types, index) {
@@ -65,9 +64,11 @@ function fieldsOf(types, first) {
   return fields.map((field) => entryOf(types, field.info, field.name));
 }
 
-/** An entry: its kind, its name, its value if it is an enumerator, its offset if it has one, and its type. */
+/** An entry: its kind, its name, the value of an enumerator or the offset of a member, and its type. */
 function entryOf(types, row, name = "") {
   const entry = { kind: fieldKindName(row), name };
-  if (row.shape === SHAPE.ENUMERATE) return { ...entry, value: row.kind ? BigInt.asIntN(64, row.number) : row.number };
-  return { ...entry, ...(row.has & HAS.typeIndex && { type: row.typeIndex, text: types.anyLabel(row.typeIndex) }) };
+  if (row.shape === SHAPE.ENUMERATE) entry.value = row.kind ? BigInt.asIntN(64, row.number) : row.number;
+  else if (row.has & HAS.number) entry.value = row.number;
+  if (row.has & HAS.typeIndex) Object.assign(entry, { type: row.typeIndex, text: types.anyLabel(row.typeIndex) });
+  return entry;
 }

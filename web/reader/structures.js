@@ -83,6 +83,9 @@ export const Row = structure({
   ...all(u32, "kind attributes properties count typeIndex secondIndex thirdIndex listIndex extra"),
 });
 
+/** The bits of `has`, which say which of these numbers a record has. */
+export const HAS = { typeIndex: 16, secondIndex: 32, thirdIndex: 64, listIndex: 128, number: 512 };
+
 export const Type = structure({ place: Record, fault: Fault, info: Row });
 
 export const Field = structure({ info: Row, nameLength: u64, hasName: u32 });
