@@ -45,7 +45,9 @@ export function classView(layout) {
     html("p", { class: "code" }, head(layout)),
     table.element,
     html("p", { class: "code" }, `};  ${totals(layout)}`),
-    html("p", {}, html("button", { type: "button", onclick: () => copy(layout, copied) }, "Copy layout as JSON"), " ", copied),
+    html("button", { type: "button", onclick: () => copy(layout, copied) }, "Copy layout as JSON"),
+    " ",
+    copied,
   );
 }
 

@@ -17,10 +17,17 @@ function referencesOf({ numbers = [] }) {
   ]);
 }
 
+const FLAGS = {
+  hasStructuredEh: "SEH",
+  hasCppEh: "C++ EH",
+  isFunctionStart: "function start",
+  usesBasePointer: "base pointer",
+};
+
 const flags = (row) =>
-  Object.entries({ SEH: row.hasStructuredEh, "C++ EH": row.hasCppEh, start: row.isFunctionStart, "base pointer": row.usesBasePointer })
-    .filter(([, isSet]) => isSet)
-    .map(([name]) => name)
+  Object.keys(FLAGS)
+    .filter((name) => row[name])
+    .map((name) => FLAGS[name])
     .join(", ");
 
 const IDS = [

@@ -41,7 +41,11 @@ export const Finding = structure({
 });
 
 export const Roles = structure(
-  all(u16, "fpo exception fixup omap_to_src omap_from_src section_headers token_rid_map xdata pdata framedata original_section_headers"),
+  all(
+    u16,
+    "fpo exception fixup omap_to_src omap_from_src section_headers token_rid_map xdata pdata framedata " +
+      "original_section_headers",
+  ),
 );
 
 export const NamedStream = structure({ nameLength: u64, number: u32 });
