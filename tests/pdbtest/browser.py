@@ -64,7 +64,11 @@ def value_of(remote):
 
 
 class Browser:
-    """A browser with one page. `file_control` is what the accessibility tree calls a control that chooses a file."""
+    """A browser with one page.
+
+    `schemes` are the color schemes that it can have, `file_control` is what its accessibility tree calls a control that
+    chooses a file, and `runs_in_workers` says whether it runs the test's code in a worker.
+    """
 
     def __init__(self, room):
         self.room = room / self.name
@@ -108,6 +112,11 @@ class Browser:
         if result["type"] != "success":
             raise Trouble(f"{self.name}: {code}: {result['exceptionDetails']['text']}")
         return value_of(result["result"])
+
+    def run_in_worker(self, code):
+        """The value of an expression in the worker of the page."""
+        realm = next(it["realm"] for it in self.bidi.call("script.getRealms")["realms"] if it["type"] == "dedicated-worker")
+        return value_of(self.bidi.call("script.evaluate", expression=code, target={"realm": realm}, awaitPromise=True)["result"])
 
     def until(self, code, *words):
         """Waits until an expression is true in the page, and returns its value."""
@@ -181,6 +190,7 @@ class Chromium(Browser):
     needs = ["chromium", "chromedriver"]
     schemes = ["light", "dark"]
     file_control = "{label}"
+    runs_in_workers = True
 
     def start(self):
         port = self.launch([tool("chromedriver"), "--port=0"], r"started successfully on port (\d+)")
@@ -217,6 +227,7 @@ class Firefox(Browser):
     needs = ["firefox-esr"]
     schemes = ["dark"]
     file_control = "{label} Browse… {file}"
+    runs_in_workers = False
     PREFERENCES = {
         "layout.css.prefers-color-scheme.content-override": 0,
         "app.normandy.enabled": False,

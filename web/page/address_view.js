@@ -3,14 +3,23 @@ import { html } from "./dom.js";
 import { failure } from "./failure.js";
 import { hexadecimal, numberOf } from "./texts.js";
 
+const ABOUT =
+  "Addresses are relative to the start of the image (RVA). " +
+  "The original image is the one that was linked; a tool may have rearranged it since.";
+/** The images, by the form of their addresses. The form after that is the one of a section and an offset. */
+const IMAGES = { 0: "the image as it is loaded", 2: "the original image" };
 /** The forms of an address, by their numbers in pdb_container.h. */
 const FORMS = ["address", "section and offset", "address in the original image", "section and offset in the original image"];
 
 export class AddressView {
   element;
   #session;
-  #form = html("select", { id: "address-form" }, ...FORMS.map((text, value) => html("option", { value }, text)));
-  #number = html("input", { id: "address", required: true, placeholder: "0x1008 or 1:0x8", autocomplete: "off", spellcheck: "false" });
+  #image = html(
+    "select",
+    { id: "address-image" },
+    ...Object.entries(IMAGES).map(([value, text]) => html("option", { value }, text)),
+  );
+  #number = html("input", { id: "address", required: true, placeholder: "0x1008 or 1:0x8", autocomplete: "off" });
   #result = html("div", { role: "status" });
 
   constructor(session) {
@@ -19,11 +28,11 @@ export class AddressView {
       "section",
       { "aria-labelledby": "address-heading" },
       html("h2", { id: "address-heading" }, "Address"),
-      html("p", {}, "A tool may have rearranged the image after it was linked. Addresses are relative to the start of the image (RVA)."),
+      html("p", {}, ABOUT),
       html(
         "form",
         { onsubmit: (event) => this.#submit(event) },
-        html("p", {}, html("label", { for: "address-form" }, "Given as"), this.#form),
+        html("p", {}, html("label", { for: "address-image" }, "In"), this.#image),
         html("p", {}, html("label", { for: "address" }, "Address, or section:offset"), this.#number),
         html("p", {}, html("button", {}, "Translate")),
       ),
@@ -34,14 +43,15 @@ export class AddressView {
   async #submit(event) {
     event.preventDefault();
     const parts = this.#number.value.split(":").map(numberOf);
-    const section = parts.length > 1 ? parts[0] : 0;
-    const offset = parts.at(-1);
+    const [section, offset] = parts.length > 1 ? parts : [0, parts[0]];
     if (parts.length > 2 || section === undefined || section > 0xffff || offset === undefined) {
-      this.#result.replaceChildren(failure(new Error("Give a number such as 4104 or 0x1008, or a section and an offset such as 1:0x8.")));
+      const wanted = "Give a number such as 4104 or 0x1008, or a section and an offset such as 1:0x8.";
+      this.#result.replaceChildren(failure(new Error(wanted)));
       return;
     }
-    const shown = await this.#session.ask("translate", Number(this.#form.value), section, offset).then(translationView, failure);
-    this.#result.replaceChildren(shown);
+    const form = Number(this.#image.value) + (parts.length - 1);
+    const found = this.#session.ask("translate", form, section, offset);
+    this.#result.replaceChildren(await found.then(translationView, failure));
   }
 }
 

@@ -15,11 +15,12 @@ export function bar(size, streams) {
     const rect = svg("rect", { x, width: (bytes / size) * WIDTH, height: HEIGHT });
     return svg("g", { class: `box hue-${place}` }, svg("title", {}, text), rect);
   });
-  const label = "Bytes of the largest streams, listed below";
+  const view = { viewBox: `0 0 ${WIDTH} ${HEIGHT}`, preserveAspectRatio: "none" };
+  const label = { role: "img", "aria-label": "Bytes of the largest streams, listed below" };
   return html(
     "div",
     {},
-    svg("svg", { class: "bar", viewBox: `0 0 ${WIDTH} ${HEIGHT}`, preserveAspectRatio: "none", role: "img", "aria-label": label }, ...boxes),
+    svg("svg", { class: "bar", ...view, ...label }, ...boxes),
     html("ul", { class: "legend" }, ...parts.map((part, place) => legend(part, place, size))),
   );
 }
@@ -29,7 +30,8 @@ function partsOf(size, streams) {
   const named = found.slice(0, PARTS).map((stream) => ({ text: textOf(stream), bytes: stream.size }));
   const others = sum(found.slice(PARTS));
   const rest = size - sum(found);
-  return [...named, { text: "other streams", bytes: others }, { text: "directory and unused pages", bytes: rest }].filter(({ bytes }) => bytes > 0);
+  const all = [...named, { text: "other streams", bytes: others }, { text: "directory and unused pages", bytes: rest }];
+  return all.filter(({ bytes }) => bytes > 0);
 }
 
 const sum = (streams) => streams.reduce((total, stream) => total + stream.size, 0);
@@ -38,6 +40,7 @@ const textOf = ({ number, role, name }) => [`stream ${number}`, role || name].fi
 
 function legend({ text, bytes }, place, size) {
   const share = ((100 * bytes) / size).toFixed(1);
-  const swatch = svg("svg", { class: "swatch", viewBox: "0 0 10 10", "aria-hidden": "true" }, svg("g", { class: `box hue-${place}` }, svg("rect", { width: 10, height: 10 })));
+  const square = svg("g", { class: `box hue-${place}` }, svg("rect", { width: 10, height: 10 }));
+  const swatch = svg("svg", { class: "swatch", viewBox: "0 0 10 10", "aria-hidden": "true" }, square);
   return html("li", {}, swatch, `${text}, ${decimal(bytes)} bytes (${share} %)`);
 }

@@ -6,6 +6,8 @@ import { hexadecimal, plural } from "./texts.js";
 import { VirtualTable } from "./virtual_table.js";
 
 const TEXTS = {
+  member: (row) => [...linkedDeclaration(row), ";"],
+  base: (row) => [...linkedDeclaration(row), ";  // base"],
   hole: () => "// hole",
   unused_bits: (row) => `// ${plural(row.bits, "bit")} unused`,
   virtual_bases: () => "// virtual bases and padding",
@@ -14,12 +16,19 @@ const TEXTS = {
 };
 
 const COLUMNS = [
-  { title: "Offset", width: "shorter", cell: (row) => hexadecimal(row.offset, 3) + (row.bit === undefined ? "" : `:${row.bit}`) },
-  { title: "Size", width: "shorter", cell: (row) => (row.bits === undefined ? sizeOf(row) : plural(row.bits, "bit")) },
-  { title: "Member", width: "code", cell: (row) => TEXTS[row.kind]?.(row) ?? [...linkedDeclaration(row), row.kind === "base" ? ";  // base" : ";"] },
+  { title: "Offset", width: "shorter", cell: offsetOf },
+  { title: "Size", width: "shorter", cell: sizeOf },
+  { title: "Member", width: "code", cell: (row) => TEXTS[row.kind](row) },
 ];
 
-const sizeOf = (row) => (row.size === undefined ? "?" : hexadecimal(row.size, 2));
+function offsetOf({ offset, bit }) {
+  return hexadecimal(offset, 3) + (bit === undefined ? "" : `:${bit}`);
+}
+
+function sizeOf({ size, bits }) {
+  if (bits !== undefined) return plural(bits, "bit");
+  return size === undefined ? "?" : hexadecimal(size, 2);
+}
 
 const isGap = (row) => row.declaration === undefined;
 
@@ -29,14 +38,16 @@ export function classView(layout) {
   const copied = html("span", { role: "status" });
   return html(
     "div",
-    { class: "class" },
+    {},
     html("h4", {}, "Bytes"),
     drawing(layout) ?? html("p", {}, "There is no drawing of a class without bytes, or with more than 500 members."),
     html("h4", {}, "Declaration"),
     html("p", { class: "code" }, head(layout)),
     table.element,
     html("p", { class: "code" }, `};  ${totals(layout)}`),
-    html("p", {}, html("button", { type: "button", onclick: () => copy(layout, copied) }, "Copy layout as JSON"), " ", copied),
+    html("button", { type: "button", onclick: () => copy(layout, copied) }, "Copy layout as JSON"),
+    " ",
+    copied,
   );
 }
 
@@ -58,7 +69,8 @@ function totals({ holes, hole_bytes, unused_bits }) {
 async function copy(layout, copied) {
   const rows = layout.rows.map(({ link, base, ...row }) => row);
   // A number of 64 bits may be too large for a number of JavaScript.
-  const text = JSON.stringify({ ...layout, rows }, (_, value) => (typeof value === "bigint" ? JSON.rawJSON(value) : value));
+  const exact = (_, value) => (typeof value === "bigint" ? JSON.rawJSON(value) : value);
+  const text = JSON.stringify({ ...layout, rows }, exact);
   try {
     await navigator.clipboard.writeText(text);
     copied.textContent = "Copied.";

@@ -18,7 +18,12 @@ export function drawing(layout) {
   const grid = gridOf(size, lanes);
   return svg(
     "svg",
-    { class: "bytes", viewBox: `0 0 ${MARGIN + WIDTH} ${grid.lines * grid.lineHeight}`, role: "img", "aria-label": `The bytes of ${layout.name}` },
+    {
+      class: "bytes",
+      viewBox: `0 0 ${MARGIN + WIDTH} ${grid.lines * grid.lineHeight}`,
+      role: "img",
+      "aria-label": `The bytes of ${layout.name}`,
+    },
     hatch(),
     ...Array.from({ length: grid.lines }, (_, line) => offsetOf(grid, line)),
     ...boxes.map((box, place) => drawn(grid, box, place)),
@@ -30,8 +35,10 @@ function boxOf(row) {
   const start = Number(row.offset) * 8 + (row.bit ?? 0);
   const bits = row.bits ?? Number(row.size ?? 1n) * 8;
   const isGap = row.declaration === undefined;
-  return bits > 0 && { start, end: start + bits, isGap, name: isGap ? "" : (row.name ?? row.type), text: textOf(row) };
+  return bits > 0 && { start, end: start + bits, isGap, name: isGap ? "" : nameOf(row), text: textOf(row) };
 }
+
+const nameOf = (row) => (row.kind === "base" ? row.type : (row.name ?? row.kind));
 
 function textOf(row) {
   const extent = row.bits === undefined ? `${row.size ?? "unknown"} bytes` : `${row.bits} bits from bit ${row.bit}`;

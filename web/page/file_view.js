@@ -47,7 +47,7 @@ export class FileView {
   async #identity(size, format) {
     const pageSize = await this.#session.ask("pageSize").catch(() => undefined);
     const pages = pageSize && `${decimal(size / pageSize)} of ${decimal(pageSize)} bytes`;
-    const rows = [["Format", format], ["Size", plural(size, "byte")], ["Pages", pages]]; // prettier-ignore
+    const rows = [["Format", format], ["Size", plural(size, "byte")], ["Pages", pages]];
     const identity = await this.#session.ask("identity").catch(() => ({}));
     rows.push(["Key", identity.key], ["GUID", identity.guid], ["Age", identity.age], ["Machine", machineOf(identity)]);
     const given = rows.filter(([, value]) => value !== undefined);

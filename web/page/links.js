@@ -13,7 +13,6 @@ export function typeLink(index, text = hexadecimal(index)) {
 
 /** The declaration of a member, in which the name of its type is a link. */
 export function linkedDeclaration({ declaration, link }) {
-  if (!link) return [declaration];
   const [before, ...after] = declaration.split(link.text);
   return [before, typeLink(link.index, link.text), after.join(link.text)];
 }

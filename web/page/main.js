@@ -28,10 +28,8 @@ async function open(opened) {
   at("parts").hidden = true;
   at("view").replaceChildren();
   at("status").textContent = `Reading ${opened.name}, ${decimal(opened.size)} bytes…`;
-  performance.mark("opened");
   try {
     const format = await asked.ask("open", opened);
-    performance.mark("read");
     if (asked !== session) return;
     file = { name: opened.name, size: opened.size, format };
     at("status").textContent = `${opened.name} is open.`;

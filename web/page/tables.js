@@ -17,57 +17,63 @@ function referencesOf({ numbers = [] }) {
   ]);
 }
 
-const OMAP = [hex("From address", "source"), column("To address", "medium", (row) => (row.target ? hexadecimal(row.target) : "nowhere"))];
+const FLAGS = {
+  hasStructuredEh: "SEH",
+  hasCppEh: "C++ EH",
+  isFunctionStart: "function start",
+  usesBasePointer: "base pointer",
+};
 
 const flags = (row) =>
-  [[row.hasStructuredEh, "SEH"], [row.hasCppEh, "C++ EH"], [row.isFunctionStart, "function start"], [row.usesBasePointer, "uses base pointer"]]
-    .filter(([isSet]) => isSet)
-    .map(([, name]) => name)
-    .join(", "); // prettier-ignore
+  Object.keys(FLAGS)
+    .filter((name) => row[name])
+    .map((name) => FLAGS[name])
+    .join(", ");
+
+const IDS = [
+  hex("Index", "index"),
+  text("Kind", "kind", "wide"),
+  column("Name", "code", (row) => row.problem ?? row.name),
+  column("Refers to", "code", referencesOf),
+];
+
+const SECTIONS = [
+  text("Section", "number", "short number"),
+  text("Name", "name", "medium"),
+  hex("Address", "virtualAddress"),
+  hex("Size", "virtualSize"),
+  hex("File offset", "pointerToRawData", "medium"),
+  hex("Size in file", "sizeOfRawData", "medium"),
+  hex("Characteristics", "characteristics", "medium"),
+];
+
+const OMAP = [
+  hex("From address", "source", "medium"),
+  column("To address", "medium", (row) => (row.target ? hexadecimal(row.target) : "nowhere")),
+];
+
+const FRAMES = [
+  hex("Start", "codeStart"),
+  hex("Size", "codeSize"),
+  text("Kind", "kind", "short"),
+  hex("Locals", "localsSize"),
+  hex("Params", "paramsSize"),
+  hex("Prolog", "prologSize"),
+  hex("Regs", "savedRegsSize"),
+  column("Flags", "medium", flags),
+  text("Program", "program", "code"),
+];
 
 /** Each view has a title and tables; each table has a label, the name by which the worker knows it, and its columns. */
 export const TABLES = {
-  ids: {
-    title: "Ids",
-    tables: [
-      ["Ids", "ids", [hex("Index", "index"), text("Kind", "kind", "wide"), column("Name", "code", (row) => row.problem ?? row.name), column("Refers to", "code", referencesOf)]],
-    ],
-  },
+  ids: { title: "Ids", tables: [["Ids", "ids", IDS]] },
   names: { title: "Names", tables: [["Names", "names", [hex("Offset", "offset"), text("Name", "name", "code")]]] },
-  sections: {
-    title: "Sections",
-    tables: [
-      [
-        "Sections",
-        "sections",
-        [
-          text("Section", "number", "short number"), text("Name", "name", "medium"), hex("Address", "virtualAddress"), hex("Size", "virtualSize"),
-          hex("File offset", "pointerToRawData", "medium"), hex("Size in file", "sizeOfRawData", "medium"),
-          hex("Characteristics", "characteristics", "medium"),
-        ], // prettier-ignore
-      ],
-    ],
-  },
+  sections: { title: "Sections", tables: [["Sections", "sections", SECTIONS]] },
   omap: {
     title: "OMAP",
-    tables: [
-      ["To the original image", "omapToSource", OMAP],
-      ["From the original image", "omapFromSource", OMAP],
-    ],
+    tables: [["To the original image", "omapToSource", OMAP], ["From the original image", "omapFromSource", OMAP]],
   },
-  frames: {
-    title: "Frames",
-    tables: [
-      [
-        "Frames",
-        "frames",
-        [
-          hex("Start", "codeStart"), hex("Size", "codeSize"), text("Kind", "kind", "short"), hex("Locals", "localsSize"), hex("Parameters", "paramsSize"),
-          hex("Prolog", "prologSize"), hex("Registers", "savedRegsSize"), column("Flags", "medium", flags), text("Program", "program", "code"),
-        ], // prettier-ignore
-      ],
-    ],
-  },
+  frames: { title: "Frames", tables: [["Frames", "frames", FRAMES]] },
 };
 
 /** The view of some of these tables. A table that the file lacks, or that is damaged, says so. */
@@ -92,5 +98,6 @@ async function tableView(session, label, name, columns) {
   const table = new VirtualTable(label, columns);
   table.show({ length, slice: (from, to) => session.ask("rows", name, from, to) });
   const count = html("p", { role: "status" }, `${label}: ${plural(length, "row")}`);
-  return problem ? [failure(new Error(`The table can't be read to its end: ${problem}`)), count, table.element] : [count, table.element];
+  const stopped = problem ? [failure(new Error(`The table can't be read to its end: ${problem}`))] : [];
+  return [...stopped, count, table.element];
 }

@@ -10,7 +10,7 @@ import { VirtualTable } from "./virtual_table.js";
 const ENTRY_COLUMNS = [
   { title: "Kind", width: "medium", cell: (row) => row.kind },
   { title: "Name", width: "code", cell: (row) => row.name },
-  { title: "Value", width: "medium", cell: (row) => row.value ?? "" },
+  { title: "Value or offset", width: "medium", cell: (row) => row.value ?? "" },
   { title: "Type", width: "code", cell: (row) => (row.type === undefined ? "" : typeLink(row.type, row.text)) },
 ];
 
@@ -19,14 +19,13 @@ export async function showType(session, index, element) {
   const heading = html("h3", { tabindex: -1 }, hexadecimal(index));
   element.replaceChildren(heading);
   heading.focus();
-  const parts = [["type", (type) => facts(type, heading)], ["layout", classView], ["entries", entriesView]]; // prettier-ignore
+  const parts = [["type", (type) => facts(type, heading)], ["layout", classView], ["entries", entriesView]];
   for (const [question, view] of parts) {
     const part = await session.ask(question, index).then((answer) => answer && view(answer), failure);
     if (part) element.append(part);
   }
   element.append(users(session, index));
   element.dataset.shown = hexadecimal(index);
-  performance.mark("type shown");
 }
 
 function facts(type, heading) {

@@ -11,12 +11,13 @@ import { VirtualTable } from "./virtual_table.js";
 export class TypesView {
   element = html("section", { "aria-labelledby": "types-heading" }, html("h2", { id: "types-heading" }, "Types"));
   #session;
-  #text = html("input", { id: "type-name", type: "search", placeholder: "std::* or Point or 0x1026", autocomplete: "off", spellcheck: "false" });
+  #text = html("input", { id: "type-name", type: "search", placeholder: "std::* or Point or 0x1026", autocomplete: "off" });
   #group = html("select", { id: "type-kind" });
   #count = html("p", { role: "status" });
   #type = html("article", { "aria-label": "Chosen type" }, html("p", {}, "Choose a type in the list."));
   #table = new VirtualTable("Types", typeColumns, (row) => location.assign(typeAddress(row.index)));
   #choose = latest(() => this.#show());
+  #showType = latest((index) => showType(this.#session, index, this.#type));
 
   constructor(session) {
     this.#session = session;
@@ -26,7 +27,7 @@ export class TypesView {
   /** Shows the type whose index is behind the slash of the page's address. */
   select(address) {
     const index = numberOf(address);
-    if (index !== undefined) showType(this.#session, index, this.#type);
+    if (index !== undefined) this.#showType(index);
   }
 
   async #open() {

@@ -19,6 +19,7 @@ export class VirtualTable {
   /** The row that keys move to and from, and the one that was opened. */
   #active = 0;
   #opened;
+  /** The first visible row, and where that leaves the scroll bar. */
   #first = 0;
   #scrolledTo = 0;
   #head;
@@ -41,7 +42,7 @@ export class VirtualTable {
       this.#body,
     );
     this.#table.style.minWidth = `${COLUMN_LEAST * columns.length}rem`;
-    this.#sizer = html("div", { class: "sizer" }, this.#table);
+    this.#sizer = html("div", {}, this.#table);
     this.element = html("div", { class: "scroller", tabindex: -1, onscroll: () => this.#scrolled() }, this.#sizer);
     new ResizeObserver(() => this.#resized()).observe(this.element);
   }
@@ -112,7 +113,8 @@ export class VirtualTable {
     const isActive = place === this.#active;
     const cells = this.#columns.map(({ cell, width }) => {
       const content = [cell(row) ?? ""].flat();
-      const made = html("td", { role: "gridcell", class: width }, ...content.map((it) => (it instanceof Node ? it : String(it))));
+      const nodes = content.map((it) => (it instanceof Node ? it : String(it)));
+      const made = html("td", { role: "gridcell", class: width }, ...nodes);
       made.title = made.textContent;
       for (const link of made.querySelectorAll("a")) link.tabIndex = isActive ? 0 : -1;
       return made;

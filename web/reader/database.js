@@ -102,8 +102,10 @@ export class Database {
       role: FIXED_ROLES[number] ?? "",
       name: "",
     }));
-    for (const [role, number] of Object.entries(orEmpty(() => this.#roles(), {}))) if (rows[number]) rows[number].role ||= role;
-    for (const { name, number } of orEmpty(() => this.#namedStreams(), [])) if (rows[number]) rows[number].name ||= name;
+    const roles = orEmpty(() => this.#roles(), {});
+    for (const [role, number] of Object.entries(roles)) if (rows[number]) rows[number].role ||= role;
+    const named = orEmpty(() => this.#namedStreams(), []);
+    for (const { name, number } of named) if (rows[number]) rows[number].name ||= name;
     return rows;
   }
 

@@ -1,6 +1,6 @@
 // What a record says, for any kind of record.
 import { fieldKindName, isNamed, kindName, shapeOf, SHAPE } from "./kinds.js";
-import { Field, Row, u32 } from "./structures.js";
+import { Field, HAS, Row, u32 } from "./structures.js";
 
 /** The names in pdb_container.h of the indexes to which a record of a shape refers. */
 const REFERENCES = {
@@ -15,7 +15,6 @@ const REFERENCES = {
   [SHAPE.BITFIELD]: { typeIndex: "underlying type" },
   [SHAPE.FIELD_LIST]: { listIndex: "continuation" },
 };
-const HAS = { typeIndex: 16, secondIndex: 32, thirdIndex: 64, listIndex: 128 };
 
 /** What the record of an index says, beside its layout and its entries. */
 export function describe(types, index) {
@@ -45,13 +44,12 @@ export function entriesOf(types, index) {
   const info = types.info(index);
   if (info.shape === SHAPE.ENUMERATION) return fieldsOf(types, info.listIndex);
   const words = [...types.records.record(index), index];
-  const read = {
-    [SHAPE.FIELD_LIST]: () => fieldsOf(types, index),
-    [SHAPE.METHOD_LIST]: () => types.native.rows(Row, "pdb_type_methods", ...words).slice().map((row) => entryOf(types, row)),
-    [SHAPE.ARGUMENT_LIST]: () =>
-      types.native.rows(u32, "pdb_type_arguments", ...words).slice().map((type) => ({ kind: "argument", type, text: types.anyLabel(type) })),
-  };
-  return read[info.shape]?.();
+  const rows = (type, call) => types.native.rows(type, call, ...words).slice();
+  const argument = (type) => ({ kind: "argument", type, text: types.anyLabel(type) });
+  if (info.shape === SHAPE.FIELD_LIST) return fieldsOf(types, index);
+  if (info.shape === SHAPE.METHOD_LIST) return rows(Row, "pdb_type_methods").map((row) => entryOf(types, row));
+  if (info.shape === SHAPE.ARGUMENT_LIST) return rows(u32, "pdb_type_arguments").map(argument);
+  return undefined;
 }
 
 /** The fields of a list, and of the lists in which it continues, each below the one before it. */
@@ -66,9 +64,11 @@ function fieldsOf(types, first) {
   return fields.map((field) => entryOf(types, field.info, field.name));
 }
 
-/** An entry: its kind, its name, its value if it is an enumerator, its offset if it has one, and its type. */
+/** An entry: its kind, its name, the value of an enumerator or the offset of a member, and its type. */
 function entryOf(types, row, name = "") {
   const entry = { kind: fieldKindName(row), name };
-  if (row.shape === SHAPE.ENUMERATE) return { ...entry, value: row.kind ? BigInt.asIntN(64, row.number) : row.number };
-  return { ...entry, ...(row.has & HAS.typeIndex && { type: row.typeIndex, text: types.anyLabel(row.typeIndex) }) };
+  if (row.shape === SHAPE.ENUMERATE) entry.value = row.kind ? BigInt.asIntN(64, row.number) : row.number;
+  else if (row.has & HAS.number) entry.value = row.number;
+  if (row.has & HAS.typeIndex) Object.assign(entry, { type: row.typeIndex, text: types.anyLabel(row.typeIndex) });
+  return entry;
 }

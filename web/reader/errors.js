@@ -1,6 +1,6 @@
 // The texts of errors for those that the library has no text for.
 
-const IO_ERROR = 7, OUT_OF_MEMORY = 28; // prettier-ignore
+const IO_ERROR = 7, OUT_OF_MEMORY = 28;
 export const NO_MEMORY = "There is not enough memory for this file.";
 const TEXTS = { [IO_ERROR]: "the file ends too soon, or there is not enough memory", [OUT_OF_MEMORY]: NO_MEMORY };
 

@@ -4,7 +4,7 @@ import { Finding } from "./structures.js";
 const PARTS = [
   "header", "directory", "sizes", "stream", "stream names", "string table", "stream roles", "types", "ids",
   "section headers", "original section headers", "OMAP to source", "OMAP from source", "old frames", "new frames",
-]; // prettier-ignore
+];
 
 const hexadecimal = (number) => `0x${number.toString(16)}`;
 

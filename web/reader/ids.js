@@ -2,10 +2,8 @@
 import { textOf } from "./errors.js";
 import { idKindName, ID } from "./kinds.js";
 import { Records } from "./records.js";
-import { Row, u32 } from "./structures.js";
+import { HAS, Row, u32 } from "./structures.js";
 
-/** The bits of `has`, each with its number of structure pdb_row. */
-const HAS = { typeIndex: 16, secondIndex: 32, thirdIndex: 64, listIndex: 128 };
 /** What the numbers of an id of a shape are: an index of a table, or a number alone. */
 const NUMBERS = {
   [ID.FUNCTION]: { typeIndex: "type", secondIndex: "scope" },

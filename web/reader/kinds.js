@@ -1,9 +1,11 @@
 // The kinds of records: their numbers in pdb_container.h, their names, and the groups among which one chooses.
+import { HAS } from "./structures.js";
 
 export const SHAPE = {
-  CLASS: 1, MEMBER_FUNCTION: 3, PROCEDURE: 11, POINTER: 12, MODIFIER: 13, ENUMERATION: 14, ENUMERATE: 15, ARRAY: 16, UNION: 17,
-  BITFIELD: 18, FIELD_LIST: 19, ARGUMENT_LIST: 20, METHOD_LIST: 21, VIRTUAL_TABLE_SHAPE: 22, UNREAD: 31,
-}; // prettier-ignore
+  CLASS: 1, MEMBER_FUNCTION: 3, BASE_CLASS: 8, VIRTUAL_BASE_CLASS: 9, PROCEDURE: 11, POINTER: 12, MODIFIER: 13,
+  ENUMERATION: 14, ENUMERATE: 15, ARRAY: 16, UNION: 17, BITFIELD: 18, FIELD_LIST: 19, ARGUMENT_LIST: 20,
+  METHOD_LIST: 21, VIRTUAL_TABLE_SHAPE: 22, UNREAD: 31,
+};
 const FORWARD_REFERENCE = 0x80;
 
 const CLASSES = ["CLASS", "STRUCTURE", "INTERFACE"];
@@ -12,7 +14,7 @@ const NAMES = [
   "NULL", "CLASS", "MEMBER", "MFUNCTION", "METHOD", "ONEMETHOD", "STMEMBER", "NESTTYPE", "BCLASS", "VBCLASS", "VFUNCTAB",
   "PROCEDURE", "POINTER", "MODIFIER", "ENUM", "ENUMERATE", "ARRAY", "UNION", "BITFIELD", "FIELDLIST", "ARGLIST",
   "METHODLIST", "VTSHAPE",
-]; // prettier-ignore
+];
 export const ID = { FUNCTION: 0, MEMBER_FUNCTION: 1, BUILD_INFO: 2, STRING_LIST: 3, STRING: 4, TYPE_SOURCE: 5 };
 const ID_NAMES = ["FUNC_ID", "MFUNC_ID", "BUILDINFO", "SUBSTR_LIST", "STRING_ID", "UDT_SRC_LINE"];
 
@@ -36,14 +38,16 @@ const shapeName = (shape, kind) => `LF_${shape === SHAPE.CLASS ? CLASSES[kind & 
 /** The name of a record's kind in cvinfo.h. */
 export const kindName = (code) => (shapeOf(code) === SHAPE.UNREAD ? "not read" : shapeName(shapeOf(code), code >> 5));
 
-/** The name of a field's kind. */
-export const fieldKindName = (field) => shapeName(field.shape, field.kind);
-
-const HAS_MODULE = 64;
+/** The name of a field's kind. An indirect virtual base class has one of its own, and so has an interface as a base. */
+export function fieldKindName({ shape, kind }) {
+  if (shape === SHAPE.VIRTUAL_BASE_CLASS && !kind) return "LF_IVBCLASS";
+  if (shape === SHAPE.BASE_CLASS && CLASSES[kind] === "INTERFACE") return "LF_BINTERFACE";
+  return shapeName(shape, kind);
+}
 
 /** The name of an id's kind. The source line of a type has another kind if it names a module. */
 export function idKindName({ shape, has }) {
-  return shape === ID.TYPE_SOURCE && has & HAS_MODULE ? "LF_UDT_MOD_SRC_LINE" : `LF_${ID_NAMES[shape]}`;
+  return shape === ID.TYPE_SOURCE && has & HAS.thirdIndex ? "LF_UDT_MOD_SRC_LINE" : `LF_${ID_NAMES[shape]}`;
 }
 
 /** What C++ calls a class or a union. */

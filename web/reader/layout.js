@@ -1,11 +1,10 @@
 // The layout of a class, as the object that `pdbdump layout --json` prints.
 import { classWord, isNamed, shapeOf, SHAPE } from "./kinds.js";
 import { LayoutRow } from "./structures.js";
-import { FIRST_RECORD } from "./types.js";
 
 const KINDS = ["base", "vbptr", "vfptr", "member", "hole", "unused_bits", "virtual_bases"];
-const VBPTR = 1, MEMBER = 3, HOLE = 4;
-const BYTES = 0, BITS = 1;
+const [VBPTR, MEMBER, HOLE] = [1, 3, 4];
+const [BYTES, BITS] = [0, 1];
 /** How many types are followed from a member's to the class that it is made of. */
 const MOST_STEPS = 16;
 
@@ -75,5 +74,5 @@ function linkOf(types, index, declaration) {
     const text = types.text(named);
     if (declaration.includes(text)) return { index: types.definition(named) ?? named, text };
   }
-  return index >= FIRST_RECORD ? { index, text: declaration } : undefined;
+  return { index, text: declaration };
 }

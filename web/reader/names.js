@@ -14,7 +14,9 @@ export class Names {
     this.handle = native.opened("pdb_names_open", stream.at, stream.length);
     const { library } = native;
     library.with(Name.size + 12, (place) => {
-      for (let offset = 0; this.#isAt(offset, place); offset += Number(library.long(place + 8n)) + 1) this.#offsets.push(offset);
+      for (let offset = 0; this.#isAt(offset, place); offset += Number(library.long(place + 8n)) + 1) {
+        this.#offsets.push(offset);
+      }
     });
   }
 

@@ -7,10 +7,10 @@ const TOO_SMALL = 102;
 const ABSENT = [4, 5, 106, 107];
 const HANDLE_SIZE = 32;
 const NO_LIMIT = 2n ** 64n - 1n;
-const decoder = new TextDecoder();
+const decoder = new TextDecoder("utf-8", { ignoreBOM: true });
 
 /** An array of structures, each read when it is asked for. */
-export class Rows {
+class Rows {
   #type;
   #view;
 
@@ -134,8 +134,8 @@ export class Native {
   stream(handle, file, number) {
     const { library } = this;
     return library.with(8, (length) => {
-      const ask = (room, size) =>
-        library.call("pdb_bytes_stream", [handle, file.at, file.length, number, NO_LIMIT, room, size, length], [TOO_SMALL, ...ABSENT]);
+      const words = [handle, file.at, file.length, number, NO_LIMIT];
+      const ask = (room, size) => library.call("pdb_bytes_stream", [...words, room, size, length], [TOO_SMALL, ...ABSENT]);
       if (ABSENT.includes(ask(0n, 0n))) return undefined;
       const stream = { at: library.room(library.long(length)), length: library.long(length) };
       if (stream.length) ask(stream.at, stream.length);

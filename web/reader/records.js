@@ -3,11 +3,11 @@ import { textOf } from "./errors.js";
 import { codeOf } from "./kinds.js";
 import { Type, u32 } from "./structures.js";
 
-const OK = 0, END = 105; // prettier-ignore
+const OK = 0, END = 105;
 const BATCH = 4096;
 /** The words of structure pdb_type: their number, and where those are that a table keeps. */
 const WORDS = Type.size / 4;
-const OFFSET = 1, LENGTH = 2, STATUS = 3, SHAPE = 6, KIND = 10, PROPERTIES = 12; // prettier-ignore
+const OFFSET = 1, LENGTH = 2, STATUS = 3, SHAPE = 6, KIND = 10, PROPERTIES = 12;
 
 const grown = (array, length) => {
   if (length <= array.length) return array;

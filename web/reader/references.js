@@ -8,7 +8,7 @@ const ROOM = (RECORD_MOST / 8) * Field.size;
 const wordsOf = (type) => type.size / 4;
 const INFO = wordsOf(Type) - wordsOf(Row);
 /** Bits of `has` in structure pdb_row, each with the word that it announces. */
-const INDEXES = [[16, 8], [32, 9], [64, 10], [128, 11]]; // prettier-ignore
+const INDEXES = [[16, 8], [32, 9], [64, 10], [128, 11]];
 
 export class References {
   /** The references of the record at a place are those from starts[place] up to starts[place + 1]. */
@@ -55,7 +55,9 @@ export class References {
   #addList(shape, index, room) {
     const { calls } = this.types.native.library;
     const record = [...this.types.records.record(index), index];
-    const names = room + BigInt(ROOM), count = names + BigInt(RECORD_MOST), size = count + 8n, fault = size + 8n; // prettier-ignore
+    const names = room + BigInt(ROOM);
+    const count = names + BigInt(RECORD_MOST);
+    const [size, fault] = [count + 8n, count + 16n];
     const most = (type) => BigInt(Math.floor(ROOM / type.size));
     if (shape === SHAPE.FIELD_LIST) {
       const status = calls.pdb_type_fields(...record, room, most(Field), count, names, BigInt(RECORD_MOST), size, fault);
@@ -95,7 +97,9 @@ export class References {
 
   #refersTo(place, reaches) {
     const { first } = this.types.records;
-    for (let at = this.#starts[place]; at < this.#starts[place + 1]; at++) if (reaches[this.#targets[at] - first]) return true;
+    for (let at = this.#starts[place]; at < this.#starts[place + 1]; at++) {
+      if (reaches[this.#targets[at] - first]) return true;
+    }
     return false;
   }
 }

@@ -2,6 +2,7 @@
 
 const CAPACITY = 4 << 20;
 const LONGEST = 0x10000;
+const decoder = new TextDecoder("utf-8", { ignoreBOM: true });
 
 const escaped = (text) => text.replace(/[\\^$.*+?()[\]{}|/]/g, "\\$&");
 const whole = (signs) => `(?<![^\\0])${signs}(?![^\\0])`;
@@ -32,7 +33,7 @@ export class NameIndex {
           this.#end(library.bytes(room, CAPACITY), used, used + length);
           used += length + 1;
         }
-        this.#add(first, new TextDecoder().decode(library.bytes(room, used)));
+        this.#add(first, decoder.decode(library.bytes(room, used)));
       }
     });
   }
@@ -43,6 +44,7 @@ export class NameIndex {
     for (let at = bytes.indexOf(0, start); at < end; at = bytes.indexOf(0, at)) bytes[at] = 0x20;
   }
 
+  /** Adds a chunk. Its last start is its end, behind the last NUL. */
   #add(first, text) {
     const lengths = text.split("\0").map((name) => name.length + 1);
     const starts = new Uint32Array(lengths.length);
@@ -55,8 +57,9 @@ export class NameIndex {
     for (const chunk of this.#chunks) {
       let record = 0;
       pattern.lastIndex = 0;
-      for (let match = pattern.exec(chunk.text); match && match[0]; match = pattern.exec(chunk.text)) {
+      for (let match = pattern.exec(chunk.text); match; match = pattern.exec(chunk.text)) {
         record = lastAtOrBelow(chunk.starts, match.index, record);
+        if (record === chunk.starts.length - 1) break;
         found(chunk.first + record);
         pattern.lastIndex = chunk.starts[record + 1];
       }

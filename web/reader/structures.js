@@ -41,7 +41,11 @@ export const Finding = structure({
 });
 
 export const Roles = structure(
-  all(u16, "fpo exception fixup omap_to_src omap_from_src section_headers token_rid_map xdata pdata framedata original_section_headers"),
+  all(
+    u16,
+    "fpo exception fixup omap_to_src omap_from_src section_headers token_rid_map xdata pdata framedata " +
+      "original_section_headers",
+  ),
 );
 
 export const NamedStream = structure({ nameLength: u64, number: u32 });
@@ -82,6 +86,9 @@ export const Row = structure({
   number: u64,
   ...all(u32, "kind attributes properties count typeIndex secondIndex thirdIndex listIndex extra"),
 });
+
+/** The bits of `has`, which say which of these numbers a record has. */
+export const HAS = { typeIndex: 16, secondIndex: 32, thirdIndex: 64, listIndex: 128, number: 512 };
 
 export const Type = structure({ place: Record, fault: Fault, info: Row });
 

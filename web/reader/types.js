@@ -5,32 +5,25 @@ import { Records } from "./records.js";
 import { nameOf, NameIndex, patternOf } from "./search.js";
 import { Row, u32, u64 } from "./structures.js";
 
-export const FIRST_RECORD = 0x1000;
-
 export class Types {
-  #records;
   #names;
   #definitions;
   #chosen = new Uint32Array();
 
   constructor(native, stream) {
     this.native = native;
-    this.#records = new Records(native, stream);
-  }
-
-  get records() {
-    return this.#records;
+    this.records = new Records(native, stream);
   }
 
   /** Why the table can't be read to its end, if it can't. */
   get problem() {
-    return this.#records.problem;
+    return this.records.problem;
   }
 
   /** How many records each group has. */
   groups() {
     const counts = new Uint32Array(256);
-    for (let place = 0; place < this.#records.length; place++) counts[this.#records.codeAt(place)]++;
+    for (let place = 0; place < this.records.length; place++) counts[this.records.codeAt(place)]++;
     return Object.entries(GROUPS).map(([name, has]) => ({
       name,
       count: counts.reduce((sum, count, code) => (has(code) ? sum + count : sum), 0),
@@ -40,11 +33,11 @@ export class Types {
   /** Chooses the records of a group whose names match a text, or all if it is empty. */
   choose(group, text) {
     const isIn = Uint8Array.from({ length: 256 }, (_, code) => GROUPS[group](code));
-    const { length } = this.#records;
+    const { length } = this.records;
     const chosen = new Uint32Array(length);
     let count = 0;
     const add = (place) => {
-      if (isIn[this.#records.codeAt(place)]) chosen[count++] = place;
+      if (isIn[this.records.codeAt(place)]) chosen[count++] = place;
     };
     if (text) this.#index().search(patternOf(text), add);
     else for (let place = 0; place < length; place++) add(place);
@@ -56,11 +49,11 @@ export class Types {
   }
 
   slice(from, to) {
-    return Array.from(this.#chosen.subarray(from, to), (place) => this.row(this.#records.first + place));
+    return Array.from(this.#chosen.subarray(from, to), (place) => this.row(this.records.first + place));
   }
 
   row(index) {
-    const code = this.#records.code(index);
+    const code = this.records.code(index);
     const row = { index, kind: kindName(code), isDeclaredOnly: isDeclaredOnly(code) };
     try {
       return { ...row, name: this.label(index), size: this.size(index) };
@@ -71,20 +64,19 @@ export class Types {
 
   /** The indexes of all records of the type of an index: its definition, and its declarations. */
   sameAs(index) {
-    const records = this.#records;
+    const { records } = this;
     const definition = isNamed(records.code(index)) ? this.definition(index) : undefined;
     if (definition === undefined) return [index];
-    const found = [];
+    const found = new Set([index, definition]);
     this.#index().search(nameOf(this.name(index)), (place) => {
-      if (this.definition(records.first + place) === definition) found.push(records.first + place);
+      if (this.definition(records.first + place) === definition) found.add(records.first + place);
     });
-    return found;
+    return [...found];
   }
 
   #index() {
     if (this.#names) return this.#names;
-    const { native } = this;
-    const records = this.#records;
+    const { native, records } = this;
     native.library.with(8 + 12, (length) => {
       this.#names = new NameIndex(native.library, records.length, (place, at) => {
         const index = records.first + place;
@@ -99,22 +91,22 @@ export class Types {
 
   /** The definitions of the table, which are opened when they are first needed. */
   get definitions() {
-    const { at, length } = this.#records.stream;
+    const { at, length } = this.records.stream;
     this.#definitions ??= this.native.opened("pdb_definitions_open", at, length);
     return this.#definitions;
   }
 
   /** What the record of an index says. */
   info(index) {
-    return this.native.value(Row, "pdb_type_parse", ...this.#records.record(index), index);
+    return this.native.value(Row, "pdb_type_parse", ...this.records.record(index), index);
   }
 
   name(index) {
-    return this.native.string("pdb_type_name", ...this.#records.record(index), index);
+    return this.native.string("pdb_type_name", ...this.records.record(index), index);
   }
 
   uniqueName(index) {
-    return this.native.string("pdb_type_unique_name", ...this.#records.record(index), index);
+    return this.native.string("pdb_type_unique_name", ...this.records.record(index), index);
   }
 
   /** The declaration of a name that has a type, in C++, or the text of the type alone. */
@@ -128,20 +120,20 @@ export class Types {
 
   /** The size of a type in bytes, which for a class is in its record. */
   size(index) {
-    const code = this.#records.code(index);
+    const code = this.records.code(index);
     if (isClass(code)) return isDeclaredOnly(code) ? undefined : this.info(index).number;
     return this.native.value(u64, "pdb_type_size", this.definitions, index);
   }
 
   /** The name of a type, or its text in C++; empty for a list, which has neither. */
   label(index) {
-    const code = this.#records.code(index);
+    const code = this.records.code(index);
     if (isList(code)) return "";
     return isNamed(code) ? this.name(index) : this.text(index);
   }
 
   /** The same for an index that may be that of a primitive type, or of none. */
   anyLabel(index) {
-    return this.#records.has(index) ? this.label(index) : this.text(index);
+    return this.records.has(index) ? this.label(index) : this.text(index);
   }
 }
