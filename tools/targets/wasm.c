@@ -27,9 +27,12 @@ static struct block **list_of(size_t size) {
     return &freed[4 * power + (size >> (power - 2) & 3)];
 }
 
-// Asks for so many bytes more, in whole pages. Returns whether there are.
+// Asks for so many bytes more, in whole pages, or for an eighth of the memory where that is more and there is as much: a
+// browser may copy the memory each time that it grows. Returns whether there are.
 static int grow(size_t size) {
-    size_t pages = (size + 0xffff) >> 16, before = __builtin_wasm_memory_grow(0, pages);
+    size_t pages = (size + 0xffff) >> 16, eighth = __builtin_wasm_memory_size(0) >> 3, before = -1ul;
+    if (eighth > pages && (before = __builtin_wasm_memory_grow(0, eighth)) != -1ul) pages = eighth;
+    if (before == -1ul) before = __builtin_wasm_memory_grow(0, pages);
     if (before == -1ul) return 0;
     if (end != (char *)(before << 16)) start = (char *)(before << 16);
     end = (char *)((before + pages) << 16);

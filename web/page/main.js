@@ -60,7 +60,7 @@ function show() {
 }
 
 async function openSample() {
-  const response = await fetch(new URL("../sample.pdb", import.meta.url));
+  const response = await fetch(new URL("../../examples/sample.pdb", import.meta.url));
   open(new File([await response.blob()], "sample.pdb"));
 }
 

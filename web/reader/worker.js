@@ -1,5 +1,5 @@
 // Reads a file in a worker. A message asks a question, and gets an answer or an error of the same number.
-import { load } from "../pdb_container.js";
+import { load } from "../../dist/wasm/lib/pdb_container.mjs";
 import { Database } from "./database.js";
 import { describe, entriesOf } from "./description.js";
 import { NO_MEMORY, textOf } from "./errors.js";
@@ -8,7 +8,7 @@ import { Native } from "./native.js";
 
 const CHUNK = 16 << 20;
 
-const loaded = fetch(new URL("../pdb_container.wasm", import.meta.url)).then(load);
+const loaded = fetch(new URL("../../dist/wasm/lib/pdb_container.wasm", import.meta.url)).then(load);
 let database;
 
 /** Copies a file into the module's memory. */

@@ -1,1 +1,0 @@
-../dist/wasm/lib/pdb_container.mjs
