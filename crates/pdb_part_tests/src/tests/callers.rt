@@ -55,38 +55,28 @@ fn error_of(alloc: Global, file: &[u8], call: Call) -> Option<Error> {
 /// The places in the file of a letter of the magic, of the second byte of the page size, of the page
 /// of the directory, of the sizes of streams 1 and 3, and of the first byte of stream 3.
 const MAGIC: usize = 0;
-
 const PAGES_OF: usize = 33;
-
 const PAGE_OF_DIRECTORY: usize = 0x600;
-
 const SIZE_OF_1: usize = 0x808;
-
 const SIZE_OF_3: usize = 0x810;
-
 const FIRST_OF_3: usize = 0xc00;
 
 /// The statuses of the errors, as the header for C numbers them.
 const UNRECOGNIZED: u32 = 1;
-
 const OUT_OF_RANGE: u32 = 2;
-
 const PAGE_SIZE_INVALID: u32 = 3;
-
 const NOT_FOUND: u32 = 4;
-
 const NAME_NOT_FOUND: u32 = 5;
-
 const ENDED: u32 = 8;
-
 const UNIMPLEMENTED: u32 = 9;
 
 /// A byte that is set to another, a call, and the status and the number of its error. The text
 /// "ancient DBI header" has the number 5.
 type Row = (usize, u8, Call, u32, u32);
 
-/// Errors of the header and of the directory.
-const OPENED: &[Row] = &[
+/// Errors of the header and of the directory; of streams 1 and 3, of names, and of streams that there
+/// are not.
+const ROWS: &[Row] = &[
     (MAGIC, b'm', Call::Layout, UNRECOGNIZED, 0),
     (MAGIC, b'm', Call::Roles, UNRECOGNIZED, 0),
     (PAGES_OF, 3, Call::Layout, PAGE_SIZE_INVALID, 768),
@@ -98,10 +88,6 @@ const OPENED: &[Row] = &[
     (PAGE_OF_DIRECTORY, 9, Call::Roles, OUT_OF_RANGE, 9),
     (PAGE_OF_DIRECTORY, 9, Call::Map, OUT_OF_RANGE, 9),
     (PAGE_OF_DIRECTORY, 9, Call::Frames, OUT_OF_RANGE, 9),
-];
-
-/// Errors of streams 1 and 3, of names, and of streams that there are not.
-const STREAMS: &[Row] = &[
     (SIZE_OF_1, 27, Call::Information, ENDED, 0),
     (SIZE_OF_1, 27, Call::Names, ENDED, 0),
     (SIZE_OF_1, 27, Call::Stream(b"/a"), ENDED, 0),
@@ -138,15 +124,13 @@ fn is_refused(rt: &impl Abort, alloc: Global, row: &Row) -> bool {
 
 #[test]
 fn refused_files(rt: HostRuntime) {
-    for rows in [OPENED, STREAMS] {
-        for row in rows {
-            assert!(rt;
-                is_refused(&rt, rt.alloc(), row),
-                "byte {:#x} is {:#x}: {:?}",
-                row.0,
-                row.1,
-                row.2
-            );
-        }
+    for row in ROWS {
+        assert!(rt;
+            is_refused(&rt, rt.alloc(), row),
+            "byte {:#x} is {:#x}: {:?}",
+            row.0,
+            row.1,
+            row.2
+        );
     }
 }

@@ -9,11 +9,13 @@ use std::io;
 use std::io::{Cursor, ErrorKind, Read, Seek, SeekFrom};
 use std::test::Fail;
 
-/// A file of which a read gives one byte, and every other read is interrupted.
+/// A file of which a read gives one byte, and every other read is interrupted. It tells a size of
+/// some bytes more than it has, as one that became shorter since.
 #[derive(Drop)]
 struct Halting {
     file: Cursor<Vec<u8>>,
     is_interrupted: bool,
+    lost: u64,
 }
 
 impl Read for Halting {
@@ -29,37 +31,20 @@ impl Read for Halting {
 
 impl Seek for Halting {
     fn seek(&mut self, to: SeekFrom) -> io::Result<u64> {
-        self.file.seek(to)
-    }
-}
-
-/// A file that tells a size of two bytes more than it has, as one that became shorter since.
-#[derive(Drop)]
-struct ShorterFile {
-    file: Cursor<Vec<u8>>,
-}
-
-impl Read for ShorterFile {
-    fn read(&mut self, room: &mut [u8]) -> io::Result<usize> {
-        self.file.read(room)
-    }
-}
-
-impl Seek for ShorterFile {
-    fn seek(&mut self, to: SeekFrom) -> io::Result<u64> {
         let place = self.file.seek(to)?;
         Ok(match to {
-            SeekFrom::End(_) => place.saturating_add(2),
+            SeekFrom::End(_) => place.saturating_add(self.lost),
             _ => place,
         })
     }
 }
 
-/// Returns a source that reads these bytes one by one, and is interrupted.
-fn open_halting(bytes: Vec<u8>) -> io::Result<FileSource<SeekFile<Halting>>> {
+/// Returns a source that reads these bytes so, of a file that lost some.
+fn open_halting(bytes: Vec<u8>, lost: u64) -> io::Result<FileSource<SeekFile<Halting>>> {
     FileSource::new(SeekFile::new(Halting {
         file: Cursor::new(bytes),
         is_interrupted: false,
+        lost,
     }))
 }
 
@@ -67,13 +52,13 @@ fn open_halting(bytes: Vec<u8>) -> io::Result<FileSource<SeekFile<Halting>>> {
 pub(super) fn are_read(alloc: Global, bytes: &[u8], views: Views) -> pdb_base::Result<bool> {
     let whole = SeekFile::new(Cursor::new(bytes.to_vec(alloc)?));
     let seen = sees(alloc, &mut FileSource::new(whole)?, views);
-    Ok(seen && sees(alloc, &mut open_halting(bytes.to_vec(alloc)?)?, views))
+    Ok(seen && sees(alloc, &mut open_halting(bytes.to_vec(alloc)?, 0)?, views))
 }
 
 #[test]
 fn halting_files(rt: HostRuntime) -> Result<(), Fail> {
     let alloc = rt.alloc();
-    let mut file = open_msf(alloc, open_halting(s1(alloc)?)?)?;
+    let mut file = open_msf(alloc, open_halting(s1(alloc)?, 0)?)?;
     assert!(rt; Want::Front(600).fits(&file.get(alloc, 1, None)));
     Ok(())
 }
@@ -105,8 +90,7 @@ fn is_seen<S: Source>(
 #[test]
 fn shrunk_files(rt: HostRuntime) -> Result<(), Fail> {
     let alloc = rt.alloc();
-    let file = Cursor::new(Vec::from_slice(alloc, b"abcdef")?);
-    let mut source = FileSource::new(SeekFile::new(ShorterFile { file }))?;
+    let mut source = open_halting(Vec::from_slice(alloc, b"abcdef")?, 2)?;
     for (offset, size, want) in SHRUNK {
         let slice = SourceSlice {
             offset: *offset,
