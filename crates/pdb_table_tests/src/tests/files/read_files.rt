@@ -92,14 +92,9 @@ fn shrunk_files(rt: HostRuntime) -> Result<(), Fail> {
     let alloc = rt.alloc();
     let mut source = open_halting(Vec::from_slice(alloc, b"abcdef")?, 2)?;
     for (offset, size, want) in SHRUNK {
-        let slice = SourceSlice {
-            offset: *offset,
-            size: *size,
-        };
-        assert!(rt;
-            is_seen(alloc, &mut source, slice, want),
-            "{size} from {offset}"
-        );
+        let (offset, size) = (*offset, *size);
+        let seen = is_seen(alloc, &mut source, SourceSlice { offset, size }, want);
+        assert!(rt; seen, "{size} from {offset}");
     }
     Ok(())
 }
