@@ -42,7 +42,7 @@ function referencesOf(types, info) {
 /** The entries of a list, or of the list of an enumeration; undefined for another record. */
 export function entriesOf(types, index) {
   const info = types.info(index);
-  if (info.shape === SHAPE.ENUMERATION) return fieldsOf(types, info.listIndex);
+  if (info.shape === SHAPE.ENUMERATION) return fieldsOf(types, info.listIndex, info.typeIndex);
   const words = [...types.records.record(index), index];
   const rows = (type, call) => types.native.rows(type, call, ...words).slice();
   const argument = (type) => ({ kind: "argument", type, text: types.anyLabel(type) });
@@ -52,11 +52,15 @@ export function entriesOf(types, index) {
   return undefined;
 }
 
-/** The fields of a list, and of the lists in which it continues, each below the one before it. */
-function fieldsOf(types, first) {
+/** The fields of a list, and of the lists in which it continues, each below the one before it; of an enumeration also
+ * with the type under it. */
+function fieldsOf(types, first, underlying) {
+  const { native, records } = types;
+  const read = (...words) =>
+    underlying === undefined ? native.named(Field, ...words) : native.enumerators(Field, underlying, ...words);
   const fields = [];
-  for (let list = first; types.records.has(list) && shapeOf(types.records.code(list)) === SHAPE.FIELD_LIST; ) {
-    fields.push(...types.native.named(Field, "pdb_type_fields", ...types.records.record(list), list));
+  for (let list = first; records.has(list) && shapeOf(records.code(list)) === SHAPE.FIELD_LIST; ) {
+    fields.push(...read("pdb_type_fields", ...records.record(list), list));
     const info = types.info(list);
     if (!(info.has & HAS.listIndex) || info.listIndex >= list) break;
     list = info.listIndex;

@@ -98,6 +98,15 @@ export class Native {
 
   /** The array that a call writes whose items have names, each with its `name`, or undefined. */
   named(type, name, ...words) {
+    return this.#named(type, name, words, () => {});
+  }
+
+  /** The same of the fields of an enumeration, whose values are numbers of the type under it. */
+  enumerators(type, underlying, name, ...words) {
+    return this.#named(type, name, words, (row) => this.library.calls.pdb_enumerator_typed(row, underlying));
+  }
+
+  #named(type, name, words, change) {
     const { library } = this;
     return library.with(16, (lengths) => {
       const sizes = [lengths, lengths + 8n];
@@ -108,6 +117,7 @@ export class Native {
       return library.with(count * BigInt(type.size), (rows) =>
         library.with(size, (names) => {
           if (count) ask(rows, count, names, size);
+          for (let place = 0n; place < count; place++) change(rows + place * BigInt(type.size));
           let at = names;
           return this.#items(type, rows, Number(count)).slice().map((item) => {
             const text = this.text(at, item.nameLength);
