@@ -14,7 +14,7 @@ abbrev pub is_shown : ℕ → Bool
 is_shown c = not (is_hidden c)
 
 -- A text is the UTF-8 of characters that a reader of a line sees as such.
-pub record AreShown (text : List ℕ) : Type 0 where
+pub record HasNoneHidden (text : List ℕ) : Type 0 where
   pub characters : List ℕ
   pub shown : IsTrue (list_all is_shown characters)
   pub written : text ≡ flat_map encode_utf8 characters

@@ -1,6 +1,6 @@
 -- Text as rows show it.
-use Rattle.std.specs.Prelude.{ℕ, ◌+◌, ◌-◌, ◌/◌, ◌%◌, ◌==◌, ◌||◌, ◌&&◌, nat_lt, nat_le, if◌then◌else◌, Bool, false, not, List, []}
-use Rattle.std.specs.Prelude.{◌∷◌, ◌++◌, Option, Some, None}
+use Rattle.std.specs.Prelude.{ℕ, ◌+◌, ◌-◌, ◌/◌, ◌%◌, ◌==◌, ◌||◌, ◌&&◌, nat_lt, nat_le, if◌then◌else◌, Bool, false, not}
+use Rattle.std.specs.Prelude.{List, [], ◌∷◌, ◌++◌, Option, Some, None}
 use Rattle.std.specs.Fmt.{digit_glyph}
 use Rattle.std.specs.List.{flat_map}
 use Rattle.std.specs.Map.{lookup}
@@ -59,8 +59,8 @@ unfoldable pub escape : ℕ → List ℕ
 escape c = escape_by c (short_escape c)
 
 -- Whether a reader of a line doesn't see a character as one: the control characters (U+0000 to U+001F and U+007F to
--- U+009F), the separators of lines and of paragraphs (U+2028, U+2029), and those that are ignored where a text is shown,
--- such as marks of its direction and spaces of no width (Default_Ignorable_Code_Point of Unicode).
+-- U+009F), the separators of lines and of paragraphs (U+2028, U+2029), and those that are ignored where a text is
+-- shown, such as marks of its direction and spaces of no width (Default_Ignorable_Code_Point of Unicode).
 unfoldable pub is_hidden : ℕ → Bool
 is_hidden c = nat_lt c 0x20 || nat_le 0x7f c && nat_lt c 0xa0 || c == 0x2028 || c == 0x2029
     || is_default_ignorable_code_point c

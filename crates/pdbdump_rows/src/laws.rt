@@ -2,7 +2,7 @@
 
 ghost use Rattle.std.specs.Prelude.{◌≡◌, ℕ, List};
 ghost use Rattle.pdbdump_rows.specs.declared.form.Form.{Form};
-ghost use Rattle.pdbdump_rows.specs.Laws.{AreShown, IsLine, IsString};
+ghost use Rattle.pdbdump_rows.specs.Laws.{HasNoneHidden, IsLine, IsString};
 ghost use Rattle.pdbdump_rows.specs.Line.{all_shown, begun, begun_full, line_bytes};
 ghost use Rattle.pdbdump_rows.specs.Lines.{field_line, full_text, row_text};
 ghost use Rattle.pdbdump_rows.specs.Row.{ShownField, ShownRow};
@@ -27,7 +27,7 @@ pub fn line_is_its_fields()
 /// of direction and no space of no width, whatever bytes the text holds.
 #[tactic(auto, using(crate::proofs::ShownLaws::text_is_shown))]
 pub fn texts()
-    ensures { (form : Form) (bytes : List ℕ) → AreShown (shown_text form bytes) }
+    ensures { (form : Form) (bytes : List ℕ) → HasNoneHidden (shown_text form bytes) }
 {}
 
 /// A text in JSON is a string of RFC 8259, whatever bytes it holds.
