@@ -266,10 +266,8 @@ fn layouts(rt: HostRuntime) {
         assert!(rt; has_layout(rt.alloc(), &definitions, row), "{:#x}", row.0);
     }
     for index in [0x1002, 0x0074] {
-        assert!(rt;
-            has_no_layout(rt.alloc(), &definitions, index),
-            "{index:#x}"
-        );
+        let is_well = has_no_layout(rt.alloc(), &definitions, index);
+        assert!(rt; is_well, "{index:#x}");
     }
 }
 

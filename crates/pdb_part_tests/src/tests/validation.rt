@@ -150,10 +150,8 @@ fn is_in_part(rt: &impl Abort, alloc: Global, offset: usize, byte: u8, part: Par
 #[test]
 fn damaged_files(rt: HostRuntime) {
     for (offset, byte, part) in DAMAGES {
-        assert!(rt;
-            is_in_part(&rt, rt.alloc(), *offset, *byte, *part),
-            "{offset:#x}"
-        );
+        let is_well = is_in_part(&rt, rt.alloc(), *offset, *byte, *part);
+        assert!(rt; is_well, "{offset:#x}");
     }
 }
 

@@ -109,10 +109,8 @@ fn unread_questions(rt: HostRuntime) -> std::result::Result<(), Fail> {
     let found = ask(rt.alloc(), file, &mut questions, Form::Text, &mut out);
     let written = out.into_inner();
     let wanted: &[u8] = b"question=stream 3 1\nbytes=68\nquestion=stream 3 2\nbytes=6865\n";
-    assert!(rt;
-        is_denied(&found) && written.as_slice() == wanted,
-        "{written:?}"
-    );
+    let is_well = is_denied(&found) && written.as_slice() == wanted;
+    assert!(rt; is_well, "{written:?}");
     Ok(())
 }
 
@@ -179,9 +177,7 @@ fn answers_before_the_next(rt: HostRuntime) -> std::result::Result<(), Fail> {
     let mut out = Output::new(buffer);
     let file = s1(rt.alloc())?;
     let answered = ask(rt.alloc(), file, &mut questions, Form::Text, &mut out);
-    assert!(rt;
-        matches!(answered, Ok(false)) && questions.at == TALK.len(),
-        "{answered:?}"
-    );
+    let is_well = matches!(answered, Ok(false)) && questions.at == TALK.len();
+    assert!(rt; is_well, "{answered:?}");
     Ok(())
 }

@@ -107,24 +107,18 @@ fn words(rt: HostRuntime) {
     for (bits, intrinsic, hfa, mocom) in PROPERTIES {
         let word = TypeProperties::new(*bits);
         let found = (word.intrinsic_type(), word.hfa(), word.mocom());
-        assert!(rt;
-            found == (*intrinsic, *hfa, *mocom) && word.bits() == *bits,
-            "{bits:x}"
-        );
+        let is_well = found == (*intrinsic, *hfa, *mocom) && word.bits() == *bits;
+        assert!(rt; is_well, "{bits:x}");
     }
     for (bits, access, method) in FIELDS {
         let word = FieldAttributes::new(*bits);
-        assert!(rt;
-            (word.access(), method_of(word)) == (*access, *method),
-            "{bits:x}"
-        );
+        let is_well = (word.access(), method_of(word)) == (*access, *method);
+        assert!(rt; is_well, "{bits:x}");
     }
     for (bits, convention, marks) in FUNCTIONS {
         let word = FunctionAttributes::new(*bits);
-        assert!(rt;
-            (word.calling_convention(), marks_of(word)) == (*convention, *marks),
-            "{bits:x}"
-        );
+        let is_well = (word.calling_convention(), marks_of(word)) == (*convention, *marks);
+        assert!(rt; is_well, "{bits:x}");
     }
     for (bits, kind, mode, mocom, size) in POINTERS {
         assert!(rt; points(*bits, *kind, *mode, *mocom, *size), "{bits:x}");

@@ -297,10 +297,8 @@ fn ends_of_strings(rt: HostRuntime) -> Result<(), Fail> {
         for len in [1, 15, 16, 17, 40, 41] {
             for letters in [0, 7, 15, 16, 17, 31, 40, 41] {
                 let is_ended = ends_at_nul(rt.alloc(), before, letters, len)?;
-                assert!(rt;
-                    is_ended,
-                    "{letters} letters of {len} bytes behind {before}"
-                );
+                let is_well = is_ended;
+                assert!(rt; is_well, "{letters} letters of {len} bytes behind {before}");
             }
         }
     }

@@ -214,10 +214,8 @@ fn frames(rt: HostRuntime) -> Result<(), Fail> {
         assert!(rt; is_told(rt.alloc(), old, new, ask)?, "{name}");
     }
     for (old, new, want) in SIZES {
-        assert!(rt;
-            is_sized(rt.alloc(), *old, *new, *want)?,
-            "{old:?}, {new:?}"
-        );
+        let is_well = is_sized(rt.alloc(), *old, *new, *want)?;
+        assert!(rt; is_well, "{old:?}, {new:?}");
     }
     assert!(rt; gives(FrameDataIter::default(), &[]));
     assert!(rt; are_old_bytes() && are_new_bytes());

@@ -143,10 +143,8 @@ fn small_tables(rt: HostRuntime) -> Result<(), Fail> {
         for code in 0..codes {
             let records = table_by_code(rt.alloc(), len, code)?;
             if is_sorted(&records) {
-                assert!(rt;
-                    answers_alike(rt.alloc(), &records)?,
-                    "{len} records, {code}"
-                );
+                let is_well = answers_alike(rt.alloc(), &records)?;
+                assert!(rt; is_well, "{len} records, {code}");
             }
         }
     }

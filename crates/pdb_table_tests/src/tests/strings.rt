@@ -103,10 +103,8 @@ fn is_answered(alloc: Global, bytes: &[u8], want: &Answer) -> Result<bool, Fail>
 #[test]
 fn string_tables(rt: HostRuntime) -> Result<(), Fail> {
     for (place, (bytes, want)) in ROWS.iter().enumerate() {
-        assert!(rt;
-            is_answered(rt.alloc(), bytes, want)?,
-            "row {place}: {bytes:?}"
-        );
+        let is_well = is_answered(rt.alloc(), bytes, want)?;
+        assert!(rt; is_well, "row {place}: {bytes:?}");
     }
     Ok(())
 }

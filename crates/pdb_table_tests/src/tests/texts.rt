@@ -162,10 +162,8 @@ fn errors_and_numbers(rt: HostRuntime) {
         assert!(rt; are_addresses(rt.alloc(), *number, text), "address {text}");
     }
     for (number, text) in STREAMS {
-        assert!(rt;
-            shows(rt.alloc(), &StreamIndex(*number), text),
-            "stream {text}"
-        );
+        let is_well = shows(rt.alloc(), &StreamIndex(*number), text);
+        assert!(rt; is_well, "stream {text}");
     }
     for (number, text) in VARIANTS {
         assert!(rt; shows(rt.alloc(), number, text), "number {text}");
@@ -207,10 +205,8 @@ fn are_long_names_shown(alloc: Global) -> pdb_base::Result<bool> {
 #[test]
 fn names(rt: HostRuntime) -> Result<(), Fail> {
     for (bytes, text, is_owned) in RAW {
-        assert!(rt;
-            is_shown(rt.alloc(), bytes, text.as_bytes(), *is_owned),
-            "{text}"
-        );
+        let is_well = is_shown(rt.alloc(), bytes, text.as_bytes(), *is_owned);
+        assert!(rt; is_well, "{text}");
     }
     assert!(rt; are_long_names_shown(rt.alloc())?);
     Ok(())

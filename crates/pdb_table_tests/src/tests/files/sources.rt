@@ -74,14 +74,8 @@ fn are_seen(alloc: Global, mut owned: Vec<u8>, views: Views) -> pdb_base::Result
 fn views(rt: HostRuntime) -> Result<(), Fail> {
     let alloc = rt.alloc();
     assert!(rt; are_seen(alloc, Vec::from_slice(alloc, b"abcdef")?, OF_SIX_BYTES)?);
-    let zeros = vec![in alloc; 0; 4096]?;
-    assert!(rt;
-        are_seen(
-            alloc,
-            with_bytes(zeros, &[(42, 42), (88, 88)]),
-            OF_TWO_BYTES
-        )?
-    );
+    let two = with_bytes(vec![in alloc; 0; 4096]?, &[(42, 42), (88, 88)]);
+    assert!(rt; are_seen(alloc, two, OF_TWO_BYTES)?);
     let view = ReadView::new(Vec::from_slice(alloc, b"xy")?);
     assert!(rt; view.as_slice() == b"xy".as_slice());
     Ok(())

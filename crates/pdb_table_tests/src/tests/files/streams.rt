@@ -100,10 +100,8 @@ fn answers_in_turn(alloc: Global, mut file: BigMSF<Vec<u8>>, streams: &[(u32, Wa
 fn streams(rt: HostRuntime) -> Result<(), Fail> {
     let alloc = rt.alloc();
     for (edits, number, limit, answer) in ASKED {
-        assert!(rt;
-            answers_twice(alloc, open_s1(alloc, edits)?, *number, *limit, answer),
-            "stream {number}, limit {limit:?}"
-        );
+        let is_well = answers_twice(alloc, open_s1(alloc, edits)?, *number, *limit, answer);
+        assert!(rt; is_well, "stream {number}, limit {limit:?}");
     }
     assert!(rt; answers_in_turn(alloc, open_s1(alloc, CLAIMED)?, OF_THE_CLAIMED));
     Ok(())
