@@ -88,7 +88,12 @@ fn push_words(severity: &str, code: &str, words: &[u8], out: &mut Vec<u8>) -> Li
 }
 
 /// Appends the line of a finding as text.
-fn push_finding_line(alloc: Global, path: &str, finding: &Finding, out: &mut Vec<u8>) -> LineResult {
+fn push_finding_line(
+    alloc: Global,
+    path: &str,
+    finding: &Finding,
+    out: &mut Vec<u8>,
+) -> LineResult {
     let words = problem_text(alloc, &finding.problem)?;
     let code = code_text(alloc, finding)?;
     push_text(Form::Text, path.as_bytes(), out)?;

@@ -22,6 +22,7 @@ const PAST: &[(usize, u8)] = &[(PAGE_OF_3, 8)];
 
 /// Stream 3 in page 9, which is none.
 const NONE: &[(usize, u8)] = &[(PAGE_OF_3, 9)];
+
 const OUT_OF_RANGE: Want = Want::Error(Error::PageReferenceOutOfRange(9));
 
 /// S1 as it is, and then with stream 3 elsewhere.

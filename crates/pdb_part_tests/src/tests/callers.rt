@@ -55,19 +55,30 @@ fn error_of(alloc: Global, file: &[u8], call: Call) -> Option<Error> {
 /// The places in the file of a letter of the magic, of the second byte of the page size, of the page
 /// of the directory, of the sizes of streams 1 and 3, and of the first byte of stream 3.
 const MAGIC: usize = 0;
+
 const PAGES_OF: usize = 33;
+
 const PAGE_OF_DIRECTORY: usize = 0x600;
+
 const SIZE_OF_1: usize = 0x808;
+
 const SIZE_OF_3: usize = 0x810;
+
 const FIRST_OF_3: usize = 0xc00;
 
 /// The statuses of the errors, as the header for C numbers them.
 const UNRECOGNIZED: u32 = 1;
+
 const OUT_OF_RANGE: u32 = 2;
+
 const PAGE_SIZE_INVALID: u32 = 3;
+
 const NOT_FOUND: u32 = 4;
+
 const NAME_NOT_FOUND: u32 = 5;
+
 const ENDED: u32 = 8;
+
 const UNIMPLEMENTED: u32 = 9;
 
 /// A byte that is set to another, a call, and the status and the number of its error. The text

@@ -58,6 +58,7 @@ type Input = (
 
 /// The kinds of failed reads.
 const INTERRUPTED: ErrorKind = ErrorKind::Interrupted;
+
 const DENIED: ErrorKind = ErrorKind::PermissionDenied;
 
 const INPUTS: &[Input] = rows! {
@@ -158,6 +159,7 @@ impl Slow {
 
 /// How the line of an error of the system begins, and the line of one of a channel.
 const IO_ERROR: &str = "IO error while reading PDB: ";
+
 const TOLD: &str = "IO error while reading PDB: the disk is gone\n";
 
 /// What the system hands over: words, or an error.

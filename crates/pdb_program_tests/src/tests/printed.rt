@@ -13,7 +13,9 @@ pub const USAGE: &str =
     "usage: pdbq stream N [LIMIT] | type S I | id S I | name S O | ranges S A B | fields S I\n";
 
 pub const ABSENT_2: &str = "The requested stream (2) is not stored in this file\n";
+
 const ABSENT_4: &str = "The requested stream (4) is not stored in this file\n";
+
 const NO_OMAP: &str = "OMAP stream has an invalid length or alignment for its records\n";
 
 /// How the line of an error of the source begins. The system's own text follows it.
@@ -26,6 +28,7 @@ const CLASS: &[u8] =
     b"\x09\x16\x00\x02\x00\x00\x16\x10\x00\x00\x00\x00\x00\x00\x00\x00\x00\x00\x02\x00\x06\x00H_size\x00.?AUH_size@@\x00";
 
 const TEXT: &[u8] = b"\x05\x16\x00\x00\x00\x00a\x00";
+
 const BUILD_INFO: &[u8] = b"\x03\x16\x02\x00\x01\x10\x00\x00\x02\x10\x00\x00";
 
 /// An item that ends within its record.
@@ -35,10 +38,15 @@ const CUT_CLASS: &[u8] = b"\x2a\x00\x09\x16";
 /// of itself; A, and then those of a primitive type; and a list of an empty list of methods, which
 /// has no name.
 const LIST_B: &[u8] = b"\x03\x12\x02\x15\x03\x00\x01\x00B\x00\xf2\xf1";
+
 const LIST_A: &[u8] = b"\x03\x12\x02\x15\x03\x00\x00\x00A\x00\x04\x14\x00\x00\x00\x10\x00\x00";
+
 const LIST_C: &[u8] = b"\x03\x12\x02\x15\x03\x00\x02\x00C\x00\x04\x14\x00\x00\x01\x10\x00\x00";
+
 const OWN_LIST: &[u8] = b"\x03\x12\x02\x15\x03\x00\x00\x00A\x00\x04\x14\x00\x00\x01\x10\x00\x00";
+
 const NO_LIST: &[u8] = b"\x03\x12\x02\x15\x03\x00\x00\x00A\x00\x04\x14\x00\x00\xff\x0f\x00\x00";
+
 const NAMELESS: &[u8] = b"\x03\x12\x06\x12";
 
 /// The list of A with an entry after its continuation whose record kind is not read.
@@ -46,7 +54,9 @@ const FAULT_BEHIND: &[u8] =
     b"\x03\x12\x02\x15\x03\x00\x00\x00A\x00\x04\x14\x00\x00\x00\x10\x00\x00\x34\x12";
 
 const NOT_BELOW: &str = "Unimplemented PDB feature: field list continuation not below its list\n";
+
 const PRIMITIVE: &str = "Support for types of kind 0xffff is not implemented\n";
+
 const BROKEN: &[u8] = b"\xfe\xef\xfe\xef\x01\x00\x00\x00\x04\x00\x00\x00f\xffo\x00";
 
 /// A table of two types, whose least index and maximum are 0xffffffff.

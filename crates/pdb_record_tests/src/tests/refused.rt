@@ -6,7 +6,9 @@ use std::alloc::Global;
 use std::process::Abort;
 
 const END: Error = Error::UnexpectedEof;
+
 const POINTER: Error = Error::UnimplementedTypeKind(0x1002);
+
 const PREFIX: Error = Error::UnexpectedNumericPrefix(0x8005);
 
 /// What is wrong with a record, its bytes, and the error.

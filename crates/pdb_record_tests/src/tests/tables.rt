@@ -140,6 +140,7 @@ const LIST_OF_A: RecordPlace = RecordPlace {
 
 /// The errors of items that end too soon or are too short.
 const ENDS: Step = Step::Error(Error::UnexpectedEof);
+
 const SHORT: Step = Step::Error(Error::TypeTooShort);
 
 /// That no type has the largest index.

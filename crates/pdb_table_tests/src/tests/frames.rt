@@ -27,10 +27,15 @@ use Ask::{All, From};
 type Frames = &'static [(FrameType, u32)];
 
 const OLD: FrameType = FrameType::FPO;
+
 const NEW: FrameType = FrameType::FrameData;
+
 const FIRST: Spans = &[(0x10, 8), (0x20, 4)];
+
 const SECOND: Spans = &[(0x10, 8), (0x30, 8)];
+
 const SHORT: Spans = &[(0x10, 1), (0x30, 8)];
+
 const NESTED: Spans = &[(0, 0x64), (10, 1)];
 
 /// The frames of the first stream and the second one, and of the first one and the short one.

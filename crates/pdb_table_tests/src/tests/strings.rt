@@ -9,8 +9,11 @@ use std::test::Fail;
 
 /// A name that is not UTF-8.
 const BROKEN: &[u8] = b"\xfe\xef\xfe\xef\x02\0\0\0\x04\0\0\0f\xffo\0";
+
 const ENDS: Error = Error::UnexpectedEof;
+
 const OTHER_SIGNATURE: Error = Error::UnimplementedFeature("invalid string table signature");
+
 const OTHER_VERSION: Error = Error::UnimplementedFeature("unknown string table hash version");
 
 /// A query of the table of some bytes, and its answer.

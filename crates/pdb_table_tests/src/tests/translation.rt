@@ -32,9 +32,13 @@ use TableRow::{Address, Counted, Records, Sorted};
 type Table = &'static [(u32, u32)];
 
 const UNMAPPED: Table = &[(0x1000, 0), (0x1008, 0x15d44)];
+
 const LAST: Table = &[(0x10, 0xffff_fff8)];
+
 const EQUAL: Table = &[(0x10, 0x100), (0x10, 0x200)];
+
 const NOWHERE: Table = &[(5, 0x10), (5, 0x20), (5, 0)];
+
 const DECREASING: Table = &[(2, 1), (1, 2)];
 
 /// Tables, and what they answer.
@@ -328,6 +332,7 @@ fn rearranged_map(alloc: Global) -> Result<AddressMap, Fail> {
 }
 
 const ADDRESS: Rva = Rva(0x2010);
+
 const INTERNAL: PdbInternalRva = PdbInternalRva(0x1010);
 
 /// Whether a map moves each way the addresses above and offset 0x10 of section 1, which is theirs,

@@ -47,6 +47,7 @@ fn are_cuts(mut list: PageList, cuts: &[(usize, usize, &[(u64, usize)])]) -> boo
 
 /// A part of a source, and parts that differ from it in their offset, in their size, and in both.
 const SLICE: SourceSlice = SourceSlice { offset: 1, size: 2 };
+
 const OTHERS: &[(u64, usize)] = &[(0x1_0000_0001, 2), (1, 0x1_0000_0002), (2, 1)];
 
 #[test]

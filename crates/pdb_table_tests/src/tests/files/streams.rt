@@ -9,14 +9,23 @@ use std::test::Fail;
 /// The offsets in S1 of the page number of stream 3, of the second one of stream 1, and of the
 /// directory's size.
 const PAGE_OF_3: usize = 1052;
+
 const PAGE_OF_1: usize = 1048;
+
 const DIRECTORY_SIZE: usize = 44;
+
 const STREAM_2_ABSENT: Want = Want::Error(Error::StreamNotFound(2));
+
 const STREAM_4_ABSENT: Want = Want::Error(Error::StreamNotFound(4));
+
 const STREAM_LAST_ABSENT: Want = Want::Error(Error::StreamNotFound(u32::MAX));
+
 const STREAM_1: Want = Want::Front(600);
+
 const OUT_OF_RANGE: Want = Want::Error(Error::PageReferenceOutOfRange(9));
+
 const BYTES_END: Want = Want::Error(Error::UnexpectedEof);
+
 const NO_BYTES: Want = Want::Bytes(b"");
 
 /// Bytes of S1 that are set to others, the stream and the limit of a call, and its answer.

@@ -71,7 +71,9 @@ fn file(alloc: Global) -> pdb_base::Result<Vec<u8>> {
 /// The view that opens the file, those that read where its directory is and the directory, and
 /// those of streams 1 and 2.
 const OPENING: &[(u64, usize)] = &[(0, 4096)];
+
 const LOCATION: &[(u64, usize)] = &[(1536, 4)];
+
 const OF_DIRECTORY: &[(u64, usize)] = &[(1024, 80)];
 
 const OF_STREAM_1: &[(u64, usize)] = &[

@@ -25,7 +25,9 @@ pub(crate) enum Roles {
 type Translation = (u32, u32, (bool, bool, bool));
 
 const NOT_STORED_2: Error = Error::StreamNotFound(2);
+
 const NOT_STORED_99: Error = Error::StreamNotFound(99);
+
 const BAD_OMAP: Error = Error::InvalidStreamLength("OMAP");
 
 /// Streams of the roles of an address map, and that the file has one, what it answers, or the error.

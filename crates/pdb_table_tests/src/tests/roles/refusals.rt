@@ -28,9 +28,13 @@ enum Call {
 /// The offsets in the file of the sizes of streams 1 and 3, of a letter of the name `/names`, and
 /// of the first byte of stream 3.
 const SIZE_OF_1: usize = 2056;
+
 const SIZE_OF_3: usize = 2064;
+
 const LETTER: usize = 2593;
+
 const DEBUG: usize = 3072;
+
 const ANCIENT: Error = Error::UnimplementedFeature("ancient DBI header");
 
 /// A byte that is set to another, a call, and its error.
