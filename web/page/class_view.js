@@ -1,4 +1,5 @@
 // A class: its declaration with the places of its members, a drawing of its bytes, and its layout as JSON.
+import { declarationText, GAP_TEXTS, head, offsetOf, totals } from "./declaration.js";
 import { html } from "./dom.js";
 import { drawing } from "./drawing.js";
 import { linkedDeclaration, typeLink } from "./links.js";
@@ -6,11 +7,9 @@ import { hexadecimal, plural } from "./texts.js";
 import { VirtualTable } from "./virtual_table.js";
 
 const TEXTS = {
+  ...GAP_TEXTS,
   member: (row) => [...linkedDeclaration(row), ";"],
   base: (row) => [...linkedDeclaration(row), ";  // base"],
-  hole: () => "// hole",
-  unused_bits: (row) => `// ${plural(row.bits, "bit")} unused`,
-  virtual_bases: () => "// virtual bases and padding",
   vbptr: (row) => ["vbptr;  // of virtual base ", typeLink(row.virtual_base, row.base)],
   vfptr: () => "vfptr;",
 };
@@ -20,10 +19,6 @@ const COLUMNS = [
   { title: "Size", width: "shorter", cell: sizeOf },
   { title: "Member", width: "code", cell: (row) => TEXTS[row.kind](row) },
 ];
-
-function offsetOf({ offset, bit }) {
-  return hexadecimal(offset, 3) + (bit === undefined ? "" : `:${bit}`);
-}
 
 function sizeOf({ size, bits }) {
   if (bits !== undefined) return plural(bits, "bit");
@@ -45,32 +40,22 @@ export function classView(layout) {
     html("p", { class: "code" }, head(layout)),
     table.element,
     html("p", { class: "code" }, `};  ${totals(layout)}`),
-    html("button", { type: "button", onclick: () => copy(layout, copied) }, "Copy layout as JSON"),
+    html("button", { type: "button", onclick: () => copy(declarationText(layout), copied) }, "Copy declaration"),
+    " ",
+    html("button", { type: "button", onclick: () => copy(jsonText(layout), copied) }, "Copy layout as JSON"),
     " ",
     copied,
   );
 }
 
-/** The line with which the declaration begins. */
-function head({ kind, name, rows }) {
-  const bases = rows
-    .map((row) => (row.kind === "base" ? row.declaration : row.direct ? `virtual ${row.base}` : undefined))
-    .filter((base) => base !== undefined);
-  return `${kind} ${name}${bases.length ? ` : ${bases.join(", ")}` : ""} {`;
-}
-
-function totals({ holes, hole_bytes, unused_bits }) {
-  const texts = [];
-  if (holes) texts.push(`${plural(holes, "hole")} of ${plural(hole_bytes, "byte")}`);
-  if (unused_bits) texts.push(`${plural(unused_bits, "bit")} unused`);
-  return texts.length ? `// ${texts.join(", ")}` : "";
-}
-
-async function copy(layout, copied) {
+function jsonText(layout) {
   const rows = layout.rows.map(({ link, base, ...row }) => row);
   // A number of 64 bits may be too large for a number of JavaScript.
   const exact = (_, value) => (typeof value === "bigint" ? JSON.rawJSON(value) : value);
-  const text = JSON.stringify({ ...layout, rows }, exact);
+  return JSON.stringify({ ...layout, rows }, exact);
+}
+
+async function copy(text, copied) {
   try {
     await navigator.clipboard.writeText(text);
     copied.textContent = "Copied.";
