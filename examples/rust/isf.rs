@@ -1,5 +1,4 @@
 //! Writes the types and the public symbols of a program database as JSON, in Volatility's format ISF.
-//!
 //!     cd rust && cargo run --example isf -- ../examples/sample.pdb
 
 use pdb_container::{Pdb, Shape, Types};

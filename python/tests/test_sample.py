@@ -203,8 +203,10 @@ class OfFile(unittest.TestCase):
         self.assertEqual(len(code.fields), 800)
         self.assertEqual([field.value for field in code.fields], list(range(800)))
         self.assertIsNotNone(self.pdb.types[code.list_index].list_index)
-        # Clang writes the number -5 without its sign.
-        self.assertEqual([field.value for field in self.pdb.types["shapes::Limit"].fields], [0xFFFFFFFB, 70000])
+        # Clang writes the number -5 without its sign, which the type under the enumeration gives back.
+        limit = self.pdb.types["shapes::Limit"]
+        self.assertEqual([field.value for field in limit.fields], [-5, 70000])
+        self.assertEqual([field.value for field in self.pdb.types.fields(limit.list_index)], [0xFFFFFFFB, 70000])
 
     def test_ids(self):
         ids = list(self.pdb.ids)

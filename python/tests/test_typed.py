@@ -182,7 +182,8 @@ class Typed(unittest.TestCase):
         for it in self.types:
             if isinstance(it, UserDefinedType):
                 self.assertEqual(it.definition, self.types[it.name] if it.name in self.types else None)
-                self.assertEqual(it.fields, self.types[it.list_index].fields if it.list_index else [])
+                underlying_type = it.underlying_type_index if isinstance(it, Enum) else None
+                self.assertEqual(it.fields, self.types.fields(it.list_index, underlying_type) if it.list_index else [])
         (overloaded,) = [it for it in self.fields if isinstance(it, OverloadedMethod)]
         self.assertEqual((overloaded.count, len(overloaded.methods), overloaded.methods), (2, 2, overloaded.method_list.methods))
         build = next(it for it in self.pdb.ids if isinstance(it, BuildInfo))
@@ -197,7 +198,7 @@ class Typed(unittest.TestCase):
         self.assertIs(derived["state"].access, FieldAttribute.PUBLIC)
         self.assertEqual(derived["state"].access.name, "PUBLIC")
         values = [(it.name, it.value) for it in self.types["shapes::Limit"].fields]
-        self.assertEqual(values, [("Least", 0xFFFFFFFB), ("Most", 70000)])
+        self.assertEqual(values, [("Least", -5), ("Most", 70000)])
         bases = [it.base_class.name for it in self.types["Derived"].fields if isinstance(it, (BaseClass, VirtualBaseClass))]
         self.assertEqual(bases[-1], "Shared")
 
