@@ -996,8 +996,8 @@ typedef union pdb_type_info {
             uint64_t as_unsigned;
         } value;
         uint32_t is_signed, attributes, unused, width;
-    } enumerate; /* `width` is the number of bytes of the value in the record, and whether that has a
-                  * sign is not the whole truth: see pdb_enumerator_typed */
+    } enumerate; /* `width` is the number of bytes of the value in the record, and whether that has
+                  * a sign is not the whole truth: see pdb_enumerator_typed */
     struct {
         uint32_t shape, has;
         uint64_t unused;
@@ -1187,11 +1187,11 @@ uint32_t pdb_types_fields(pdb_types *table, uint32_t index, pdb_field *rows, siz
                           size_t *count, uint8_t *names, size_t names_length, size_t *size,
                           pdb_fault *fault);
 
-/* Changes what the record of an enumerator says (PDB_ENUMERATE), so that its value is a number of the
- * type under its enumeration, which gives it its sign and its width. In the record a value has the
- * width that it needs, and one byte (LF_CHAR) has no sign: 0x80 stands for 128, and is -128 of a
- * `char`. Nothing is changed if that type is not a primitive one of integers of at most 64 bits, and
- * nothing of any other record. */
+/* Changes what the record of an enumerator says (PDB_ENUMERATE), so that its value is a number of
+ * the type under its enumeration, which gives it its sign and its width. In the record a value has
+ * the width that it needs, and one byte (LF_CHAR) has no sign: 0x80 stands for 128, and is -128 of
+ * a `char`. Nothing is changed if that type is not a primitive one of integers of at most 64 bits,
+ * and nothing of any other record. */
 void pdb_enumerator_typed(pdb_type_info *info, uint32_t underlying_type);
 
 /* Writes what the record of an id says, given the record's bytes. */
@@ -1236,8 +1236,8 @@ uint32_t pdb_type_size(pdb_definitions *definitions, uint32_t index, uint64_t *s
                        pdb_fault *fault);
 
 /* Copies the declaration of a name that has a type, in C++, such as "int (*compare)(char)", or the
- * text of the type alone if the name is empty. It has at most 65,536 bytes, and ends with ".." if it
- * is cut. What the text says is tested, and not proved. */
+ * text of the type alone if the name is empty. It has at most 65,536 bytes, and ends with ".." if
+ * it is cut. What the text says is tested, and not proved. */
 uint32_t pdb_type_text(pdb_definitions *definitions, uint32_t index, const uint8_t *name,
                        size_t name_length, uint8_t *room, size_t room_length, size_t *length,
                        pdb_fault *fault);
