@@ -391,6 +391,9 @@ typedef struct pdb_named_stream {
     uint32_t number; /* PDB_NO_STREAM if the file gives no stream for the name */
 } pdb_named_stream;
 
+/* Writes the streams that have names, in the order of the file, and the bytes of their names, one
+ * after another. The status is PDB_UNIMPLEMENTED_FEATURE if the names together have more bytes than
+ * the file, which they have only if they share bytes. */
 uint32_t pdb_bytes_stream_names(const uint8_t *bytes, size_t bytes_length, pdb_named_stream *rows,
                                 size_t rows_length, size_t *count, uint8_t *names,
                                 size_t names_length, size_t *size, pdb_fault *fault);

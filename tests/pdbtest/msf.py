@@ -188,3 +188,27 @@ def write_scattered(file, streams, page_size, in_order=False):
     """Writes a file of these streams, as `scatter` makes it, and returns its path."""
     file.write_bytes(scatter(streams, page_size, in_order))
     return file
+
+
+def write_apart(file, streams, page_size, page_count):
+    """Writes a sparse file of so many pages, over which these streams lie far apart, None where one is absent. The pages
+    of each are neighbors. Returns its path."""
+    parts = [pieces(stream or b"", page_size) for stream in streams]
+    sizes = [ABSENT if stream is None else len(stream) for stream in streams]
+    directory_size = 4 * (1 + len(streams) + sum(map(len, parts)))
+    apart = page_count // (3 + len(parts))
+    starts = [apart * (2 + number) for number in range(len(parts))]
+    numbers = [start + n for start, part in zip(starts, parts) for n in range(len(part))]
+    directory = pieces(words_of([len(streams), *sizes, *numbers]), page_size)
+    placed = {
+        0: [MAGIC + words_of([page_size, 1, page_count, directory_size, 0, apart])],
+        apart: [words_of([apart + 1 + n for n in range(len(directory))])],
+        apart + 1: directory,
+        **dict(zip(starts, parts)),
+    }
+    with open(file, "wb") as out:
+        out.truncate(page_count * page_size)
+        for start, part in placed.items():
+            out.seek(start * page_size)
+            out.write(b"".join(piece.ljust(page_size, b"\0") for piece in part))
+    return file

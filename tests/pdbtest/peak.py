@@ -12,15 +12,29 @@ import os, resource, sys
 resource.setrlimit(resource.RLIMIT_STACK, ({STACK}, {STACK}))
 child = os.posix_spawn(sys.argv[1], sys.argv[1:], {{}})
 _, status, used = os.wait4(child, 0)
-print(used.ru_maxrss * 1024, file=sys.stderr)
+print(used.ru_maxrss * 1024, used.ru_utime + used.ru_stime, file=sys.stderr)
 sys.exit(os.waitstatus_to_exitcode(status))
 """
 
 
-def peak(words, given=None):
-    """What a command prints, given a file on standard input, and the bytes of memory that it takes at most."""
+def used(words, given=None, output=subprocess.PIPE):
+    """What a command prints, given a file on standard input, the bytes of memory that it takes at most, and the seconds
+    of the processor."""
     measured = [sys.executable, "-c", MEASURE, *map(str, words)]
     with open(given or os.devnull, "rb") as data:
-        done = subprocess.run(measured, stdin=data, capture_output=True, text=True, check=False)
-    *told, memory = done.stderr.splitlines()
-    return done.stdout, "\n".join(told), int(memory)
+        done = subprocess.run(measured, stdin=data, stdout=output, stderr=subprocess.PIPE, text=True, check=False)
+    *told, numbers = done.stderr.splitlines()
+    memory, seconds = numbers.split()
+    return done.stdout, "\n".join(told), int(memory), float(seconds)
+
+
+def peak(words, given=None):
+    """The same without the seconds."""
+    return used(words, given)[:3]
+
+
+def by_turns(*commands):
+    """The fewest seconds of the processor that each command takes, of seven calls by turns, whose output goes nowhere.
+    Other tests run beside this one, so the time of a clock, and that of a single call, say little."""
+    turns = [[used(words, output=subprocess.DEVNULL)[3] for words in commands] for _ in range(7)]
+    return [min(seconds) for seconds in zip(*turns)]

@@ -14,6 +14,7 @@ LINKER = "x86_64-w64-mingw32-ld"  # GNU ld for Windows
 NEWER = "llvm-pdbutil-19"
 WINE = "/usr/lib/wine"  # where Debian has what /usr/bin lacks of it
 WEBSOCKETS = "/usr/lib/python3/dist-packages/websockets"
+LIBRARY = "/usr/lib/llvm-14/include/c++/v1/vector"  # of the headers of libc++
 CROSS = "/usr/aarch64-linux-gnu/lib/libc.so"  # the C library that programs for ARM are linked with
 
 # those that only bench/run needs, and all
@@ -26,6 +27,7 @@ PACKAGES = {
     NEWER: "llvm-19",
     "llvm-readobj": "llvm",
     LINKER: "binutils-mingw-w64-x86-64",
+    LIBRARY: "libc++-14-dev",
     "cc": "gcc",
     "c++": "g++",
     "objcopy": "binutils",

@@ -18,6 +18,7 @@ use pdb_handles::information::{Information, NamedStream, information_in, stream_
 use pdb_handles::roles::{Roles, roles_in};
 use pdb_handles::{Fault, Handle};
 use pdb_identity::Format;
+use pdb_msf::CountedSource;
 use pdb_reports::findings::{FoundFault, findings_in};
 use pdb_reports::identity::{FileIdentity, copy_key, format_number, identity_in, write_read};
 use std::alloc::Global;
@@ -107,7 +108,8 @@ pub extern "C" fn pdb_bytes_stream(
 {
     *length = 0;
     ask!(file, alloc, fault, File(layout) => {
-        copy_stream(layout.stream(alloc, bytes, number, Some(limit)), room, length)
+        let mut source = CountedSource::new(bytes);
+        copy_stream(layout.stream(alloc, &mut source, number, Some(limit)), room, length)
     })
 }
 

@@ -1,4 +1,5 @@
 pub mod BucketLemmas
+pub mod FreeMapLemmas
 pub mod HashLemmas
 pub mod HeaderLemmas
 pub mod MismatchLemmas

@@ -15,8 +15,8 @@ use Rattle.pdb_base.proofs.lemmas.Collected.{ok_is}
 use Rattle.pdb_msf.specs.Layout.{LayoutValue}
 use Rattle.pdb_consistency.specs.PageOwners.{layout_owners}
 use Rattle.pdb_consistency.specs.Pages.{at_page, has_owner, is_owned, is_reserved, shared_pages}
-use Rattle.pdb_consistency.specs.Pages.{layout_mismatches, free_pages}
-use Rattle.pdb_consistency.specs.declared.inconsistency.Inconsistency.TheVariants.{PageShared}
+use Rattle.pdb_consistency.specs.Pages.{active_map, layout_mismatches, free_page, free_pages, is_free, is_in_use}
+use Rattle.pdb_consistency.specs.declared.inconsistency.Inconsistency.TheVariants.{PageFree, PageShared}
 use Rattle.pdb_consistency.specs.declared.mismatch.Extent.{Extent}
 use Rattle.pdb_consistency.specs.declared.mismatch.Mismatch.{Mismatch}
 use Rattle.pdb_consistency.specs.declared.page_owners.PageOwner.{PageOwner}
@@ -82,22 +82,51 @@ shared_more extent page_size count i before owners d owned now new all is marked
     (at_drop_more (shared_pages page_size count before) owners i d within
     ∙ ap (λ (xs : List Mismatch). xs ++ shared_pages page_size count (owner ∷ before) (drop (i + 1) owners)) same) added
 
+abbrev tested : Bool → Answer Bool
+tested is = Ok is
+
+-- the mismatch of one page more, if it is marked as free
+pub free_more : (extent : Extent) (file : List ℕ) (page_size i : ℕ) (owners : List PageOwner) (d : PageOwner)
+    (now new all : List Mismatch) (is : Bool) (mismatch : Mismatch) (given : Option Mismatch) (read : List ℕ) (size : ℕ)
+    → i < length owners → with_further extent now (free_pages file page_size (drop i owners)) ≡ all
+    → read ≡ file → size ≡ page_size
+    → tested (is_in_use (get_or owners i d).stream && is_free read size (active_map read) (get_or owners i d).page)
+    ≡ Ok is
+    → mismatch ≡ at_page (get_or owners i d) (PageFree (get_or owners i d).page)
+    → given ≡ then_some is mismatch → told (with_further extent now (option_to_list given)) ≡ Ok new
+    → with_further extent new (free_pages file page_size (drop (i + 1) owners)) ≡ all
+free_more extent file page_size i owners d now new all is mismatch given read size within left here sized test made some
+    added =
+    let owner = get_or owners i d in
+    let tests : tested (is_in_use owner.stream && is_free file page_size (active_map file) owner.page) ≡ Ok is =
+    rw (here, sized) at test in
+    let same : free_page file page_size owner ≡ option_to_list given = rw (some, made, ok_is _ is tests) refl in
+    further_more extent now _ (option_to_list given) _ new all left
+    (at_drop_more (free_pages file page_size) owners i d within
+    ∙ ap (λ (xs : List Mismatch). xs ++ free_pages file page_size (drop (i + 1) owners)) same) added
+
 abbrev told_owners : List PageOwner → Answer (List PageOwner)
 told_owners owners = Ok owners
 
+abbrev counted : ℕ → Answer ℕ
+counted n = Ok n
+
 -- the pages that are shared were added, and then those that are free
-pub layout_told : (extent : Extent) (file : List ℕ) (layout : LayoutValue) (page_size count : ℕ)
-    (owners first second : List PageOwner) (none one both : List Mismatch)
-    → page_size ≡ layout.head.geometry.page_size → count ≡ div_ceil (length file) page_size
+pub layout_told : (extent : Extent) (file sized read : List ℕ) (layout : LayoutValue)
+    (page_size free_size size count : ℕ) (owners first second : List PageOwner) (none one both : List Mismatch)
+    → page_size ≡ layout.head.geometry.page_size → sized ≡ file → counted (length sized) ≡ Ok size
+    → count ≡ div_ceil size page_size
     → told_owners (layout_owners file layout) ≡ Ok owners → first ≡ owners → second ≡ owners → none ≡ []
     → told (with_further extent none (shared_pages page_size count [] first)) ≡ Ok one
-    → told (with_further extent one (free_pages file page_size second)) ≡ Ok both
+    → read ≡ file → free_size ≡ page_size
+    → told (with_further extent one (free_pages read free_size second)) ≡ Ok both
     → told (asked_of extent (layout_mismatches file layout)) ≡ Ok both
 unfolding layout_mismatches
-layout_told extent file layout page_size count owners first second none one both size many of here again empty shared
-    free =
+layout_told extent file sized read layout page_size free_size size count owners first second none one both paged same
+    ends many of here again empty shared reads frees free =
     let all = ok_is (layout_owners file layout) owners of in
-    let sizes = layout.head.geometry.page_size in
-    asked_in_two extent (shared_pages sizes (div_ceil (length file) sizes) [] (layout_owners file layout))
-    (free_pages file sizes (layout_owners file layout)) one both
-    (rw all (rw (empty, many, size, here) at shared)) (rw all (rw (size, again) at free))
+    let pages = layout.head.geometry.page_size in
+    let long : size ≡ length file = sym (ok_is (length sized) size ends) ∙ ap (λ (f : List ℕ). length f) same in
+    asked_in_two extent (shared_pages pages (div_ceil (length file) pages) [] (layout_owners file layout))
+    (free_pages file pages (layout_owners file layout)) one both
+    (rw all (rw (empty, many, long, paged, here) at shared)) (rw all (rw (reads, frees, paged, again) at free))

@@ -5,6 +5,7 @@ pub mod Mismatch
 pub mod MissingStreams
 pub mod PageOwners
 pub mod Pages
+pub mod FreeMap
 pub mod Records
 pub mod References
 pub mod Sections

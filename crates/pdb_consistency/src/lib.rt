@@ -2,6 +2,7 @@
 #![tactic(auto)]
 
 mod debug_sizes;
+mod free_map;
 mod hashes;
 mod id_references;
 mod inconsistency;

@@ -4,11 +4,12 @@ ghost use Rattle.std.specs.Prelude.{◌≡◌, ◌++◌, ◌^◌, ◌≤◌, len
 ghost use Rattle.pdb_base.specs.Answer.{Answers};
 ghost use Rattle.pdb_msf.specs.Directory.{stream_count_in};
 ghost use Rattle.pdb_msf.specs.Layout.{size_by};
+ghost use Rattle.pdb_msf.specs.Source.{ReadsSource};
 ghost use Rattle.pdb_consistency.specs.PageOwners.{container_owner, directory_pages_of, layout_owners};
 ghost use Rattle.pdb_consistency.specs.PageOwners.{owners_in_stream, owners_in_streams, owners_of_stream, streams_of};
 
 use pdb_base::{Error, Result};
-use pdb_msf::Layout;
+use pdb_msf::{CountedSource, Layout, Source, comes_from_outside};
 use std::alloc::Global;
 
 /// The numbers of streams are below this one, which has 16 bits and names no stream.
@@ -120,31 +121,40 @@ fn push_streams(alloc: Global, owners: &mut Vec<PageOwner>, layout: &Layout) -> 
 }
 
 /// Adds the pages of the directory, if they can be read.
-fn push_directory(
+fn push_directory<S: Source>(
     alloc: Global,
     owners: &mut Vec<PageOwner>,
     layout: &Layout,
-    file: &[u8],
+    source: &mut CountedSource<S>,
 ) -> Result<()>
-    ensures { Answers (λ done. owners.new.items) result
-        (Ok (owners.old.items ++ map container_owner (directory_pages_of file.now layout.now))) }
+    ensures { ReadsSource (S.state source.old.source) (S.state source.new.source) (λ done. owners.new.items) result
+        (λ file. Ok (owners.old.items ++ map container_owner (directory_pages_of file layout.now))) }
 {
-    match layout.directory_pages(alloc, file) {
+    match layout.directory_pages(alloc, source) {
         Ok(pages) => push_container_pages(owners, &pages),
-        Err(Error::OutOfMemory) => Err(Error::OutOfMemory),
-        Err(_) => Ok(()),
+        Err(error) => {
+            if comes_from_outside(&error) {
+                return Err(error);
+            }
+            Ok(())
+        }
     }
 }
 
 /// Returns the pages of a file with their owners: what locates the directory, the directory, and
 /// the streams.
 #[tactic(auto, unfolding(crate::specs::PageOwners::layout_owners))]
-pub(crate) fn owners_of(alloc: Global, layout: &Layout, file: &[u8]) -> Result<Vec<PageOwner>>
-    ensures { Answers (λ owners. owners.items) result (Ok (layout_owners file.now layout.now)) }
+pub(crate) fn owners_of<S: Source>(
+    alloc: Global,
+    layout: &Layout,
+    source: &mut CountedSource<S>,
+) -> Result<Vec<PageOwner>>
+    ensures { ReadsSource (S.state source.old.source) (S.state source.new.source) (λ owners. owners.items) result
+        (λ file. Ok (layout_owners file layout.now)) }
 {
     let mut owners = Vec::new(alloc);
     push_container_pages(&mut owners, layout.location_pages())?;
-    push_directory(alloc, &mut owners, layout, file)?;
+    push_directory(alloc, &mut owners, layout, source)?;
     push_streams(alloc, &mut owners, layout)?;
     Ok(owners)
 }

@@ -1,20 +1,21 @@
 //! Who owns the pages of a file: each has at most one owner, and none of a stream is free.
 
-ghost use Rattle.std.specs.Prelude.{◌≡◌, ◌≤◌, ◌<◌, ◌&&◌, ◌||◌, nat_lt, false, true, [], length, slice_index_or};
-ghost use Rattle.std.specs.Prelude.{slice_set, Ok};
-ghost use Rattle.std.specs.Int.{div_ceil};
+ghost use Rattle.std.specs.Prelude.{◌≡◌, ◌<◌, ◌&&◌, ◌||◌, nat_lt, false, true, [], slice_index_or};
+ghost use Rattle.std.specs.Prelude.{slice_set, Ok, OnOk};
 ghost use Rattle.pdb_base.specs.Answer.{Answers};
 ghost use Rattle.pdb_msf.specs.Layout.{layout_of};
+ghost use Rattle.pdb_msf.specs.Source.{IsFixed, ReadsSource};
+ghost use Rattle.pdb_consistency.specs.FreeMap.{IsMapOf};
 ghost use Rattle.pdb_consistency.specs.Mismatch.{asked_of, with_further};
-ghost use Rattle.pdb_consistency.specs.Pages.{at_page, free_byte, free_pages, is_free, is_in_use, is_reserved};
-ghost use Rattle.pdb_consistency.specs.Pages.{active_map, layout_mismatches, page_mismatches, shared_pages};
+ghost use Rattle.pdb_consistency.specs.Pages.{at_page, free_pages, is_free, is_in_use, is_reserved};
+ghost use Rattle.pdb_consistency.specs.Pages.{active_map, page_mismatches, shared_pages};
 
+use crate::free_map::FreeMap;
 use crate::inconsistency::Inconsistency;
 use crate::mismatch::{Extent, Mismatch, add};
 use crate::page_owners::{PageOwner, owners_of};
-use byteorder::{ByteOrder, LittleEndian};
-use pdb_base::{Error, Result};
-use pdb_msf::Layout;
+use pdb_base::Result;
+use pdb_msf::{CountedSource, Layout, Source};
 use std::alloc::Global;
 
 /// Returns the mismatch of a page, where it begins.
@@ -83,31 +84,6 @@ fn add_shared(
     Ok(())
 }
 
-/// Returns the byte of the file that holds the bit of a page in a free page map.
-fn free_byte(page_size: u32, map: u32, page: u32) -> u64
-    requires positive { 0 < page_size }
-    requires map { map ≤ 2 }
-    ensures { result ≡ free_byte page_size map page }
-{
-    let size = page_size as u64;
-    let byte = (page / 8) as u64;
-    (map as u64 + byte / size * size) * size + byte % size
-}
-
-/// Returns whether the active free page map marks a page as free.
-fn is_free(file: &[u8], page_size: u32, map: u32, page: u32) -> bool
-    requires { 0 < page_size }
-    ensures { result ≡ is_free file.now page_size map page }
-{
-    if map != 1 && map != 2 {
-        return false;
-    }
-    match file.get(free_byte(page_size, map, page) as usize) {
-        Some(byte) => (*byte >> (page % 8)) % 2 == 1,
-        None => false,
-    }
-}
-
 /// Returns whether a stream is one whose pages are not free.
 fn is_in_use(stream: Option<u32>) -> bool
     ensures { result ≡ is_in_use stream }
@@ -119,67 +95,52 @@ fn is_in_use(stream: Option<u32>) -> bool
 }
 
 /// Returns whether a page of a stream is marked as free.
-fn is_used_but_free(file: &[u8], page_size: u32, map: u32, owner: &PageOwner) -> bool
-    requires { 0 < page_size }
-    ensures { result ≡ (is_in_use owner.now.stream && is_free file.now page_size map owner.now.page) }
+fn is_used_but_free<S: Source>(
+    alloc: Global,
+    source: &mut CountedSource<S>,
+    free: &mut FreeMap,
+    owner: &PageOwner,
+) -> Result<bool>
+    requires sized { 0 < free.old.page_size }
+    requires map { IsFixed (S.state source.old.source) → IsMapOf (S.state source.old.source).bytes free.old }
+    ensures free { ReadsSource (S.state source.old.source) (S.state source.new.source) (λ is_free. is_free) result
+        (λ file. Ok (is_in_use owner.now.stream
+        && is_free file free.old.page_size (active_map file) owner.now.page)) }
+    ensures map { OnOk result (IsFixed (S.state source.old.source) →
+        IsMapOf (S.state source.old.source).bytes free.new) }
+    ensures sized { free.new.page_size ≡ free.old.page_size }
 {
-    is_in_use(owner.stream) && is_free(file, page_size, map, owner.page)
-}
-
-/// Returns the number of the free page map that is active.
-fn active_map(file: &[u8]) -> u32
-    requires { 40 ≤ length file.now }
-    ensures { result ≡ active_map file.now }
-{
-    LittleEndian::read_u32(&file[36..40])
+    if !is_in_use(owner.stream) {
+        return Ok(false);
+    }
+    free.is_free(alloc, source, owner.page)
 }
 
 /// Adds the pages of streams that the active free page map marks as free.
-fn add_free(
-    file: &[u8],
+fn add_free<S: Source>(
+    alloc: Global,
+    source: &mut CountedSource<S>,
+    mut free: FreeMap,
     owners: &[PageOwner],
-    page_size: u32,
     extent: Extent,
     mismatches: &mut Vec<Mismatch>,
 ) -> Result<()>
-    requires positive { 0 < page_size }
-    requires header { 40 ≤ length file.now }
-    ensures { Answers (λ done. mismatches.new.items) result
-        (Ok (with_further extent mismatches.old.items (free_pages file.now page_size owners.now))) }
+    requires sized { 0 < free.page_size }
+    requires map { IsFixed (S.state source.old.source) → IsMapOf (S.state source.old.source).bytes free }
+    ensures { ReadsSource (S.state source.old.source) (S.state source.new.source) (λ done. mismatches.new.items) result
+        (λ file. Ok (with_further extent mismatches.old.items (free_pages file free.page_size owners.now))) }
 {
-    let map = active_map(file);
     for owner in owners {
-        let is_free = is_used_but_free(file, page_size, map, owner);
-        let free = at_page(owner, Inconsistency::PageFree(owner.page));
-        add(mismatches, extent, is_free.then_some(free))?;
+        let is_free = is_used_but_free(alloc, source, &mut free, owner)?;
+        let page = at_page(owner, Inconsistency::PageFree(owner.page));
+        add(mismatches, extent, is_free.then_some(page))?;
     }
     Ok(())
 }
 
-/// Returns the pages of a layout that have a second owner, and those that are marked as free.
-#[tactic(auto, unfolding(crate::specs::Pages::layout_mismatches))]
-fn check_layout(
-    alloc: Global,
-    file: &[u8],
-    layout: &Layout,
-    extent: Extent,
-) -> Result<Vec<Mismatch>>
-    requires { layout_of file.now ≡ Ok layout.now }
-    ensures { Answers (λ mismatches. mismatches.items) result
-        (Ok (asked_of extent (layout_mismatches file.now layout.now))) }
-{
-    let page_size = layout.page_size();
-    let owners = owners_of(alloc, layout, file)?;
-    let count = file.len().div_ceil(page_size as usize);
-    let mut mismatches = Vec::new(alloc);
-    add_shared(alloc, &owners, page_size, count, extent, &mut mismatches)?;
-    add_free(file, &owners, page_size, extent, &mut mismatches)?;
-    Ok(mismatches)
-}
-
 /// Returns the pages of a file that have a second owner, and then those of its streams that it
 /// marks as free, each with the stream and the byte of it that the page begins with. All are
-/// returned, or one, as `extent` says.
+/// returned, or one, as `extent` says. The layout is that of the file.
 ///
 /// What owns a page is the header, which is page 0, a free page map (pages 1 and 2 of each
 /// `page_size` pages), what locates the directory, the directory, or a stream. They are taken in
@@ -187,17 +148,31 @@ fn check_layout(
 /// Numbers of pages that the file does not have are passed over. A page of stream 0 may be marked
 /// as free, as it is in files of Microsoft's tools. The format is that of Microsoft's msf.cpp.
 ///
-/// The list is empty if the header or the directory can't be read; the pages of a stream that can't
-/// be read are left out. The work is linear in the file and in the sizes of the streams.
+/// The pages of a stream that can't be read are left out. The work is linear in the file and in the
+/// sizes of the streams. One page of the free page map is kept in memory.
 ///
 /// # Errors
-/// Fails with `OutOfMemory` if an allocation fails.
-pub fn check_pages(alloc: Global, file: &[u8], extent: Extent) -> Result<Vec<Mismatch>>
-    ensures { Answers (λ mismatches. mismatches.items) result (Ok (asked_of extent (page_mismatches file.now))) }
+/// Fails with `IoError` if the source fails, and with `OutOfMemory` if an allocation fails.
+#[tactic(auto, unfolding(crate::specs::Pages::layout_mismatches))]
+pub fn check_pages<S: Source>(
+    alloc: Global,
+    layout: &Layout,
+    source: &mut CountedSource<S>,
+    extent: Extent,
+) -> Result<Vec<Mismatch>>
+    requires sized { 0 < layout.now.head.geometry.page_size }
+    requires layout { IsFixed (S.state source.old.source) →
+        layout_of (S.state source.old.source).bytes ≡ Ok layout.now }
+    ensures { ReadsSource (S.state source.old.source) (S.state source.new.source) (λ mismatches. mismatches.items)
+        result (λ file. Ok (asked_of extent (page_mismatches file))) }
 {
-    match Layout::read(alloc, file) {
-        Ok(layout) => check_layout(alloc, file, &layout, extent),
-        Err(Error::OutOfMemory) => Err(Error::OutOfMemory),
-        Err(_) => Ok(Vec::new(alloc)),
-    }
+    let page_size = layout.page_size();
+    let owners = owners_of(alloc, layout, source)?;
+    let size = source.size(alloc)?;
+    let free = FreeMap::of(alloc, source, page_size, size)?;
+    let count = size.div_ceil(page_size as u64) as usize;
+    let mut mismatches = Vec::new(alloc);
+    add_shared(alloc, &owners, page_size, count, extent, &mut mismatches)?;
+    add_free(alloc, source, free, &owners, extent, &mut mismatches)?;
+    Ok(mismatches)
 }

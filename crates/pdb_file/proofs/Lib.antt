@@ -3,6 +3,7 @@ pub mod HeaderLemmas
 pub mod EndLemmas
 pub mod DbiLaws
 pub mod RoleLaws
+pub mod NameEndLemmas
 pub mod NamedLaws
 pub mod FeatureLemmas
 pub mod FeatureLaws

@@ -2,6 +2,7 @@ pub mod Fields
 pub mod DbiHeader
 pub mod DebugHeader
 pub mod Information
+pub mod NameEnds
 pub mod StreamNames
 pub mod Features
 pub mod SectionHeaders

@@ -9,6 +9,7 @@ mod fields;
 mod file;
 mod information;
 pub mod laws;
+mod name_ends;
 pub mod section_headers;
 mod stream_names;
 

@@ -4,12 +4,12 @@ ghost use Rattle.std.specs.Prelude.{◌≡◌, ◌+◌, ◌*◌, ◌/◌, ◌<�
 ghost use Rattle.pdb_base.specs.Answer.{Answers, Gives};
 ghost use Rattle.pdb_base.specs.Memory.{LacksOnlyIf};
 ghost use Rattle.pdb_base.specs.Place.{left};
-ghost use Rattle.pdb_space.specs.StringTable.{name_of};
 ghost use Rattle.pdb_file.specs.StreamNames.{behind_set, entries_at, map_of, map_view, named_at, named_in, named_view};
 ghost use Rattle.pdb_file.specs.StreamNames.{number_named, stream_names_of};
 
 use crate::fields::u32_in;
 use crate::information::PDBInformation;
+use crate::name_ends::NameEnds;
 use pdb_base::{Error, ParseBuffer, RawString, Result, StreamIndex};
 use std::alloc::Global;
 use std::marker::Model;
@@ -115,26 +115,17 @@ fn take_rest<'n>(buffer: &mut ParseBuffer<'n>) -> Result<&'n [u8]>
     buffer.take(count)
 }
 
-/// Returns the name at an offset: the bytes from there up to the first NUL among the names.
-#[tactic(auto, unfolding(pdb_space::specs::StringTable::name_of), using(std::proofs::lemmas::List::drop_min))]
-fn name_at(names: &[u8], offset: usize) -> Result<RawString<'_>>
-    ensures { Gives (λ name. name.0.now) result (name_of names.now offset) }
-{
-    let mut buffer = ParseBuffer::from(names);
-    buffer.seek(offset);
-    buffer.parse_cstring()
-}
-
 impl<'n> NameMap<'n> {
     /// Returns the stream of the entry at index `place`, with its name. An entry is the `u32`
     /// offset of the name and the `u32` number of the stream.
     #[tactic(auto, unfolding(crate::specs::StreamNames::named_at))]
-    fn named_at(&self, place: usize) -> Result<StreamName<'n>>
-        requires { place < length self.now.entries.now / 8 }
+    fn named_at(&self, ends: &NameEnds<'n>, place: usize) -> Result<StreamName<'n>>
+        requires names { ends.now ≡ self.now.names.now }
+        requires place { place < length self.now.entries.now / 8 }
         ensures { Gives named_view result (named_at (map_view self.now) place) }
     {
         let start = ENTRY_SIZE * place;
-        let name = name_at(self.names, u32_in(self.entries, start) as usize)?;
+        let name = ends.name_at(u32_in(self.entries, start) as usize)?;
         let number = u32_in(self.entries, start + 4).min(NO_STREAM);
         Ok(StreamName {
             name,
@@ -142,16 +133,17 @@ impl<'n> NameMap<'n> {
         })
     }
 
-    /// Returns all streams that have names. Memory is requested once, for as many streams as there
-    /// are entries.
+    /// Returns all streams that have names. Memory is requested twice: for the index of the names'
+    /// ends, and for as many streams as there are entries.
     #[tactic(auto, unfolding(crate::specs::StreamNames::named_in))]
     fn all_named(&self, alloc: Global) -> Result<Vec<StreamName<'n>>>
         ensures { Answers (λ names. map named_view names.items) result (named_in (map_view self.now)) }
     {
+        let ends = NameEnds::new(alloc, self.names)?;
         let count = self.entries.len() / ENTRY_SIZE;
         let mut names = Vec::with_capacity(alloc, count)?;
         for place in 0..count {
-            names.push_reserved(self.named_at(place)?);
+            names.push_reserved(self.named_at(&ends, place)?);
         }
         Ok(names)
     }
@@ -179,7 +171,8 @@ impl PDBInformation {
     ///
     /// After the names come a `u32` count, a `u32` capacity, two sets of bits, each a `u32` number
     /// of words and that many `u32` words, and then as many entries as the count says: the `u32`
-    /// offset of a name among the names, and the `u32` number of its stream.
+    /// offset of a name among the names, and the `u32` number of its stream. The time that this takes
+    /// is proportional to the size of the stream, also if many entries share a long name.
     ///
     /// # Errors
     /// Fails with `UnexpectedEof` if the stream ends before the entries do, or if there is no NUL

@@ -1,5 +1,6 @@
 mod FieldsLemmas
 mod HeldSteps
+mod NamedLemmas
 mod NamesLemmas
 mod PartsSteps
 mod RecordsLemmas

@@ -60,7 +60,7 @@ texts =
     ∷ codes "header size is unreasonably large" ∷ codes "minimum type index is < 4096"
     ∷ codes "maximum type index is < minimum type index" ∷ codes "OMAP table that is not sorted"
     ∷ codes "frames that are not sorted" ∷ codes "directory that is larger than its file"
-    ∷ codes "streams that are larger than their file" ∷ []
+    ∷ codes "streams that are larger than their file" ∷ codes "stream names that share bytes" ∷ []
 
 -- the number of a text
 abbrev pub text_number : List ℕ → ℕ

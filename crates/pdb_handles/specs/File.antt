@@ -1,7 +1,8 @@
 -- What is read of a caller's file, as a caller sees it.
-use Rattle.std.specs.Prelude.{ℕ, List, Some, Ok, length, map, Option}
+use Rattle.std.specs.Prelude.{ℕ, List, Some, Ok, length, map, Option, nat_le, codes}
 use Rattle.std.specs.List.{flat_map}
-use Rattle.pdb_base.specs.Answer.{Answer, ◌>>=◌}
+use Rattle.pdb_base.specs.Answer.{Answer, ◌>>=◌, ok_if}
+use Rattle.pdb_base.specs.Refusal.{unimplemented_feature}
 use Rattle.pdb_msf.specs.{Header.Head, Header.file_head, File.stream_of, Layout.layout_of}
 use Rattle.pdb_space.specs.declared.section_header.ImageSectionHeader.{ImageSectionHeader}
 use Rattle.pdb_file.specs.File.{file_address_map, file_frame_table, file_named_stream, file_roles, file_information}
@@ -69,14 +70,23 @@ information_said file = read_of_file file_information file >>= λ read. Ok (info
 abbrev pub named_row : Named → NamedStream
 named_row named = record { number = named.stream; name_length = length named.name }
 
--- streams and the bytes of their names, one name behind another
-abbrev pub named_listing : List Named → NamedRows NamedStream
-named_listing streams = record { rows = map named_row streams; names = flat_map (λ named. named.name) streams }
+-- the bytes of the names of streams, one name behind another
+abbrev pub names_of_all : List Named → List ℕ
+names_of_all streams = flat_map (λ named. named.name) streams
 
--- the streams that stream 1 names, in the order of their entries
+-- streams and the bytes of their names
+abbrev pub named_listing : List Named → NamedRows NamedStream
+named_listing streams = record { rows = map named_row streams; names = names_of_all streams }
+
+-- The streams that stream 1 names, in the order of their entries. They are refused if their names together have
+-- more bytes than the file, which they can only if they share bytes.
 abbrev pub names_said : List ℕ → Answer (Option (NamedRows NamedStream))
-names_said file =
-    read_of_file file_information file >>= stream_names_of >>= λ streams. Ok (Some (named_listing streams))
+names_said file = do
+  information ← read_of_file file_information file
+  streams ← stream_names_of information
+  fit ← ok_if (nat_le (length (names_of_all streams)) (length file))
+      (unimplemented_feature (codes "stream names that share bytes"))
+  Ok (Some (named_listing streams))
 
 -- a section for the caller
 abbrev pub section_info : ImageSectionHeader → Section

@@ -62,6 +62,7 @@ fn text_number(text: &str) -> u32
         "frames that are not sorted" => 15,
         "directory that is larger than its file" => 16,
         "streams that are larger than their file" => 17,
+        "stream names that share bytes" => 18,
         _ => 0,
     }
 }

@@ -8,7 +8,7 @@ ghost use Rattle.pdb_handles.specs.File.{addresses_said, frames_said, layout_sai
 use crate::content::Content;
 use pdb_base::{Result, Stream};
 use pdb_file::PDB;
-use pdb_msf::Layout;
+use pdb_msf::{CountedSource, Layout};
 use std::alloc::Global;
 
 /// Opens a file over the caller's bytes.
@@ -29,7 +29,8 @@ pub fn open_file<'f>(alloc: Global, file: &'f [u8]) -> Result<PDB<&'f [u8]>>
 pub fn layout_in(alloc: Global, file: &[u8]) -> Result<Content>
     ensures { Answers (λ content. content) result (layout_said file.now) }
 {
-    Ok(Content::File(Layout::read(alloc, file)?))
+    let mut source = CountedSource::new(file);
+    Ok(Content::File(Layout::read(alloc, &mut source)?))
 }
 
 /// Reads the first stream with this name.

@@ -1,15 +1,15 @@
 //! The information in stream 1 of a file: the numbers that identify it, and the streams that it
 //! names.
 
-ghost use Rattle.std.specs.{Prelude.◌≡◌, Prelude.Ok, Option.option_map};
+ghost use Rattle.std.specs.{Prelude.◌≡◌, Prelude.length, Prelude.nat_le, Prelude.Ok, Option.option_map};
 ghost use Rattle.pdb_base.specs.Answer.{Answers};
 ghost use Rattle.pdb_file.specs.StreamNames.{named_view};
-ghost use Rattle.pdb_handles.specs.File.{information_said, named_listing, named_row, names_said};
+ghost use Rattle.pdb_handles.specs.File.{information_said, named_listing, named_row, names_of_all, names_said};
 ghost use Rattle.pdb_handles.specs.Records.{listing_view};
 
 use crate::copied::Listing;
 use crate::file::open_file;
-use pdb_base::Result;
+use pdb_base::{Error, Result};
 use pdb_file::{StreamName, StreamNames};
 use std::alloc::Global;
 
@@ -65,6 +65,21 @@ fn named_row(named: &StreamName<'_>) -> NamedStream
     }
 }
 
+/// Returns whether the names together have at most so many bytes.
+fn names_fit(streams: &StreamNames<'_>, limit: usize) -> bool
+    ensures { result ≡ nat_le (length (names_of_all streams.now)) limit }
+{
+    let mut left = limit;
+    let streams = streams.as_slice();
+    for named in streams {
+        let Some(rest) = left.checked_sub(named.name.len()) else {
+            return false;
+        };
+        left = rest;
+    }
+    true
+}
+
 /// Collects a `NamedStream` for each named stream, and their names one after another.
 fn collect_names(alloc: Global, streams: &StreamNames<'_>) -> Result<Listing<NamedStream>>
     ensures { Answers listing_view result (Ok (named_listing streams.now)) }
@@ -82,12 +97,18 @@ fn collect_names(alloc: Global, streams: &StreamNames<'_>) -> Result<Listing<Nam
 /// Reads the streams that a file names, for the caller.
 ///
 /// # Errors
-/// Fails as `open_file`, `pdb_information` and `stream_names` do.
+/// Fails as `open_file`, `pdb_information` and `stream_names` do, and with
+/// `UnimplementedFeature("stream names that share bytes")` if the names together have more bytes
+/// than the file, so that the memory for them is bounded by its size.
 pub fn stream_names_in(alloc: Global, file: &[u8]) -> Result<Option<Listing<NamedStream>>>
     ensures { Answers (option_map listing_view) result (names_said file.now) }
 {
+    let limit = file.len();
     let mut file = open_file(alloc, file)?;
     let information = file.pdb_information(alloc)?;
     let streams = information.stream_names(alloc)?;
+    if !names_fit(&streams, limit) {
+        return Err(Error::UnimplementedFeature("stream names that share bytes"));
+    }
     Ok(Some(collect_names(alloc, &streams)?))
 }

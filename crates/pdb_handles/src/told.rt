@@ -33,6 +33,7 @@ fn text_numbered(number: u32) -> Option<&'static str>
         15 => Some("frames that are not sorted"),
         16 => Some("directory that is larger than its file"),
         17 => Some("streams that are larger than their file"),
+        18 => Some("stream names that share bytes"),
         _ => None,
     }
 }

@@ -16,19 +16,20 @@ use Rattle.pdb_msf.specs.Directory.{start_of}
 use Rattle.pdb_msf.proofs.LawLemmas.{first_fault}
 
 -- answers that refuse with no error of a source
-record Plain {A : Type 0} (answer : Answer A) : Type 0 where
+pub record Plain {A : Type 0} (answer : Answer A) : Type 0 where
   pub tells : (state : State) (e : Refusal) → answer ≡ Err e → TellsKind state e
 
-plain_ok : {A : Type 0} (x : A) → Plain (let r : Answer A = Ok x in r)
+pub plain_ok : {A : Type 0} (x : A) → Plain (let r : Answer A = Ok x in r)
 plain_ok x = record { tells = λ state e is. absurd cc }
 
-plain_err : {A : Type 0} (r : Refusal) → ((state : State) → TellsKind state r) → Plain (let a : Answer A = Err r in a)
+pub plain_err : {A : Type 0} (r : Refusal) → ((state : State) → TellsKind state r)
+    → Plain (let a : Answer A = Err r in a)
 plain_err {A} r told = record {
   tells = λ state e is. let same : r ≡ e = cc in
       subst (TellsKind state) same (told state);
 }
 
-plain_then : {A B : Type 0} (first : Answer A) (more : A → Answer B) → Plain first → ((x : A) → Plain (more x))
+pub plain_then : {A B : Type 0} (first : Answer A) (more : A → Answer B) → Plain first → ((x : A) → Plain (more x))
     → Plain (first >>= more)
 plain_then (Ok x) more one two = two x
 plain_then (Err r) more one two = record {
@@ -36,7 +37,7 @@ plain_then (Err r) more one two = record {
       λ state e is. one.tells state e (let same : r ≡ e = cc in ap (λ (d : Refusal). Err d) same);
 }
 
-plain_required : (b : Bool) (r : Refusal) → ((state : State) → TellsKind state r) → Plain (ok_if b r)
+pub plain_required : (b : Bool) (r : Refusal) → ((state : State) → TellsKind state r) → Plain (ok_if b r)
 plain_required true r told = plain_ok tt
 plain_required false r told = plain_err r told
 
@@ -50,7 +51,7 @@ plain_judged pages_used word = elim (cases_Bool (ltb 0 word && leb word pages_us
   | inr bad ↦ rw bad (plain_err (page_reference_out_of_range word) (λ state. tt))
 ]
 
-plain_numbers : (pages_used count : ℕ) (words : List ℕ) → Plain (page_numbers pages_used count words)
+pub plain_numbers : (pages_used count : ℕ) (words : List ℕ) → Plain (page_numbers pages_used count words)
 plain_numbers pages_used count words = record {
   tells = λ state e is.
       let first = first_fault pages_used count words e is in
@@ -69,7 +70,7 @@ plain_place page_size n d =
     (λ reached.
     let place : StreamPlace = record { size = size; start = start_of page_size count d n } in plain_ok place)))))
 
-plain_entry : (g : Geometry) (n : ℕ) (limit : Option ℕ) (d : List ℕ) → Plain (stream_entry_of g n limit d)
+pub plain_entry : (g : Geometry) (n : ℕ) (limit : Option ℕ) (d : List ℕ) → Plain (stream_entry_of g n limit d)
 unfolding stream_entry_of
 plain_entry g n limit d =
     plain_then _ _ (plain_place g.page_size n d) (λ place.

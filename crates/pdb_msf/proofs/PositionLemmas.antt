@@ -167,6 +167,43 @@ front_cut file size short =
     let past : is_within (length file) (record { offset = 0; size = size }) ≡ false = grind (arith, nat_tests) in
     bytes_past file (front_of size) (rw past refl)
 
+-- a part of a file
+abbrev pub one_slice : ℕ → ℕ → List SourceSlice
+one_slice offset size = record { offset = offset; size = size } ∷ []
+
+pub part_there : (file : List ℕ) (offset size : ℕ) → 0 < size → offset + size ≤ length file
+    → bytes_at file (positions (one_slice offset size)) ≡ Some (take size (drop offset file))
+part_there file offset size some reach =
+    let within : is_within (length file) (record { offset = offset; size = size }) ≡ true = grind (arith, nat_tests) in
+    bytes_within file (one_slice offset size) (rw within refl)
+    ∙ ap (λ (bytes : List ℕ). Some bytes) (ap (map (slice_index file)) (append-nil (range_with_len offset size))
+    ∙ part_by_places file offset size reach)
+
+pub part_cut : (file : List ℕ) (offset size : ℕ) → 0 < size → length file < offset + size
+    → bytes_at file (positions (one_slice offset size)) ≡ None
+part_cut file offset size some short =
+    let past : is_within (length file) (record { offset = offset; size = size }) ≡ false = grind (arith, nat_tests) in
+    bytes_past file (one_slice offset size) (rw past refl)
+
+pub part_long : (offset size : ℕ) → length (positions (one_slice offset size)) ≡ size
+part_long offset size =
+    ap length (append-nil (range_with_len offset size)) ∙ length-range_with_len offset size
+
+-- a single byte
+pub byte_there : (file : List ℕ) (offset : ℕ) (bytes : List ℕ)
+    → bytes_at file (positions (one_slice offset 1)) ≡ Some bytes → ltb offset (length file) ≡ true
+byte_there file offset bytes found = elim (cases_lt offset (length file)) [
+  | inl within ↦ lt-ltb offset (length file) within
+  | inr past ↦ absurd (none-some bytes (sym (part_cut file offset 1 (omega arith) (omega arith)) ∙ found))
+]
+
+pub byte_missing : (file : List ℕ) (offset : ℕ) → bytes_at file (positions (one_slice offset 1)) ≡ None
+    → ltb offset (length file) ≡ false
+byte_missing file offset missing = elim (cases_lt offset (length file)) [
+  | inl within ↦ absurd (none-some _ (sym missing ∙ part_there file offset 1 (omega arith) (omega arith)))
+  | inr past ↦ le-ltb offset (length file) past
+]
+
 -- ---- fewer positions
 
 pub take-range_with_len : (from count n : ℕ) → n ≤ count → take n (range_with_len from count) ≡ range_with_len from n

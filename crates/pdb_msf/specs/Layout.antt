@@ -11,12 +11,13 @@ pub record LayoutValue : Type 0 where
   pub head : Head
   pub directory : List ℕ
 
+-- the layout of a file that has this header
+abbrev pub layout_behind : List ℕ → Head → Answer LayoutValue
+layout_behind file head = directory_of file head >>= λ directory. Ok (record { head = head; directory = directory })
+
 -- the layout of a file
 unfoldable pub layout_of : List ℕ → Answer LayoutValue
-layout_of file = do
-  head ← file_head file
-  directory ← directory_of file head
-  Ok (record { head = head; directory = directory })
+layout_of file = file_head file >>= layout_behind file
 
 -- the size of stream n of a layout
 abbrev pub size_by : LayoutValue → ℕ → Answer ℕ

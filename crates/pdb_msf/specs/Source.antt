@@ -1,6 +1,6 @@
 -- What a source of bytes stands for, and what views of it show.
-use Rattle.std.specs.Prelude.{◌≡◌, ◌≢◌, ◌⊎◌, ℕ, ◌<◌, ◌≤◌, Bool, true, IsTrue, nat_lt, if◌then◌else◌, List, length, map}
-use Rattle.std.specs.Prelude.{slice_index, Option, Some, None, Result, Ok, Err, IfErr}
+use Rattle.std.specs.Prelude.{◌≡◌, ◌≢◌, ◌⊎◌, ℕ, ◌+◌, ◌<◌, ◌≤◌, Bool, true, IsTrue, nat_lt, if◌then◌else◌, List, length}
+use Rattle.std.specs.Prelude.{map, take, drop, slice_index, Option, Some, None, Result, Ok, Err, IfErr}
 use Rattle.std.specs.List.{flat_map, list_all, range_with_len}
 use Rattle.std.specs.declared.io.Error.{Error}
 use Rattle.std.specs.declared.io.ErrorKind.{ErrorKind}
@@ -8,7 +8,7 @@ use Rattle.std.specs.declared.io.ErrorKind.TheVariants.{UnexpectedEof, OutOfMemo
 use Rattle.std.specs.IoError.{error_kind}
 use Rattle.pdb_base.specs.declared.error.Error.{Error as Refused}
 use Rattle.pdb_base.specs.Refusal.{Refusal, refusal_of, io_error}
-use Rattle.pdb_base.specs.Answer.{Answer}
+use Rattle.pdb_base.specs.Answer.{Answer, AnswersUnless}
 use Rattle.pdb_msf.specs.declared.source.SourceSlice.{SourceSlice}
 
 -- The state of a source: its bytes, whether these are fixed, how many faults it has met so far, the kind of
@@ -86,3 +86,15 @@ ShowsBytes failed bytes (Err e) meant =
 abbrev pub bytes_or_eof : Option (List ℕ) → Answer (List ℕ)
 bytes_or_eof (Some bytes) = Ok bytes
 bytes_or_eof None = Err (io_error UnexpectedEof)
+
+-- the bytes in a part of a file, or the refusal that the file ends too soon
+unfoldable pub file_part : List ℕ → ℕ → ℕ → Answer (List ℕ)
+file_part file offset size =
+    if nat_lt (length file) (offset + size) then Err (io_error UnexpectedEof) else Ok (take size (drop offset file))
+
+-- A call that reads a source returns what is meant for the source's bytes, as `view` sees it, unless the source failed,
+-- if the bytes are fixed. What stays true of a source over a view does.
+pub record ReadsSource {X A : Type 0} (old new : State) (view : X → A) (result : Result X Refused)
+    (meant : List ℕ → Answer A) : Type 0 where
+  pub answer : IsFixed old → AnswersUnless (HasFailed old new) view result (meant old.bytes)
+  pub kept : IsKept old new

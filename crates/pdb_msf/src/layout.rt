@@ -1,16 +1,18 @@
 //! The header and the directory of a file, which are kept apart from its bytes.
 
-ghost use Rattle.std.specs.Prelude.{◌≡◌};
+ghost use Rattle.std.specs.Prelude.{◌≡◌, IfOk};
 ghost use Rattle.pdb_base.specs.Answer.{Answers, Gives};
 ghost use Rattle.pdb_msf.specs.Exactly.{RefusesExactly};
+ghost use Rattle.pdb_msf.specs.Header.{IsHeader, file_head, header_view};
+ghost use Rattle.pdb_msf.specs.Source.{ReadsSource};
 ghost use Rattle.pdb_msf.specs.Directory.{directory_numbers, stream_place_in, stream_count_in};
-ghost use Rattle.pdb_msf.specs.Layout.{layout_of, pages_by, size_by, stream_by};
+ghost use Rattle.pdb_msf.specs.Layout.{layout_behind, layout_of, pages_by, size_by, stream_by};
 
 use crate::directory::{Directory, read_numbers};
 use crate::header::{Header, read_header};
 use crate::msf::{OPENING_SIZE, view_front};
 use crate::scattered::CountedSource;
-use crate::source::SourceView;
+use crate::source::{Source, SourceView};
 use pdb_base::{Result, Stream};
 use std::alloc::Global;
 use std::marker::Model;
@@ -35,21 +37,51 @@ impl Model for Layout {
     ghost invariant = { λ l. IsHeader l.header × HasStarts l.header.geometry.page_size l.directory };
 }
 
+impl Header {
+    /// Reads the header of a file.
+    ///
+    /// # Errors
+    /// Fails as `open_msf` does.
+    #[tactic(auto, unfolding(crate::specs::Header::file_head))]
+    pub fn read<S: Source>(alloc: Global, source: &mut CountedSource<S>) -> Result<Header>
+        ensures header { ReadsSource (S.state source.old.source) (S.state source.new.source) header_view result
+            file_head }
+        ensures sound { IfOk result IsHeader }
+    {
+        let view = view_front(&mut source.source, alloc, OPENING_SIZE)?;
+        read_header(alloc, view.as_slice())
+    }
+}
+
 impl Layout {
     /// Reads the header and the directory of a file.
     ///
     /// # Errors
-    /// Fails as `open_msf` does if the header is bad, and with `IoError` or
-    /// `PageReferenceOutOfRange` if the directory can't be read. Fails with `OutOfMemory` if an
-    /// allocation fails.
-    #[tactic(auto, unfolding(crate::specs::Header::file_head, crate::specs::Layout::layout_of))]
-    pub fn read(alloc: Global, file: &[u8]) -> Result<Layout>
-        ensures { Answers (λ layout. layout) result (layout_of file.now) }
+    /// Fails as `open_msf` does if the header is bad, and then as `behind` does.
+    #[tactic(auto, unfolding(crate::specs::Layout::layout_of))]
+    pub fn read<S: Source>(alloc: Global, source: &mut CountedSource<S>) -> Result<Layout>
+        ensures { ReadsSource (S.state source.old.source) (S.state source.new.source) (λ layout. layout) result
+            layout_of }
     {
-        let mut front = file;
-        let view = view_front(&mut front, alloc, OPENING_SIZE)?;
-        let header = read_header(alloc, view.as_slice())?;
-        let directory = Directory::read(&mut CountedSource::new(file), alloc, &header)?;
+        let header = Header::read(alloc, source)?;
+        Layout::behind(alloc, source, header)
+    }
+
+    /// Reads the directory of a file whose header was read.
+    ///
+    /// # Errors
+    /// Fails with `IoError` or `PageReferenceOutOfRange` if the directory can't be read, and with
+    /// `OutOfMemory` if an allocation fails.
+    pub fn behind<S: Source>(
+        alloc: Global,
+        source: &mut CountedSource<S>,
+        header: Header,
+    ) -> Result<Layout>
+        requires { IsHeader header }
+        ensures { ReadsSource (S.state source.old.source) (S.state source.new.source) (λ layout. layout) result
+            (λ file. layout_behind file (header_view header)) }
+    {
+        let directory = Directory::read(source, alloc, &header)?;
         Ok(Layout { header, directory })
     }
 
@@ -94,17 +126,22 @@ impl Layout {
         self.header.location.as_slice()
     }
 
-    /// Reads the numbers of the pages that hold the directory, which `file` has in its
+    /// Reads the numbers of the pages that hold the directory, which a file has in its
     /// `location_pages`.
     ///
     /// # Errors
     /// Fails with `IoError` if one of these pages is past the end of the file, with
     /// `PageReferenceOutOfRange` for the first number that is bad, and with `OutOfMemory` if an
     /// allocation fails.
-    pub fn directory_pages(&self, alloc: Global, file: &[u8]) -> Result<Vec<u32>>
-        ensures { Answers (λ numbers. numbers.items) result (directory_numbers file.now self.now.head) }
+    pub fn directory_pages<S: Source>(
+        &self,
+        alloc: Global,
+        source: &mut CountedSource<S>,
+    ) -> Result<Vec<u32>>
+        ensures { ReadsSource (S.state source.old.source) (S.state source.new.source)
+            (λ numbers. numbers.items) result (λ file. directory_numbers file self.now.head) }
     {
-        read_numbers(&mut CountedSource::new(file), alloc, &self.header)
+        read_numbers(source, alloc, &self.header)
     }
 
     /// Returns the numbers of the pages over which a stream is scattered, in the order of its
@@ -123,8 +160,8 @@ impl Layout {
         Ok(entry.pages)
     }
 
-    /// Returns the bytes of `file` where the directory locates a stream, at most as many as the
-    /// limit. If `file` is the file that was read, they are the bytes of its stream.
+    /// Returns the bytes of a source where the directory locates a stream, at most as many as the
+    /// limit. If the source is that of the file that was read, they are the bytes of its stream.
     ///
     /// # Errors
     /// Fails with the first of these, in this order: the errors of `stream_size`; `UnexpectedEof`
@@ -135,25 +172,21 @@ impl Layout {
     /// Fails with `OutOfMemory` if an allocation fails, but never in place of an error of
     /// `stream_size`.
     #[tactic(auto, unfolding(crate::specs::Layout::stream_by))]
-    pub fn stream(
+    pub fn stream<S: Source>(
         &self,
         alloc: Global,
-        file: &[u8],
+        source: &mut CountedSource<S>,
         stream_number: u32,
         limit: Option<usize>,
     ) -> Result<Stream>
-        ensures stream { Answers (λ stream. stream) result (stream_by self.now file.now stream_number limit) }
+        ensures stream { ReadsSource (S.state source.old.source) (S.state source.new.source) (λ stream. stream) result
+            (λ file. stream_by self.now file stream_number limit) }
         ensures exact { RefusesExactly result
             (stream_place_in self.now.head.geometry.page_size stream_number self.now.directory) }
     {
         let geometry = self.header.geometry;
         let entry = self.directory.entry(alloc, geometry, stream_number, limit)?;
-        let bytes = CountedSource::new(file).read_scattered(
-            alloc,
-            geometry.page_size,
-            &entry.pages,
-            entry.size,
-        )?;
+        let bytes = source.read_scattered(alloc, geometry.page_size, &entry.pages, entry.size)?;
         Ok(Stream::new(bytes.into_bytes()))
     }
 }

@@ -178,6 +178,13 @@ impl<S: Source> BigMSF<S> {
         self.header.geometry.page_size
     }
 
+    /// Returns the highest page number that may be used, as the header says it.
+    pub fn pages_used(&self) -> u32
+        ensures { result ≡ self.now.head.geometry.pages_used }
+    {
+        self.header.geometry.pages_used
+    }
+
     /// Returns how many streams the directory has, including the absent ones. The numbers of the
     /// streams are those below this count. The directory is read unless it is kept already.
     ///

@@ -1,12 +1,12 @@
 //! Views of a source, and reads of what lies scattered over its pages.
 
-ghost use Rattle.std.specs.Prelude.{◌≡◌, ◌≢◌, ◌*◌, ◌^◌, ◌<◌, ◌≤◌, Ok, IsTrue, length, map, IfOk};
+ghost use Rattle.std.specs.Prelude.{◌≡◌, ◌≢◌, ◌*◌, ◌^◌, ◌<◌, ◌≤◌, nat_lt, Ok, IsTrue, length, map, IfOk};
 ghost use Rattle.std.specs.IoError.{error_kind};
 ghost use Rattle.std.specs.List.{range_with_len};
 ghost use Rattle.pdb_base.specs.Refusal.{refusal_of};
 ghost use Rattle.pdb_base.specs.Answer.{Answers, AnswersUnless};
 ghost use Rattle.pdb_msf.specs.Source.{HasFailed, IsFixed, IsKept, IsLastFault, KeepsKind, State, TellsKind, bytes_at};
-ghost use Rattle.pdb_msf.specs.Source.{bytes_or_eof, positions};
+ghost use Rattle.pdb_msf.specs.Source.{ReadsSource, bytes_or_eof, file_part, positions};
 ghost use Rattle.pdb_msf.specs.Pages.{position_of, scatter};
 ghost use Rattle.pdb_msf.specs.Asked.{Asks};
 
@@ -70,11 +70,11 @@ fn page_list(alloc: Global, page_size: u32, numbers: &[u32], size: usize) -> Res
     Ok(list)
 }
 
-/// A source, and how many bytes were requested from it. Every read goes through `read_scattered`,
-/// which counts them.
+/// A source, and how many bytes were requested from it. Every read of streams, of the directory and
+/// of parts counts them.
 #[derive(Drop)]
 pub struct CountedSource<S: Source> {
-    source: S,
+    pub(crate) source: S,
     asked: u64,
     ghost fits: { asked < 2 ^ 64 },
 }
@@ -125,6 +125,66 @@ impl<S: Source> CountedSource<S> {
         let list = page_list(alloc, page_size, numbers, size)?;
         self.asked = self.asked.saturating_add(list.len() as u64);
         view(&mut self.source, alloc, list.source_slices())
+    }
+
+    /// Reads `size` bytes from `offset` on.
+    ///
+    /// # Errors
+    /// Fails with `IoError` if the source ends before them or fails otherwise, and with
+    /// `OutOfMemory` if an allocation fails.
+    #[tactic(auto, unfolding(crate::specs::Source::file_part), using(crate::proofs::PositionLemmas::part_there, crate::proofs::PositionLemmas::part_cut, crate::proofs::PositionLemmas::part_long))]
+    pub fn read_part(&mut self, alloc: Global, offset: u64, size: usize) -> Result<ReadView>
+        requires { 0 < size }
+        ensures part { ReadsSource (S.state self.old.source) (S.state self.new.source) (λ v. v) result
+            (λ file. file_part file offset size) }
+        ensures len { IfOk result (λ v. length v ≡ size) }
+    {
+        let slices = [SourceSlice { offset, size }];
+        self.asked = self.asked.saturating_add(size as u64);
+        view(&mut self.source, alloc, &slices)
+    }
+
+    /// Returns whether the source has a byte at an offset.
+    #[tactic(auto, using(crate::proofs::PositionLemmas::byte_there, crate::proofs::PositionLemmas::byte_missing))]
+    fn has_byte(&mut self, alloc: Global, offset: u64) -> Result<bool>
+        ensures { ReadsSource (S.state self.old.source) (S.state self.new.source) (λ has. has) result
+            (λ file. Ok (nat_lt offset (length file))) }
+    {
+        let slices = [SourceSlice { offset, size: 1 }];
+        self.asked = self.asked.saturating_add(1);
+        let Err(error) = self.source.view(alloc, &slices) else {
+            return Ok(true);
+        };
+        match error.kind() {
+            ErrorKind::UnexpectedEof => Ok(false),
+            _ => Err(source_error(error)),
+        }
+    }
+
+    /// Returns how many bytes the source has. It is found by halves, from which single bytes the
+    /// source has, so that at most 65 are requested.
+    ///
+    /// # Errors
+    /// Fails with `IoError` if the source fails, and with `OutOfMemory` if an allocation fails or
+    /// if the source has more than `u64::MAX` bytes.
+    pub fn size(&mut self, alloc: Global) -> Result<u64>
+        ensures { ReadsSource (S.state self.old.source) (S.state self.new.source) (λ size. size) result
+            (λ file. Ok (length file)) }
+    {
+        if self.has_byte(alloc, u64::MAX)? {
+            return Err(Error::OutOfMemory);
+        }
+        let mut least = 0u64;
+        let mut most = u64::MAX;
+        while least < most {
+            let middle = least + (most - least) / 2;
+            if self.has_byte(alloc, middle)? {
+                least = middle + 1;
+            } else {
+                most = middle;
+            }
+        }
+        Ok(least)
     }
 }
 

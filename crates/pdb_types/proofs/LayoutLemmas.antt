@@ -33,7 +33,7 @@ behind_none (Ok fields) = refl
 behind_none (Err refusal) = refl
 
 -- the fields from an item on
-items_from : (items : List TypeData) (i : ℕ) (item : TypeData) → i < length items → get_or items i item ≡ item
+pub items_from : (items : List TypeData) (i : ℕ) (item : TypeData) → i < length items → get_or items i item ≡ item
     → map type_value (drop i items) ≡ type_value item ∷ map type_value (drop (i + 1) items)
 items_from items i item within here =
     let next : drop i items ≡ item ∷ drop (i + 1) items =

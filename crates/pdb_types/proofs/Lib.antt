@@ -8,3 +8,11 @@ pub mod LayoutLemmas
 pub mod ListLemmas
 pub mod PartLemmas
 pub mod TextLemmas
+pub mod OrderLemmas
+pub mod StepLemmas
+pub mod NeedLemmas
+pub mod OrderLaws
+pub mod AgreementLemmas
+pub mod AgreementLaws
+pub mod ComparisonLemmas
+pub mod ComparisonLaws

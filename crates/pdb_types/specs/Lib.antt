@@ -17,3 +17,8 @@ pub mod Layout
 pub mod Part
 pub mod Enumerator
 pub mod Text
+pub mod Needs
+pub mod Order
+pub mod Steps
+pub mod Agreement
+pub mod Comparison

@@ -89,7 +89,7 @@ fn integer_under(index: TypeIndex) -> Option<Integer>
 
 /// Returns a number in 64 bits, in two's complement if it is below 0. One that was read as a `U8`
 /// has a sign.
-fn value_bits(value: Variant) -> u64
+pub(crate) fn value_bits(value: Variant) -> u64
     ensures is { result ≡ value_bits value }
     ensures within { result < 2 ^ 64 }
 {

@@ -1,11 +1,18 @@
 //! What the definitions that contracts cite say in other words. The functions do nothing: each
 //! contract is a law.
 
-ghost use Rattle.std.specs.Prelude.{◌≡◌, ℕ, ◌<◌};
+ghost use Rattle.std.specs.Prelude.{◌≡◌, ◌≢◌, ℕ, ◌<◌, true, List, Ok};
+ghost use Rattle.std.specs.List.{Contains};
+ghost use Rattle.pdb_base.specs.declared.index.TypeIndex.{TypeIndex};
 ghost use Rattle.pdb_tpi.specs.Table.{Table};
+ghost use Rattle.pdb_types.specs.Agreement.{AreAgreed, do_types_agree};
+ghost use Rattle.pdb_types.specs.declared.comparison.Comparison.{Comparison};
+ghost use Rattle.pdb_types.specs.declared.comparison.Comparison.TheVariants.{LayoutDiffers};
+ghost use Rattle.pdb_types.specs.Comparison.{comparison_of};
 ghost use Rattle.pdb_types.specs.Declaration.{TypeName};
 ghost use Rattle.pdb_types.specs.Definition.{first_definition};
 ghost use Rattle.pdb_types.specs.DefinitionLaws.{IsFirstDefinition};
+ghost use Rattle.pdb_types.specs.Order.{IsCycle, IsOrder, IsRequired, Needs};
 ghost use Rattle.pdb_types.specs.Part.{AreDepths, AreParts, class_part};
 ghost use Rattle.pdb_types.specs.Size.{AreSizes, Sizes, size_of};
 
@@ -30,4 +37,28 @@ pub fn sizes()
     ensures are { (table : Table) → AreSizes table (size_of table) }
     ensures only { (table : Table) (sizes : Sizes) → AreSizes table sizes →
         (index : ℕ) → sizes index ≡ size_of table index }
+{}
+
+/// An order of definitions has all that its roots need, directly or through others. Where there is an
+/// order, none of these needs itself.
+pub fn declaration_orders()
+    ensures complete { (needs : Needs) (roots order : List ℕ) → IsOrder needs roots order →
+        (one : ℕ) → IsRequired needs roots one → Contains order one }
+    ensures acyclic { (needs : Needs) (roots order cycle : List ℕ) → IsOrder needs roots order →
+        ¬ IsCycle needs roots cycle }
+{}
+
+/// The layout of a definition doesn't differ from itself.
+pub fn comparisons()
+    ensures { (table : Table) (index : TypeIndex) (comparison : Comparison) →
+        comparison_of table index table index ≡ Ok comparison → comparison ≢ LayoutDiffers }
+{}
+
+/// Types agree only if they are alike, with the types within them, those within these, and so on:
+/// there are pairs of types, those that are compared among them, of which each is alike and has all
+/// pairs of the types within it among them.
+#[tactic(auto, using(crate::proofs::AgreementLaws::types_agree))]
+pub fn agreements()
+    ensures { (one other : Table) (firsts seconds : List TypeIndex) →
+        do_types_agree one other firsts seconds ≡ true → AreAgreed one other firsts seconds }
 {}

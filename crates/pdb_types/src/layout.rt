@@ -86,11 +86,11 @@ pub(crate) struct ClassBody {
     pub(crate) size: u64,
 
     /// The list of its fields, if it has one.
-    list: Option<TypeIndex>,
+    pub(crate) list: Option<TypeIndex>,
 }
 
 /// Returns the list of an index, or None for the index 0, which means no type.
-fn list_there(list: TypeIndex) -> Option<TypeIndex>
+pub(crate) fn list_there(list: TypeIndex) -> Option<TypeIndex>
     ensures { result ≡ list_there list }
 {
     if list.0 == 0 { None } else { Some(list) }
@@ -98,7 +98,7 @@ fn list_there(list: TypeIndex) -> Option<TypeIndex>
 
 /// Returns what the class, structure, interface or union of an index says of its layout, or None
 /// for another type.
-fn body_of(index: TypeIndex, value: &TypeData<'_>) -> Option<ClassBody>
+pub(crate) fn body_of(index: TypeIndex, value: &TypeData<'_>) -> Option<ClassBody>
     ensures { result ≡ body_of index (type_value value.now) }
 {
     match value {
@@ -169,7 +169,11 @@ impl<'t> Definitions<'t> {
     }
 
     /// Returns the records of a list of fields and of the lists in which it continues.
-    fn records_of(&self, alloc: Global, list: Option<TypeIndex>) -> Result<Vec<TypeData<'t>>>
+    pub(crate) fn records_of(
+        &self,
+        alloc: Global,
+        list: Option<TypeIndex>,
+    ) -> Result<Vec<TypeData<'t>>>
         ensures { Answers (λ records. map type_value records.items) result (records_of self.now list) }
     {
         match list {

@@ -3,7 +3,12 @@
 //! between the members of a class.
 #![tactic(auto)]
 
+mod agreement;
+mod budget;
+mod comparison;
+mod convention;
 mod declaration;
+mod declaration_order;
 mod declarator;
 mod definition_index;
 mod definition_walk;
@@ -16,8 +21,10 @@ mod gap;
 mod kind_name;
 pub mod laws;
 mod layout;
+mod marked_text;
 mod memory;
 mod name_hash;
+mod needs;
 mod open_definitions;
 mod part;
 mod primitive_size;
@@ -30,6 +37,8 @@ mod text;
 mod type_at;
 mod type_name;
 
+pub use comparison::{Comparison, compare};
+pub use declaration_order::DeclarationOrder;
 pub use definitions::Definitions;
 pub use enumerator::enumerator_value;
 pub use extent::Extent;

@@ -1,42 +1,33 @@
 //! The text of types as C++ declares them.
 
-ghost use Rattle.std.specs.Prelude.{◌≡◌, ◌++◌, IfOk, take};
-ghost use Rattle.pdb_types.specs.Text.{FailsAsTable, IsShownText, is_left_out, points, shown_bytes};
+ghost use Rattle.std.specs.Prelude.{◌≡◌, ◌-◌, ◌≤◌, ◌++◌, IfOk, take};
+ghost use Rattle.pdb_types.specs.Text.{FailsAsTable, IsShownText, is_left_out, most_shown, points, shown_bytes};
 
+use crate::budget::{Budget, MOST_BYTES, Naming};
+use crate::convention::{convention_word, is_convention_known, method_convention};
 use crate::declaration::declaration_of;
 use crate::declarator::Declarator;
 use crate::definitions::Definitions;
 use crate::kind_name::kind_name;
+use crate::marked_text::common_name;
 use crate::memory::AllocResult;
 use crate::qualifiers::Qualifiers;
 use crate::type_at::type_at;
 use itoa::Buffer;
 use pdb_base::{Result, TypeIndex};
 use pdb_flags::PointerMode;
-use pdb_values::{ArrayType, PointerType, PrimitiveType, TypeData};
+use pdb_values::{ArrayType, PointerType, PrimitiveKind, PrimitiveType, TypeData};
 use std::alloc::Global;
-
-/// How many types one text reads at most, so that it ends in a damaged table too.
-const MOST_TYPES: u32 = 4096;
-
-/// How many types a text reads at most of which each is within the one before, such as that of what
-/// a pointer points to.
-const MOST_WITHIN: u32 = 32;
-
-/// How many bytes a text has at most.
-const MOST_BYTES: usize = 65_536;
 
 /// The index of no type, which in a list of arguments means any further arguments.
 const ANY_ARGUMENTS: u32 = 0;
 
 /// How deep the arguments of functions may be nested.
-const MOST_DEPTH: u32 = 16;
+pub(crate) const MOST_DEPTH: u32 = 16;
 
-/// The calling conventions of functions that are no methods and of methods by default, as
-/// `CV_call_e` of Microsoft's cvinfo.h numbers them; that of methods only in programs of 32 bits.
-const NEAR_C: u8 = 0;
-
-const THIS_CALL: u8 = 11;
+/// How many types a text reads at most of which each is within the one before, such as that of what
+/// a pointer points to.
+const MOST_WITHIN: u32 = 32;
 
 /// The text of a type or of a declaration.
 #[derive(Debug, Drop)]
@@ -48,65 +39,42 @@ pub struct TypeText {
     pub is_cut: bool,
 }
 
-/// What a text may yet read and have.
-#[derive(Clone, Copy)]
-struct Budget {
-    /// How many types it may read.
-    types: u32,
-
-    /// How many bytes of names it may have.
-    bytes: usize,
-
-    /// Whether something was left out.
-    is_cut: bool,
-}
-
-impl Budget {
-    /// Takes a name, or as much of it as there are bytes for.
-    fn take<'n>(&mut self, name: &'n [u8]) -> &'n [u8] {
-        if name.len() <= self.bytes {
-            self.bytes -= name.len();
-            name
-        } else {
-            let most = self.bytes;
-            self.bytes = 0;
-            self.is_cut = true;
-            &name[..most]
-        }
-    }
-
-    /// Returns whether no more may be read.
-    fn is_spent(&self) -> bool {
-        self.types == 0 || self.bytes == 0
-    }
+/// Returns how many bytes a text has at most where so many are asked for: no more than any text, and
+/// as many as the points behind what is left out.
+fn most_shown(asked: usize) -> usize
+    ensures { result ≡ most_shown asked }
+{
+    asked.min(MOST_BYTES).max(2)
 }
 
 /// Returns whether something of a text is left out: a part of it was, or it is too long.
-fn is_left_out(text: &[u8], is_cut: bool) -> bool
-    ensures { result ≡ is_left_out text.now is_cut }
+fn is_left_out(most: usize, text: &[u8], is_cut: bool) -> bool
+    ensures { result ≡ is_left_out most text.now is_cut }
 {
-    is_cut || text.len() > MOST_BYTES
+    is_cut || text.len() > most
 }
 
 /// Returns the front of a text, with two points behind it.
-fn front_of(text: Vec<u8>) -> AllocResult<Vec<u8>>
-    ensures { IfOk result (λ front. front.items ≡ take 65534 text.items ++ points) }
+fn front_of(most: usize, text: Vec<u8>) -> AllocResult<Vec<u8>>
+    requires { 2 ≤ most }
+    ensures { IfOk result (λ front. front.items ≡ take (most - 2) text.items ++ points) }
 {
     let mut front = text;
-    front.truncate(MOST_BYTES - 2);
+    front.truncate(most - 2);
     front.extend_from_slice(b"..")?;
     Ok(front)
 }
 
 /// Returns a text as it is shown: cut if something of it is left out.
 #[tactic(auto, using(crate::proofs::TextLemmas::shown_is))]
-fn shown(text: Vec<u8>, is_cut: bool) -> AllocResult<TypeText>
-    ensures bytes { IfOk result (λ shown. shown.bytes.items ≡ shown_bytes text.items is_cut) }
-    ensures cut { IfOk result (λ shown. shown.is_cut ≡ is_left_out text.items is_cut) }
-    ensures shown { IfOk result IsShownText }
+fn shown(most: usize, text: Vec<u8>, is_cut: bool) -> AllocResult<TypeText>
+    requires { 2 ≤ most }
+    ensures bytes { IfOk result (λ shown. shown.bytes.items ≡ shown_bytes most text.items is_cut) }
+    ensures cut { IfOk result (λ shown. shown.is_cut ≡ is_left_out most text.items is_cut) }
+    ensures shown { IfOk result (IsShownText most) }
 {
-    if is_left_out(&text, is_cut) {
-        let bytes = front_of(text)?;
+    if is_left_out(most, &text, is_cut) {
+        let bytes = front_of(most, text)?;
         Ok(TypeText {
             bytes,
             is_cut: true,
@@ -119,34 +87,10 @@ fn shown(text: Vec<u8>, is_cut: bool) -> AllocResult<TypeText>
     }
 }
 
-/// Returns how compilers spell a calling convention of this number, or no text for the default one
-/// and for those of other machines.
-fn convention_word(number: u8) -> &'static str {
-    match number {
-        2 | 3 => "__pascal",
-        4 | 5 => "__fastcall",
-        7 | 8 => "__stdcall",
-        9 | 10 => "__syscall",
-        THIS_CALL => "__thiscall",
-        22 => "__clrcall",
-        24 => "__vectorcall",
-        _ => "",
-    }
-}
-
-/// Returns how compilers spell the calling convention of a method, if it isn't the default one,
-/// where a pointer to its object has so many bytes.
-fn method_convention(number: u8, pointer_size: u8) -> &'static str {
-    match number {
-        THIS_CALL => "",
-        NEAR_C if pointer_size == 4 => "__cdecl",
-        _ => convention_word(number),
-    }
-}
-
-/// Returns the sign of a pointer or a reference.
-fn sign_of(mode: PointerMode) -> &'static str {
+/// Returns the sign of a pointer or a reference, which C doesn't tell apart.
+fn sign_of(mode: PointerMode, naming: Naming) -> &'static str {
     match mode {
+        _ if naming == Naming::Marked => "*",
         PointerMode::LValueReference => "&",
         PointerMode::RValueReference => "&&",
         PointerMode::Pointer | PointerMode::Member | PointerMode::MemberFunction => "*",
@@ -204,6 +148,15 @@ fn next_of(value: &TypeData<'_>) -> Option<TypeIndex> {
     }
 }
 
+/// Returns what stands for any further arguments behind those that a text has. In C it is nothing
+/// where there is no argument before.
+fn any_arguments(text: &[u8], budget: &Budget) -> &'static [u8] {
+    if budget.is_marked() && text.len() <= 1 {
+        return b"";
+    }
+    b"..."
+}
+
 /// Returns the list of the arguments of a function.
 fn arguments_of(value: &TypeData<'_>) -> Option<TypeIndex> {
     match value {
@@ -213,14 +166,27 @@ fn arguments_of(value: &TypeData<'_>) -> Option<TypeIndex> {
     }
 }
 
+/// Returns the name of a primitive type. A text with marks is cut where C has none.
+fn primitive_name(kind: PrimitiveKind, budget: &mut Budget) -> &'static str {
+    match common_name(kind) {
+        Some(name) if budget.is_marked() => name,
+        Some(_) => kind_name(kind),
+        None => {
+            budget.take_only_cpp(&[]);
+            kind_name(kind)
+        }
+    }
+}
+
 /// Returns the declaration of a primitive type.
 fn primitive_text(
     alloc: Global,
     primitive: PrimitiveType,
     qualifiers: Qualifiers,
     declarator: &Declarator,
+    budget: &mut Budget,
 ) -> AllocResult<Vec<u8>> {
-    let name = kind_name(primitive.kind).as_bytes();
+    let name = primitive_name(primitive.kind, budget).as_bytes();
     if primitive.indirection.is_none() {
         return declarator.declaration(alloc, qualifiers, name);
     }
@@ -240,20 +206,24 @@ fn other_name(value: &TypeData<'_>) -> &'static str {
 /// Returns the declaration of a type that no other type is within.
 fn last_text(
     alloc: Global,
+    index: TypeIndex,
     value: &TypeData<'_>,
     qualifiers: Qualifiers,
     declarator: &Declarator,
     budget: &mut Budget,
 ) -> AllocResult<Vec<u8>> {
     if let TypeData::Primitive(primitive) = value {
-        return primitive_text(alloc, *primitive, qualifiers, declarator);
+        return primitive_text(alloc, *primitive, qualifiers, declarator, budget);
     }
     match declaration_of(value) {
         Some(names) => {
-            let name = budget.take(names.name.as_bytes());
+            let name = budget.take_class(alloc, index, names.name.as_bytes())?;
+            declarator.declaration(alloc, qualifiers, &name)
+        }
+        None => {
+            let name = budget.take_only_cpp(other_name(value).as_bytes());
             declarator.declaration(alloc, qualifiers, name)
         }
-        None => declarator.declaration(alloc, qualifiers, other_name(value).as_bytes()),
     }
 }
 
@@ -284,9 +254,12 @@ impl<'t> Definitions<'t> {
         if let Some(class) = pointer.containing_class {
             let name = self.class_name(alloc, class)?;
             sign.extend_from_slice(budget.take(name))?;
-            sign.extend_from_slice("::".as_bytes())?;
+            sign.extend_from_slice(budget.take_only_cpp("::".as_bytes()))?;
         }
-        sign.extend_from_slice(sign_of(pointer.attributes.pointer_mode()).as_bytes())?;
+        sign.extend_from_slice(sign_of(
+            pointer.attributes.pointer_mode(),
+            budget.naming,
+        ).as_bytes())?;
         let qualifiers = qualifiers.with_pointer(pointer.attributes);
         *declarator = declarator.pointer(alloc, &sign, qualifiers)?;
         Ok(())
@@ -346,12 +319,21 @@ impl<'t> Definitions<'t> {
 
     /// Returns how compilers spell the calling convention of a function, if it isn't the default
     /// one.
-    fn convention(&self, alloc: Global, value: &TypeData<'t>) -> Result<&'static str>
+    fn convention(
+        &self,
+        alloc: Global,
+        value: &TypeData<'t>,
+        budget: &mut Budget,
+    ) -> Result<&'static str>
         ensures { FailsAsTable self.now result }
     {
         match value {
             TypeData::Procedure(function) => {
-                Ok(convention_word(function.attributes.calling_convention()))
+                let number = function.attributes.calling_convention();
+                if !is_convention_known(number) {
+                    budget.take_only_cpp(&[]);
+                }
+                Ok(convention_word(number))
             }
             TypeData::MemberFunction(function) => {
                 let number = function.attributes.calling_convention();
@@ -394,6 +376,7 @@ impl<'t> Definitions<'t> {
                 Ok(qualifiers)
             }
             TypeData::MemberFunction(function) => {
+                budget.take_only_cpp(&[]);
                 self.push_object(alloc, function.this_pointer_type, declarator)?;
                 Ok(qualifiers)
             }
@@ -439,7 +422,7 @@ impl<'t> Definitions<'t> {
                 break;
             }
             if argument.0 == ANY_ARGUMENTS {
-                text.extend_from_slice("...".as_bytes())?;
+                text.extend_from_slice(any_arguments(&text, budget))?;
                 continue;
             }
             let declared = self.declare(alloc, *argument, &[], depth - 1, budget)?;
@@ -451,7 +434,7 @@ impl<'t> Definitions<'t> {
 
     /// Returns the declaration of a name that has a type, within what may yet be read.
     #[cycle(text)]
-    fn declare(
+    pub(crate) fn declare(
         &self,
         alloc: Global,
         index: TypeIndex,
@@ -471,14 +454,21 @@ impl<'t> Definitions<'t> {
             budget.types -= 1;
             let value = type_at(self.types(), alloc, index)?;
             if let Some(list) = arguments_of(&value) {
-                let convention = self.convention(alloc, &value)?;
+                let convention = self.convention(alloc, &value, budget)?;
                 let arguments = self.arguments_text(alloc, list, depth, budget)?;
                 declarator.push_brackets(alloc, convention, &arguments)?;
             }
             qualifiers = self.push_part(alloc, &value, qualifiers, &mut declarator, budget)?;
             match next_of(&value) {
                 Some(next) => index = next,
-                None => return Ok(last_text(alloc, &value, qualifiers, &declarator, budget)?),
+                None => return Ok(last_text(
+                    alloc,
+                    index,
+                    &value,
+                    qualifiers,
+                    &declarator,
+                    budget,
+                )?),
             }
         }
         budget.is_cut = true;
@@ -502,16 +492,31 @@ impl<'t> Definitions<'t> {
     /// `OutOfMemory` if an allocation fails.
     pub fn type_text(&self, alloc: Global, index: TypeIndex, name: &[u8]) -> Result<TypeText>
         ensures fails { FailsAsTable self.now result }
-        ensures shown { IfOk result IsShownText }
+        ensures shown { IfOk result (IsShownText 65536) }
     {
-        let mut budget = Budget {
-            types: MOST_TYPES,
-            bytes: MOST_BYTES,
-            is_cut: false,
-        };
+        self.text_within(alloc, index, name, MOST_BYTES)
+    }
+
+    /// Returns what `type_text` does, cut where it would have more than so many bytes. Two are always
+    /// there for the points.
+    ///
+    /// # Errors
+    /// Fails as `type_text` does.
+    pub fn text_within(
+        &self,
+        alloc: Global,
+        index: TypeIndex,
+        name: &[u8],
+        most: usize,
+    ) -> Result<TypeText>
+        ensures fails { FailsAsTable self.now result }
+        ensures shown { IfOk result (IsShownText (most_shown most)) }
+    {
+        let most = most_shown(most);
+        let mut budget = Budget::new(Naming::Recorded, most);
         let name = budget.take(name);
         let text = self.declare(alloc, index, name, MOST_DEPTH, &mut budget)?;
-        Ok(shown(text, budget.is_cut)?)
+        Ok(shown(most, text, budget.is_cut)?)
     }
 
     /// Returns the bytes of what `type_text` returns.

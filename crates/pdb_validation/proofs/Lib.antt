@@ -3,6 +3,7 @@ pub mod WalkLemmas
 pub mod StreamLemmas
 pub mod SizeLemmas
 pub mod NameLemmas
+pub mod OpenedLemmas
 pub mod SeverityLemmas
 pub mod RelationLemmas
 pub mod WholeLemmas

@@ -6,7 +6,7 @@ use Rattle.std.specs.List.{flat_map, range_with_len}
 use Rattle.std.specs.Option.{option_map, option_to_list}
 use Rattle.std.proofs.Math.Nat.{le-min, min-le_right}
 use Rattle.std.proofs.lemmas.Bool.{cases_lt, false≢true, lt-ltb, le-ltb}
-use Rattle.pdb_base.specs.Answer.{Answer, Answers, ◌>>=◌, ok_if}
+use Rattle.pdb_base.specs.Answer.{Answer, AnswersUnless, ◌>>=◌, ok_if}
 use Rattle.pdb_base.specs.Refusal.{Refusal, stream_not_found}
 use Rattle.pdb_base.specs.declared.error.Error.{Error}
 use Rattle.pdb_base.proofs.lemmas.Collected.{ok_is}
@@ -665,14 +665,14 @@ whole_file extent file whole = whole_behind_header extent file (file_head file) 
 abbrev said : List FaultPlace → Answer (List FaultPlace)
 said faults = Ok faults
 
-pub whole_findings : {X : Type 0} (items : X → List Finding) (result : Result X Error) (extent : Extent)
-    (file : List ℕ) → Answers (λ (findings : X). map finding_view (items findings)) result
-    (said (faults_of extent file))
+pub whole_findings : {X : Type 0} (items : X → List Finding) (failed : Type 0) (result : Result X Error)
+    (extent : Extent) (file : List ℕ)
+    → AnswersUnless failed (λ (findings : X). map finding_view (items findings)) result (said (faults_of extent file))
     → IfOk result (λ findings. (error_count (map finding_view (items findings)) ≡ 0) ↔ IsWhole file)
-whole_findings items (Ok findings) extent file is =
+whole_findings items failed (Ok findings) extent file is =
     let same : faults_of extent file ≡ map finding_view (items findings) = ok_is _ _ is in (
       λ none. no_errors extent file (ap errors_in same ∙ uncounted (map finding_view (items findings)) none),
       λ whole.
           counted_none (map finding_view (items findings)) (sym (ap errors_in same) ∙ whole_file extent file whole),
     )
-whole_findings items (Err e) extent file is = tt
+whole_findings items failed (Err e) extent file is = tt

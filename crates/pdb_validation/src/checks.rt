@@ -1,10 +1,11 @@
 //! Whether a file is whole.
 
-ghost use Rattle.std.specs.Prelude.{◌≡◌, ◌<◌, ◌↔◌, [], ◌∷◌, ◌++◌, map, Ok, IfOk, IsOk};
+ghost use Rattle.std.specs.Prelude.{◌≡◌, ◌<◌, ◌↔◌, [], ◌∷◌, ◌++◌, map, Ok, IfOk, IsTrue};
 ghost use Rattle.std.specs.Option.{option_to_list};
-ghost use Rattle.pdb_base.specs.Answer.{Answers};
-ghost use Rattle.pdb_msf.specs.Header.{file_head};
+ghost use Rattle.pdb_base.specs.Answer.{Answers, AnswersUnless};
+ghost use Rattle.pdb_msf.specs.Header.{IsHeader, file_head, header_view};
 ghost use Rattle.pdb_msf.specs.Layout.{layout_of};
+ghost use Rattle.pdb_msf.specs.Source.{IsFixed, ReadsSource};
 ghost use Rattle.pdb_validation.specs.Finding.{by_extent, error_count, file_fault, finding_view};
 ghost use Rattle.pdb_validation.specs.IsWhole.{IsWhole};
 ghost use Rattle.pdb_validation.specs.Problem.{problem_view};
@@ -19,29 +20,30 @@ use crate::problem::Problem;
 use crate::read::read;
 use crate::relations::add_relations;
 use crate::roles::{check_role, check_roles, known_roles};
-use crate::sizes::{directory_size, nameable, streams_size};
+use crate::sizes::{nameable, streams_size};
 use crate::streams::add_streams;
 use crate::tables::{add_ids, add_types};
-use pdb_base::{Error, Result};
+use pdb_base::Result;
 use pdb_consistency::{Extent, Inconsistency};
-use pdb_file::{DBIExtraStreams, ID_STREAM, PDB, TYPE_STREAM};
-use pdb_msf::Layout;
+use pdb_file::{DBIExtraStreams, ID_STREAM, TYPE_STREAM};
+use pdb_msf::{CountedSource, Header, Layout, Source, comes_from_outside};
 use std::alloc::Global;
 
 /// Adds the findings of the table of types, if its stream can be read.
 #[tactic(auto, unfolding(crate::specs::Whole::faults_of_types))]
-fn add_type_stream(
+fn add_type_stream<S: Source>(
     alloc: Global,
     layout: &Layout,
-    file: &[u8],
+    source: &mut CountedSource<S>,
     extent: Extent,
     findings: &mut Vec<Finding>,
 ) -> Result<()>
     requires { 0 < layout.now.head.geometry.page_size }
-    ensures { Answers (λ done. map finding_view findings.new.items) result
-        (Ok (map finding_view findings.old.items ++ by_extent extent (faults_of_types layout.now file.now))) }
+    ensures { ReadsSource (S.state source.old.source) (S.state source.new.source)
+        (λ done. map finding_view findings.new.items) result (λ file. Ok (map finding_view findings.old.items
+        ++ by_extent extent (faults_of_types layout.now file))) }
 {
-    match read(alloc, layout, file, TYPE_STREAM)? {
+    match read(alloc, layout, source, TYPE_STREAM)? {
         Ok(stream) => {
             let pages = StreamPages::of(alloc, layout, TYPE_STREAM)?;
             add_types(alloc, stream, &pages, extent, findings)
@@ -52,18 +54,19 @@ fn add_type_stream(
 
 /// Adds the findings of the table of ids, if its stream can be read.
 #[tactic(auto, unfolding(crate::specs::Whole::faults_of_ids))]
-fn add_id_stream(
+fn add_id_stream<S: Source>(
     alloc: Global,
     layout: &Layout,
-    file: &[u8],
+    source: &mut CountedSource<S>,
     extent: Extent,
     findings: &mut Vec<Finding>,
 ) -> Result<()>
     requires { 0 < layout.now.head.geometry.page_size }
-    ensures { Answers (λ done. map finding_view findings.new.items) result
-        (Ok (map finding_view findings.old.items ++ by_extent extent (faults_of_ids layout.now file.now))) }
+    ensures { ReadsSource (S.state source.old.source) (S.state source.new.source)
+        (λ done. map finding_view findings.new.items) result (λ file. Ok (map finding_view findings.old.items
+        ++ by_extent extent (faults_of_ids layout.now file))) }
 {
-    match read(alloc, layout, file, ID_STREAM)? {
+    match read(alloc, layout, source, ID_STREAM)? {
         Ok(stream) => {
             let pages = StreamPages::of(alloc, layout, ID_STREAM)?;
             add_ids(alloc, stream, &pages, extent, findings)
@@ -74,87 +77,112 @@ fn add_id_stream(
 
 /// Returns the findings of the bytes of streams, and of the parts whose streams have fixed numbers.
 #[tactic(auto, unfolding(crate::specs::Whole::fixed_faults))]
-fn check_fixed(alloc: Global, layout: &Layout, file: &[u8], extent: Extent) -> Result<Vec<Finding>>
+fn check_fixed<S: Source>(
+    alloc: Global,
+    layout: &Layout,
+    source: &mut CountedSource<S>,
+    extent: Extent,
+) -> Result<Vec<Finding>>
     requires { 0 < layout.now.head.geometry.page_size }
-    ensures { Answers (λ findings. map finding_view findings.items) result
-        (Ok (fixed_faults extent layout.now file.now)) }
+    ensures { ReadsSource (S.state source.old.source) (S.state source.new.source)
+        (λ findings. map finding_view findings.items) result (λ file. Ok (fixed_faults extent layout.now file)) }
 {
     let mut findings = Vec::new(alloc);
-    add_streams(alloc, layout, file, nameable(layout), extent, &mut findings)?;
-    add(&mut findings, check_names(alloc, layout, file)?)?;
-    add(&mut findings, check_roles(alloc, layout, file)?)?;
-    add_type_stream(alloc, layout, file, extent, &mut findings)?;
-    add_id_stream(alloc, layout, file, extent, &mut findings)?;
+    add_streams(
+        alloc,
+        layout,
+        source,
+        nameable(layout),
+        extent,
+        &mut findings,
+    )?;
+    add(&mut findings, check_names(alloc, layout, source)?)?;
+    add(&mut findings, check_roles(alloc, layout, source)?)?;
+    add_type_stream(alloc, layout, source, extent, &mut findings)?;
+    add_id_stream(alloc, layout, source, extent, &mut findings)?;
     Ok(findings)
 }
 
 /// Adds the finding of the stream of a role, if it has an error.
-fn add_role(
+fn add_role<S: Source>(
     alloc: Global,
     layout: &Layout,
-    file: &[u8],
+    source: &mut CountedSource<S>,
     roles: &Option<DBIExtraStreams>,
     part: Part,
     findings: &mut Vec<Finding>,
 ) -> Result<()>
-    ensures { Answers (λ done. map finding_view findings.new.items) result
-        (Ok (map finding_view findings.old.items
-        ++ option_to_list (role_fault layout.now file.now part roles.now))) }
+    ensures { ReadsSource (S.state source.old.source) (S.state source.new.source)
+        (λ done. map finding_view findings.new.items) result (λ file. Ok (map finding_view findings.old.items
+        ++ option_to_list (role_fault layout.now file part roles.now))) }
 {
-    let found = check_role(alloc, layout, file, roles, part)?;
+    let found = check_role(alloc, layout, source, roles, part)?;
     add(findings, found)
 }
 
 /// Adds the findings of the streams of all roles that are read.
 #[tactic(auto, unfolding(crate::specs::Whole::with_roles))]
-fn add_roles(
+fn add_roles<S: Source>(
     alloc: Global,
     layout: &Layout,
-    file: &[u8],
+    source: &mut CountedSource<S>,
     roles: &Option<DBIExtraStreams>,
     findings: &mut Vec<Finding>,
 ) -> Result<()>
-    ensures { Answers (λ done. map finding_view findings.new.items) result
-        (Ok (with_roles layout.now file.now roles.now (map finding_view findings.old.items))) }
+    ensures { ReadsSource (S.state source.old.source) (S.state source.new.source)
+        (λ done. map finding_view findings.new.items) result (λ file. Ok (with_roles layout.now file roles.now
+        (map finding_view findings.old.items))) }
 {
-    add_role(alloc, layout, file, roles, Part::SectionHeaders, findings)?;
+    add_role(alloc, layout, source, roles, Part::SectionHeaders, findings)?;
     add_role(
         alloc,
         layout,
-        file,
+        source,
         roles,
         Part::OriginalSectionHeaders,
         findings,
     )?;
-    add_role(alloc, layout, file, roles, Part::OmapToSource, findings)?;
-    add_role(alloc, layout, file, roles, Part::OmapFromSource, findings)?;
-    add_role(alloc, layout, file, roles, Part::OldFrames, findings)?;
-    add_role(alloc, layout, file, roles, Part::NewFrames, findings)
+    add_role(alloc, layout, source, roles, Part::OmapToSource, findings)?;
+    add_role(alloc, layout, source, roles, Part::OmapFromSource, findings)?;
+    add_role(alloc, layout, source, roles, Part::OldFrames, findings)?;
+    add_role(alloc, layout, source, roles, Part::NewFrames, findings)
 }
 
 /// Returns the findings of each part of a file whose directory can be read, by itself.
 #[tactic(auto, unfolding(crate::specs::Whole::refused_faults))]
-fn check_each(alloc: Global, layout: &Layout, file: &[u8], extent: Extent) -> Result<Vec<Finding>>
+fn check_each<S: Source>(
+    alloc: Global,
+    layout: &Layout,
+    source: &mut CountedSource<S>,
+    extent: Extent,
+) -> Result<Vec<Finding>>
     requires { 0 < layout.now.head.geometry.page_size }
-    ensures { Answers (λ findings. map finding_view findings.items) result
-        (Ok (refused_faults extent layout.now file.now)) }
+    ensures { ReadsSource (S.state source.old.source) (S.state source.new.source)
+        (λ findings. map finding_view findings.items) result (λ file. Ok (refused_faults extent layout.now file)) }
 {
-    let mut findings = check_fixed(alloc, layout, file, extent)?;
-    let roles = known_roles(alloc, layout, file)?;
-    add_roles(alloc, layout, file, &roles, &mut findings)?;
+    let mut findings = check_fixed(alloc, layout, source, extent)?;
+    let roles = known_roles(alloc, layout, source)?;
+    add_roles(alloc, layout, source, &roles, &mut findings)?;
     Ok(findings)
 }
 
 /// Returns the findings of all parts of a file whose directory can be read, and then what is
 /// inconsistent between them.
 #[tactic(auto, unfolding(crate::specs::Whole::part_faults))]
-fn check_parts(alloc: Global, layout: &Layout, file: &[u8], extent: Extent) -> Result<Vec<Finding>>
-    requires { 0 < layout.now.head.geometry.page_size }
-    ensures { Answers (λ findings. map finding_view findings.items) result
-        (Ok (part_faults extent layout.now file.now)) }
+fn check_parts<S: Source>(
+    alloc: Global,
+    layout: &Layout,
+    source: &mut CountedSource<S>,
+    extent: Extent,
+) -> Result<Vec<Finding>>
+    requires sized { 0 < layout.now.head.geometry.page_size }
+    requires layout { IsFixed (S.state source.old.source) →
+        layout_of (S.state source.old.source).bytes ≡ Ok layout.now }
+    ensures { ReadsSource (S.state source.old.source) (S.state source.new.source)
+        (λ findings. map finding_view findings.items) result (λ file. Ok (part_faults extent layout.now file)) }
 {
-    let mut findings = check_each(alloc, layout, file, extent)?;
-    add_relations(alloc, layout, file, extent, &mut findings)?;
+    let mut findings = check_each(alloc, layout, source, extent)?;
+    add_relations(alloc, layout, source, extent, &mut findings)?;
     Ok(findings)
 }
 
@@ -170,63 +198,90 @@ fn only(alloc: Global, part: Part, problem: Problem) -> Result<Vec<Finding>>
 /// Returns the findings of a file whose directory can be read: that the streams are larger than the
 /// file, or those of all parts.
 #[tactic(auto, unfolding(crate::specs::Whole::sized_faults))]
-fn check_sized(alloc: Global, layout: &Layout, file: &[u8], extent: Extent) -> Result<Vec<Finding>>
-    requires { 0 < layout.now.head.geometry.page_size }
-    ensures { Answers (λ findings. map finding_view findings.items) result
-        (Ok (sized_faults extent layout.now file.now)) }
+fn check_sized<S: Source>(
+    alloc: Global,
+    layout: &Layout,
+    source: &mut CountedSource<S>,
+    extent: Extent,
+) -> Result<Vec<Finding>>
+    requires sized { 0 < layout.now.head.geometry.page_size }
+    requires layout { IsFixed (S.state source.old.source) →
+        layout_of (S.state source.old.source).bytes ≡ Ok layout.now }
+    ensures { ReadsSource (S.state source.old.source) (S.state source.new.source)
+        (λ findings. map finding_view findings.items) result (λ file. Ok (sized_faults extent layout.now file)) }
 {
-    if streams_size(layout) > file.len() as u64 {
+    if streams_size(layout) > source.size(alloc)? {
         let problem = Problem::Inconsistent(Inconsistency::StreamsTooLarge);
         return only(alloc, Part::Sizes, problem);
     }
-    check_parts(alloc, layout, file, extent)
+    check_parts(alloc, layout, source, extent)
 }
 
 /// Returns the findings of a file whose directory is no larger than it: that the directory can't be
 /// read, or those of the other parts.
-fn check_directory(alloc: Global, file: &[u8], extent: Extent) -> Result<Vec<Finding>>
-    ensures { Answers (λ findings. map finding_view findings.items) result
-        (Ok (faults_by extent file.now (layout_of file.now))) }
+#[tactic(auto, unfolding(pdb_msf::specs::Layout::layout_of))]
+fn check_directory<S: Source>(
+    alloc: Global,
+    source: &mut CountedSource<S>,
+    header: Header,
+    extent: Extent,
+) -> Result<Vec<Finding>>
+    requires header { IsHeader header }
+    requires head { IsFixed (S.state source.old.source) →
+        file_head (S.state source.old.source).bytes ≡ Ok (header_view header) }
+    ensures { ReadsSource (S.state source.old.source) (S.state source.new.source)
+        (λ findings. map finding_view findings.items) result (λ file. Ok (faults_by extent file (layout_of file))) }
 {
-    match Layout::read(alloc, file) {
-        Ok(layout) => check_sized(alloc, &layout, file, extent),
-        Err(Error::OutOfMemory) => Err(Error::OutOfMemory),
-        Err(error) => only(alloc, Part::Directory, Problem::Error(error)),
+    match Layout::behind(alloc, source, header) {
+        Ok(layout) => check_sized(alloc, &layout, source, extent),
+        Err(error) => {
+            if comes_from_outside(&error) {
+                return Err(error);
+            }
+            only(alloc, Part::Directory, Problem::Error(error))
+        }
     }
 }
 
-/// Returns the findings of a file whose header can be read: that the directory is larger than the
+/// Returns the findings of a file whose header was read: that the directory is larger than the
 /// file, or those of the directory and of the other parts.
-#[tactic(auto, unfolding(crate::specs::Whole::opened_faults))]
-fn check_opened(alloc: Global, file: &[u8], extent: Extent) -> Result<Vec<Finding>>
-    requires { IsOk (file_head file.now) }
-    ensures { Answers (λ findings. map finding_view findings.items) result
-        (Ok (opened_faults extent file.now)) }
+fn check_opened<S: Source>(
+    alloc: Global,
+    source: &mut CountedSource<S>,
+    header: Header,
+    extent: Extent,
+) -> Result<Vec<Finding>>
+    requires header { IsHeader header }
+    requires head { IsFixed (S.state source.old.source) →
+        file_head (S.state source.old.source).bytes ≡ Ok (header_view header) }
+    ensures { ReadsSource (S.state source.old.source) (S.state source.new.source)
+        (λ findings. map finding_view findings.items) result (λ file. Ok (opened_faults extent file)) }
 {
-    if directory_size(file) as usize > file.len() {
+    if header.geometry.directory_size as u64 > source.size(alloc)? {
         let problem = Problem::Inconsistent(Inconsistency::DirectoryTooLarge);
         return only(alloc, Part::Sizes, problem);
     }
-    check_directory(alloc, file, extent)
-}
-
-/// Opens a file in memory.
-fn open<'f>(alloc: Global, file: &'f [u8]) -> Result<PDB<&'f [u8]>>
-    ensures { Answers (λ pdb. pdb.head) result (file_head file.now) }
-{
-    PDB::open(alloc, file)
+    check_directory(alloc, source, header, extent)
 }
 
 /// Returns the findings of a file: that of the header, or those of the other parts.
 #[tactic(auto, unfolding(crate::specs::Whole::faults_of))]
-fn check_file(alloc: Global, file: &[u8], extent: Extent) -> Result<Vec<Finding>>
-    ensures { Answers (λ findings. map finding_view findings.items) result
-        (Ok (faults_of extent file.now)) }
+fn check_file<S: Source>(
+    alloc: Global,
+    source: &mut CountedSource<S>,
+    extent: Extent,
+) -> Result<Vec<Finding>>
+    ensures { ReadsSource (S.state source.old.source) (S.state source.new.source)
+        (λ findings. map finding_view findings.items) result (λ file. Ok (faults_of extent file)) }
 {
-    match open(alloc, file) {
-        Ok(_) => check_opened(alloc, file, extent),
-        Err(Error::OutOfMemory) => Err(Error::OutOfMemory),
-        Err(error) => only(alloc, Part::Header, Problem::Error(error)),
+    match Header::read(alloc, source) {
+        Ok(header) => check_opened(alloc, source, header, extent),
+        Err(error) => {
+            if comes_from_outside(&error) {
+                return Err(error);
+            }
+            only(alloc, Part::Header, Problem::Error(error))
+        }
     }
 }
 
@@ -259,14 +314,19 @@ fn check_file(alloc: Global, file: &[u8], extent: Extent) -> Result<Vec<Finding>
 ///
 /// Streams are read one at a time: each for its bytes, and those of the parts again for what they
 /// hold and for what is inconsistent. Since streams are read only if they are no larger together
-/// than the file, and so is the directory, the work is linear in the size of the file.
+/// than the file, and so is the directory, the work is linear in the size of the file. Of the
+/// file's bytes no more than one stream, the directory and a page of the free page map are kept in
+/// memory at a time, and of each page to whom it belongs.
 ///
 /// # Errors
-/// Fails with `OutOfMemory` if an allocation fails. All other errors are findings.
-pub fn validate(alloc: Global, file: &[u8], extent: Extent) -> Result<Vec<Finding>>
-    ensures findings { Answers (λ findings. map finding_view findings.items) result
-        (Ok (faults_of extent file.now)) }
-    ensures whole { IfOk result (λ findings. (error_count (map finding_view findings.items) ≡ 0) ↔ IsWhole file.now) }
+/// Fails with `IoError` if the source fails otherwise than by the end of its bytes, and with
+/// `OutOfMemory` if an allocation fails. All other errors are findings.
+#[tactic(auto, using(pdb_msf::proofs::lemmas::Kept::unsound))]
+pub fn validate<S: Source + Drop>(alloc: Global, source: S, extent: Extent) -> Result<Vec<Finding>>
+    ensures findings { IsFixed (S.state source) → AnswersUnless (¬ IsTrue (S.state source).is_sound)
+        (λ findings. map finding_view findings.items) result (Ok (faults_of extent (S.state source).bytes)) }
+    ensures whole { IsFixed (S.state source) → IfOk result (λ findings.
+        (error_count (map finding_view findings.items) ≡ 0) ↔ IsWhole (S.state source).bytes) }
 {
-    check_file(alloc, file, extent)
+    check_file(alloc, &mut CountedSource::new(source), extent)
 }

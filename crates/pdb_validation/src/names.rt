@@ -4,6 +4,7 @@ ghost use Rattle.std.specs.Prelude.{◌≡◌, ◌≤◌, length, Ok};
 ghost use Rattle.pdb_base.specs.Reading.{word_at};
 ghost use Rattle.std.specs.Option.{option_map};
 ghost use Rattle.pdb_base.specs.Answer.{Answers, Gives};
+ghost use Rattle.pdb_msf.specs.Source.{ReadsSource};
 ghost use Rattle.pdb_validation.specs.Finding.{finding_view};
 ghost use Rattle.pdb_validation.specs.Names.{last_name, named_fault, names_fault, string_table_fault};
 ghost use Rattle.pdb_validation.specs.Names.{string_table_number, whole_names};
@@ -14,7 +15,7 @@ use crate::read::read;
 use byteorder::{ByteOrder, LittleEndian};
 use pdb_base::{Error, Result, Stream};
 use pdb_file::PDBInformation;
-use pdb_msf::Layout;
+use pdb_msf::{CountedSource, Layout, Source};
 use pdb_space::{StringRef, StringTable};
 use std::alloc::Global;
 
@@ -71,15 +72,16 @@ fn check_names_in(stream: Stream) -> Result<()>
 
 /// Returns the finding of the string table in the stream of a number, if it has an error.
 #[tactic(auto, unfolding(crate::specs::Names::string_table_fault))]
-fn check_string_table(
+fn check_string_table<S: Source>(
     alloc: Global,
     layout: &Layout,
-    file: &[u8],
+    source: &mut CountedSource<S>,
     number: u32,
 ) -> Result<Option<Finding>>
-    ensures { Answers (option_map finding_view) result (Ok (string_table_fault layout.now file.now number)) }
+    ensures { ReadsSource (S.state source.old.source) (S.state source.new.source) (option_map finding_view) result
+        (λ file. Ok (string_table_fault layout.now file number)) }
 {
-    match read(alloc, layout, file, number)? {
+    match read(alloc, layout, source, number)? {
         Ok(stream) => match check_names_in(stream) {
             Ok(()) => Ok(None),
             Err(error) => Ok(Some(in_stream(Part::StringTable, number, Problem::Error(error)))),
@@ -94,17 +96,17 @@ fn check_string_table(
 }
 
 /// Returns the finding of the string table in the stream that stream 1 names, if it has an error.
-fn check_named(
+fn check_named<S: Source>(
     alloc: Global,
     layout: &Layout,
-    file: &[u8],
+    source: &mut CountedSource<S>,
     stream: Stream,
 ) -> Result<Option<Finding>>
-    ensures { Answers (option_map finding_view) result
-        (Ok (named_fault layout.now file.now (string_table_number stream))) }
+    ensures { ReadsSource (S.state source.old.source) (S.state source.new.source) (option_map finding_view) result
+        (λ file. Ok (named_fault layout.now file (string_table_number stream))) }
 {
     match string_table_number(alloc, stream) {
-        Ok(Some(number)) => check_string_table(alloc, layout, file, number),
+        Ok(Some(number)) => check_string_table(alloc, layout, source, number),
         Ok(None) => Ok(None),
         Err(Error::OutOfMemory) => Err(Error::OutOfMemory),
         Err(error) => Ok(Some(in_stream(Part::Names, INFORMATION_STREAM, Problem::Error(error)))),
@@ -113,11 +115,16 @@ fn check_named(
 
 /// Returns the finding of stream 1, of its names, or of the string table, if one has an error.
 #[tactic(auto, unfolding(crate::specs::Names::names_fault))]
-pub(crate) fn check_names(alloc: Global, layout: &Layout, file: &[u8]) -> Result<Option<Finding>>
-    ensures { Answers (option_map finding_view) result (Ok (names_fault layout.now file.now)) }
+pub(crate) fn check_names<S: Source>(
+    alloc: Global,
+    layout: &Layout,
+    source: &mut CountedSource<S>,
+) -> Result<Option<Finding>>
+    ensures { ReadsSource (S.state source.old.source) (S.state source.new.source) (option_map finding_view) result
+        (λ file. Ok (names_fault layout.now file)) }
 {
-    match read(alloc, layout, file, INFORMATION_STREAM)? {
-        Ok(stream) => check_named(alloc, layout, file, stream),
+    match read(alloc, layout, source, INFORMATION_STREAM)? {
+        Ok(stream) => check_named(alloc, layout, source, stream),
         Err(Error::StreamNotFound(missing)) => Ok(Some(in_stream(
             Part::Names,
             INFORMATION_STREAM,

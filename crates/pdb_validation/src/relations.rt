@@ -5,6 +5,8 @@ ghost use Rattle.pdb_base.specs.Answer.{Answers};
 ghost use Rattle.pdb_base.specs.Index.{stream_number};
 ghost use Rattle.pdb_base.specs.Memory.{FailsOnlyForMemory};
 ghost use Rattle.pdb_consistency.specs.Mismatch.{asked_of};
+ghost use Rattle.pdb_msf.specs.Layout.{layout_of};
+ghost use Rattle.pdb_msf.specs.Source.{IsFixed, ReadsSource};
 ghost use Rattle.pdb_validation.specs.Finding.{finding_view};
 ghost use Rattle.pdb_validation.specs.Places.{stream_pages};
 ghost use Rattle.pdb_validation.specs.Relations.{buckets_of, buckets_relation, container_relations, hashes_by};
@@ -27,7 +29,7 @@ use pdb_consistency::{
 };
 use pdb_file::section_headers::section_headers;
 use pdb_file::{DBIExtraStreams, DBIHeader, ID_STREAM, PDBInformation, TYPE_STREAM};
-use pdb_msf::Layout;
+use pdb_msf::{CountedSource, Layout, Source};
 use pdb_tpi::{IdInformation, ItemInformation, OpenTable, TypeInformation};
 use std::alloc::Global;
 
@@ -89,21 +91,22 @@ fn add_mismatches(
 
 /// Returns what is inconsistent in the hash stream of a table, if it has one.
 #[tactic(auto, using(crate::proofs::RelationLemmas::nothing_asked))]
-fn hash_mismatches<I: ItemIndex>(
+fn hash_mismatches<I: ItemIndex, S: Source>(
     alloc: Global,
     layout: &Layout,
-    file: &[u8],
+    source: &mut CountedSource<S>,
     table: ItemInformation<I>,
     extent: Extent,
 ) -> Result<Vec<Mismatch>>
-    ensures { Answers (λ mismatches. mismatches.items) result
-        (Ok (asked_of extent (hashes_by layout.now file.now table (stream_number table.header.tpi_hash_stream)))) }
+    ensures { ReadsSource (S.state source.old.source) (S.state source.new.source)
+        (λ mismatches. mismatches.items) result (λ file. Ok (asked_of extent (hashes_by layout.now file table
+        (stream_number table.header.tpi_hash_stream)))) }
 {
     let header = table.header();
     let Some(number) = StreamIndex(header.tpi_hash_stream).msf_number() else {
         return Ok(Vec::new(alloc));
     };
-    let Ok(hashes) = read(alloc, layout, file, number)? else {
+    let Ok(hashes) = read(alloc, layout, source, number)? else {
         return Ok(Vec::new(alloc));
     };
     let mut open = OpenTable::new(alloc, table)?;
@@ -113,10 +116,15 @@ fn hash_mismatches<I: ItemIndex>(
 
 /// Returns the end of the indexes of types.
 #[tactic(auto, unfolding(crate::specs::Relations::types_end))]
-fn types_end(alloc: Global, layout: &Layout, file: &[u8]) -> Result<u32>
-    ensures { Answers (λ end. end) result (Ok (types_end layout.now file.now)) }
+fn types_end<S: Source>(
+    alloc: Global,
+    layout: &Layout,
+    source: &mut CountedSource<S>,
+) -> Result<u32>
+    ensures { ReadsSource (S.state source.old.source) (S.state source.new.source) (λ end. end) result
+        (λ file. Ok (types_end layout.now file)) }
 {
-    let Ok(stream) = read(alloc, layout, file, TYPE_STREAM)? else {
+    let Ok(stream) = read(alloc, layout, source, TYPE_STREAM)? else {
         return Ok(NO_END);
     };
     match TypeInformation::parse(stream) {
@@ -148,16 +156,16 @@ fn named_mismatches(
 
 /// Returns which of the streams that have names are missing.
 #[tactic(auto, unfolding(crate::specs::Relations::names_relation), using(crate::proofs::RelationLemmas::nothing_asked))]
-fn name_mismatches(
+fn name_mismatches<S: Source>(
     alloc: Global,
     layout: &Layout,
-    file: &[u8],
+    source: &mut CountedSource<S>,
     extent: Extent,
 ) -> Result<Vec<Mismatch>>
-    ensures { Answers (λ mismatches. mismatches.items) result
-        (Ok (asked_of extent (names_relation layout.now file.now))) }
+    ensures { ReadsSource (S.state source.old.source) (S.state source.new.source)
+        (λ mismatches. mismatches.items) result (λ file. Ok (asked_of extent (names_relation layout.now file))) }
 {
-    match read(alloc, layout, file, INFORMATION_STREAM)? {
+    match read(alloc, layout, source, INFORMATION_STREAM)? {
         Ok(stream) => named_mismatches(alloc, layout, stream, extent),
         Err(_) => Ok(Vec::new(alloc)),
     }
@@ -165,20 +173,20 @@ fn name_mismatches(
 
 /// Returns what is inconsistent in the string table in the stream of a number, if there is one.
 #[tactic(auto, using(crate::proofs::RelationLemmas::nothing_asked))]
-fn buckets_of(
+fn buckets_of<S: Source>(
     alloc: Global,
     layout: &Layout,
-    file: &[u8],
+    source: &mut CountedSource<S>,
     number: Option<u32>,
     extent: Extent,
 ) -> Result<Vec<Mismatch>>
-    ensures { Answers (λ mismatches. mismatches.items) result
-        (Ok (asked_of extent (buckets_of layout.now file.now number))) }
+    ensures { ReadsSource (S.state source.old.source) (S.state source.new.source)
+        (λ mismatches. mismatches.items) result (λ file. Ok (asked_of extent (buckets_of layout.now file number))) }
 {
     let Some(number) = number else {
         return Ok(Vec::new(alloc));
     };
-    match read(alloc, layout, file, number)? {
+    match read(alloc, layout, source, number)? {
         Ok(stream) => check_buckets(alloc, number, stream.as_slice(), extent),
         Err(_) => Ok(Vec::new(alloc)),
     }
@@ -186,20 +194,20 @@ fn buckets_of(
 
 /// Returns what is inconsistent in the string table that stream 1 names.
 #[tactic(auto, unfolding(crate::specs::Relations::buckets_relation), using(crate::proofs::RelationLemmas::nothing_asked))]
-fn bucket_mismatches(
+fn bucket_mismatches<S: Source>(
     alloc: Global,
     layout: &Layout,
-    file: &[u8],
+    source: &mut CountedSource<S>,
     extent: Extent,
 ) -> Result<Vec<Mismatch>>
-    ensures { Answers (λ mismatches. mismatches.items) result
-        (Ok (asked_of extent (buckets_relation layout.now file.now))) }
+    ensures { ReadsSource (S.state source.old.source) (S.state source.new.source)
+        (λ mismatches. mismatches.items) result (λ file. Ok (asked_of extent (buckets_relation layout.now file))) }
 {
-    let Ok(stream) = read(alloc, layout, file, INFORMATION_STREAM)? else {
+    let Ok(stream) = read(alloc, layout, source, INFORMATION_STREAM)? else {
         return Ok(Vec::new(alloc));
     };
     match string_table_number(alloc, stream) {
-        Ok(number) => buckets_of(alloc, layout, file, number, extent),
+        Ok(number) => buckets_of(alloc, layout, source, number, extent),
         Err(Error::OutOfMemory) => Err(Error::OutOfMemory),
         Err(_) => Ok(Vec::new(alloc)),
     }
@@ -207,16 +215,16 @@ fn bucket_mismatches(
 
 /// Returns whether the sizes in the header of stream 3 don't add up.
 #[tactic(auto, unfolding(crate::specs::Relations::sizes_relation), using(crate::proofs::RelationLemmas::nothing_asked, crate::proofs::RelationLemmas::one_asked))]
-fn size_mismatches(
+fn size_mismatches<S: Source>(
     alloc: Global,
     layout: &Layout,
-    file: &[u8],
+    source: &mut CountedSource<S>,
     extent: Extent,
 ) -> Result<Vec<Mismatch>>
-    ensures { Answers (λ mismatches. mismatches.items) result
-        (Ok (asked_of extent (sizes_relation layout.now file.now))) }
+    ensures { ReadsSource (S.state source.old.source) (S.state source.new.source)
+        (λ mismatches. mismatches.items) result (λ file. Ok (asked_of extent (sizes_relation layout.now file))) }
 {
-    let Ok(stream) = read(alloc, layout, file, DEBUG_STREAM)? else {
+    let Ok(stream) = read(alloc, layout, source, DEBUG_STREAM)? else {
         return Ok(Vec::new(alloc));
     };
     match check_debug_sizes(&stream) {
@@ -247,16 +255,16 @@ fn roles_in_stream(
 
 /// Returns which of the streams that have roles are missing.
 #[tactic(auto, unfolding(crate::specs::Relations::roles_relation), using(crate::proofs::RelationLemmas::nothing_asked))]
-fn role_mismatches(
+fn role_mismatches<S: Source>(
     alloc: Global,
     layout: &Layout,
-    file: &[u8],
+    source: &mut CountedSource<S>,
     extent: Extent,
 ) -> Result<Vec<Mismatch>>
-    ensures { Answers (λ mismatches. mismatches.items) result
-        (Ok (asked_of extent (roles_relation layout.now file.now))) }
+    ensures { ReadsSource (S.state source.old.source) (S.state source.new.source)
+        (λ mismatches. mismatches.items) result (λ file. Ok (asked_of extent (roles_relation layout.now file))) }
 {
-    match read(alloc, layout, file, DEBUG_STREAM)? {
+    match read(alloc, layout, source, DEBUG_STREAM)? {
         Ok(stream) => roles_in_stream(alloc, layout, &stream, extent),
         Err(_) => Ok(Vec::new(alloc)),
     }
@@ -264,20 +272,20 @@ fn role_mismatches(
 
 /// Returns which of the sections in the stream of a number overlap, if there is a number.
 #[tactic(auto, using(crate::proofs::RelationLemmas::nothing_asked))]
-fn sections_in(
+fn sections_in<S: Source>(
     alloc: Global,
     layout: &Layout,
-    file: &[u8],
+    source: &mut CountedSource<S>,
     number: Option<u32>,
     extent: Extent,
 ) -> Result<Vec<Mismatch>>
-    ensures { Answers (λ mismatches. mismatches.items) result
-        (Ok (asked_of extent (sections_in layout.now file.now number))) }
+    ensures { ReadsSource (S.state source.old.source) (S.state source.new.source)
+        (λ mismatches. mismatches.items) result (λ file. Ok (asked_of extent (sections_in layout.now file number))) }
 {
     let Some(number) = number else {
         return Ok(Vec::new(alloc));
     };
-    let Ok(stream) = read(alloc, layout, file, number)? else {
+    let Ok(stream) = read(alloc, layout, source, number)? else {
         return Ok(Vec::new(alloc));
     };
     match section_headers(alloc, &stream) {
@@ -289,20 +297,21 @@ fn sections_in(
 
 /// Returns which of the sections in the stream of a role overlap.
 #[tactic(auto, unfolding(crate::specs::Relations::sections_relation), using(crate::proofs::RelationLemmas::nothing_asked))]
-fn section_mismatches(
+fn section_mismatches<S: Source>(
     alloc: Global,
     layout: &Layout,
-    file: &[u8],
+    source: &mut CountedSource<S>,
     part: Part,
     extent: Extent,
 ) -> Result<Vec<Mismatch>>
-    ensures { Answers (λ mismatches. mismatches.items) result
-        (Ok (asked_of extent (sections_relation layout.now file.now part))) }
+    ensures { ReadsSource (S.state source.old.source) (S.state source.new.source)
+        (λ mismatches. mismatches.items) result (λ file. Ok (asked_of extent
+        (sections_relation layout.now file part))) }
 {
-    match known_roles(alloc, layout, file)? {
+    match known_roles(alloc, layout, source)? {
         Some(roles) => {
             let number = role_index(part, &roles).msf_number();
-            sections_in(alloc, layout, file, number, extent)
+            sections_in(alloc, layout, source, number, extent)
         }
         None => Ok(Vec::new(alloc)),
     }
@@ -310,36 +319,39 @@ fn section_mismatches(
 
 /// Adds what is inconsistent in the pages of a file.
 #[tactic(auto, unfolding(crate::specs::Relations::container_relations))]
-fn add_container_relations(
+fn add_container_relations<S: Source>(
     alloc: Global,
     layout: &Layout,
-    file: &[u8],
+    source: &mut CountedSource<S>,
     extent: Extent,
     findings: &mut Vec<Finding>,
 ) -> Result<()>
-    requires { 0 < layout.now.head.geometry.page_size }
-    ensures { Answers (λ done. map finding_view findings.new.items) result
-        (Ok (with_relations extent layout.now (container_relations file.now) (map finding_view findings.old.items))) }
+    requires sized { 0 < layout.now.head.geometry.page_size }
+    requires layout { IsFixed (S.state source.old.source) →
+        layout_of (S.state source.old.source).bytes ≡ Ok layout.now }
+    ensures { ReadsSource (S.state source.old.source) (S.state source.new.source)
+        (λ done. map finding_view findings.new.items) result (λ file. Ok (with_relations extent layout.now
+        (container_relations file) (map finding_view findings.old.items))) }
 {
-    let mismatches = check_pages(alloc, file, extent)?;
+    let mismatches = check_pages(alloc, layout, source, extent)?;
     add_mismatches(alloc, layout, Part::Stream, &mismatches, findings)
 }
 
 /// Adds what is inconsistent in the records of types, and in their hash stream.
 #[tactic(auto, unfolding(crate::specs::Relations::type_relations), using(crate::proofs::RelationLemmas::nothing_related))]
-fn add_type_relations(
+fn add_type_relations<S: Source>(
     alloc: Global,
     layout: &Layout,
-    file: &[u8],
+    source: &mut CountedSource<S>,
     extent: Extent,
     findings: &mut Vec<Finding>,
 ) -> Result<()>
     requires { 0 < layout.now.head.geometry.page_size }
-    ensures { Answers (λ done. map finding_view findings.new.items) result
-        (Ok (with_relations extent layout.now (type_relations layout.now file.now)
-        (map finding_view findings.old.items))) }
+    ensures { ReadsSource (S.state source.old.source) (S.state source.new.source)
+        (λ done. map finding_view findings.new.items) result (λ file. Ok (with_relations extent layout.now
+        (type_relations layout.now file) (map finding_view findings.old.items))) }
 {
-    let Ok(stream) = read(alloc, layout, file, TYPE_STREAM)? else {
+    let Ok(stream) = read(alloc, layout, source, TYPE_STREAM)? else {
         return Ok(());
     };
     let Ok(types) = TypeInformation::parse(stream) else {
@@ -347,78 +359,78 @@ fn add_type_relations(
     };
     let records = check_type_records(alloc, &types, TYPE_STREAM, extent)?;
     add_mismatches(alloc, layout, Part::Types, &records, findings)?;
-    let hashes = hash_mismatches(alloc, layout, file, types, extent)?;
+    let hashes = hash_mismatches(alloc, layout, source, types, extent)?;
     add_mismatches(alloc, layout, Part::Types, &hashes, findings)
 }
 
 /// Adds what is inconsistent in the records of ids, and in their hash stream.
 #[tactic(auto, unfolding(crate::specs::Relations::id_relations), using(crate::proofs::RelationLemmas::nothing_related))]
-fn add_id_relations(
+fn add_id_relations<S: Source>(
     alloc: Global,
     layout: &Layout,
-    file: &[u8],
+    source: &mut CountedSource<S>,
     extent: Extent,
     findings: &mut Vec<Finding>,
 ) -> Result<()>
     requires { 0 < layout.now.head.geometry.page_size }
-    ensures { Answers (λ done. map finding_view findings.new.items) result
-        (Ok (with_relations extent layout.now (id_relations layout.now file.now)
-        (map finding_view findings.old.items))) }
+    ensures { ReadsSource (S.state source.old.source) (S.state source.new.source)
+        (λ done. map finding_view findings.new.items) result (λ file. Ok (with_relations extent layout.now
+        (id_relations layout.now file) (map finding_view findings.old.items))) }
 {
-    let Ok(stream) = read(alloc, layout, file, ID_STREAM)? else {
+    let end = types_end(alloc, layout, source)?;
+    let Ok(stream) = read(alloc, layout, source, ID_STREAM)? else {
         return Ok(());
     };
     let Ok(ids) = IdInformation::parse(stream) else {
         return Ok(());
     };
-    let end = types_end(alloc, layout, file)?;
     let records = check_id_records(alloc, &ids, end, ID_STREAM, extent)?;
     add_mismatches(alloc, layout, Part::Ids, &records, findings)?;
-    let hashes = hash_mismatches(alloc, layout, file, ids, extent)?;
+    let hashes = hash_mismatches(alloc, layout, source, ids, extent)?;
     add_mismatches(alloc, layout, Part::Ids, &hashes, findings)
 }
 
 /// Adds what is inconsistent in the names of streams and the string table.
 #[tactic(auto, unfolding(crate::specs::Relations::name_relations))]
-fn add_name_relations(
+fn add_name_relations<S: Source>(
     alloc: Global,
     layout: &Layout,
-    file: &[u8],
+    source: &mut CountedSource<S>,
     extent: Extent,
     findings: &mut Vec<Finding>,
 ) -> Result<()>
     requires { 0 < layout.now.head.geometry.page_size }
-    ensures { Answers (λ done. map finding_view findings.new.items) result
-        (Ok (with_relations extent layout.now (name_relations layout.now file.now)
-        (map finding_view findings.old.items))) }
+    ensures { ReadsSource (S.state source.old.source) (S.state source.new.source)
+        (λ done. map finding_view findings.new.items) result (λ file. Ok (with_relations extent layout.now
+        (name_relations layout.now file) (map finding_view findings.old.items))) }
 {
-    let names = name_mismatches(alloc, layout, file, extent)?;
+    let names = name_mismatches(alloc, layout, source, extent)?;
     add_mismatches(alloc, layout, Part::Names, &names, findings)?;
-    let buckets = bucket_mismatches(alloc, layout, file, extent)?;
+    let buckets = bucket_mismatches(alloc, layout, source, extent)?;
     add_mismatches(alloc, layout, Part::StringTable, &buckets, findings)
 }
 
 /// Adds what is inconsistent in stream 3 and the streams of its roles.
 #[tactic(auto, unfolding(crate::specs::Relations::role_relations))]
-fn add_role_relations(
+fn add_role_relations<S: Source>(
     alloc: Global,
     layout: &Layout,
-    file: &[u8],
+    source: &mut CountedSource<S>,
     extent: Extent,
     findings: &mut Vec<Finding>,
 ) -> Result<()>
     requires { 0 < layout.now.head.geometry.page_size }
-    ensures { Answers (λ done. map finding_view findings.new.items) result
-        (Ok (with_relations extent layout.now (role_relations layout.now file.now)
-        (map finding_view findings.old.items))) }
+    ensures { ReadsSource (S.state source.old.source) (S.state source.new.source)
+        (λ done. map finding_view findings.new.items) result (λ file. Ok (with_relations extent layout.now
+        (role_relations layout.now file) (map finding_view findings.old.items))) }
 {
-    let sizes = size_mismatches(alloc, layout, file, extent)?;
+    let sizes = size_mismatches(alloc, layout, source, extent)?;
     add_mismatches(alloc, layout, Part::Roles, &sizes, findings)?;
-    let roles = role_mismatches(alloc, layout, file, extent)?;
+    let roles = role_mismatches(alloc, layout, source, extent)?;
     add_mismatches(alloc, layout, Part::Roles, &roles, findings)?;
-    let sections = section_mismatches(alloc, layout, file, Part::SectionHeaders, extent)?;
+    let sections = section_mismatches(alloc, layout, source, Part::SectionHeaders, extent)?;
     add_mismatches(alloc, layout, Part::SectionHeaders, &sections, findings)?;
-    let original = section_mismatches(alloc, layout, file, Part::OriginalSectionHeaders, extent)?;
+    let original = section_mismatches(alloc, layout, source, Part::OriginalSectionHeaders, extent)?;
     add_mismatches(
         alloc,
         layout,
@@ -430,20 +442,23 @@ fn add_role_relations(
 
 /// Adds what is inconsistent between the parts of a file, as far as these can be read.
 #[tactic(auto, unfolding(crate::specs::Relations::related_faults))]
-pub(crate) fn add_relations(
+pub(crate) fn add_relations<S: Source>(
     alloc: Global,
     layout: &Layout,
-    file: &[u8],
+    source: &mut CountedSource<S>,
     extent: Extent,
     findings: &mut Vec<Finding>,
 ) -> Result<()>
-    requires { 0 < layout.now.head.geometry.page_size }
-    ensures { Answers (λ done. map finding_view findings.new.items) result
-        (Ok (related_faults extent layout.now file.now (map finding_view findings.old.items))) }
+    requires sized { 0 < layout.now.head.geometry.page_size }
+    requires layout { IsFixed (S.state source.old.source) →
+        layout_of (S.state source.old.source).bytes ≡ Ok layout.now }
+    ensures { ReadsSource (S.state source.old.source) (S.state source.new.source)
+        (λ done. map finding_view findings.new.items) result (λ file. Ok (related_faults extent layout.now file
+        (map finding_view findings.old.items))) }
 {
-    add_container_relations(alloc, layout, file, extent, findings)?;
-    add_type_relations(alloc, layout, file, extent, findings)?;
-    add_id_relations(alloc, layout, file, extent, findings)?;
-    add_name_relations(alloc, layout, file, extent, findings)?;
-    add_role_relations(alloc, layout, file, extent, findings)
+    add_container_relations(alloc, layout, source, extent, findings)?;
+    add_type_relations(alloc, layout, source, extent, findings)?;
+    add_id_relations(alloc, layout, source, extent, findings)?;
+    add_name_relations(alloc, layout, source, extent, findings)?;
+    add_role_relations(alloc, layout, source, extent, findings)
 }

@@ -3,6 +3,7 @@
 ghost use Rattle.std.specs.Prelude.{◌≡◌, Ok, Some};
 ghost use Rattle.std.specs.Option.{option_map};
 ghost use Rattle.pdb_base.specs.Answer.{Answers};
+ghost use Rattle.pdb_msf.specs.Source.{ReadsSource};
 ghost use Rattle.pdb_file.specs.DebugHeader.{extra_streams_of};
 ghost use Rattle.pdb_validation.specs.Finding.{finding_view, stream_fault};
 ghost use Rattle.pdb_validation.specs.Names.{fault_of_answer};
@@ -20,7 +21,7 @@ use pdb_consistency::Inconsistency;
 use pdb_file::DBIExtraStreams;
 use pdb_file::section_headers::section_headers;
 use pdb_frames::{FrameDataIter, FrameTable};
-use pdb_msf::Layout;
+use pdb_msf::{CountedSource, Layout, Source};
 use pdb_space::OMAPTable;
 use std::alloc::Global;
 
@@ -149,16 +150,17 @@ fn check_bytes_of(alloc: Global, part: Part, number: u32, stream: Stream) -> Res
 }
 
 /// Returns the finding of the stream with a number, if it has an error.
-fn check_numbered(
+fn check_numbered<S: Source>(
     alloc: Global,
     layout: &Layout,
-    file: &[u8],
+    source: &mut CountedSource<S>,
     part: Part,
     number: u32,
 ) -> Result<Option<Finding>>
-    ensures { Answers (option_map finding_view) result (Ok (numbered_fault layout.now file.now part (Some number))) }
+    ensures { ReadsSource (S.state source.old.source) (S.state source.new.source) (option_map finding_view) result
+        (λ file. Ok (numbered_fault layout.now file part (Some number))) }
 {
-    match read(alloc, layout, file, number)? {
+    match read(alloc, layout, source, number)? {
         Ok(stream) => check_bytes_of(alloc, part, number, stream),
         Err(Error::StreamNotFound(missing)) => Ok(Some(in_stream(
             part,
@@ -170,34 +172,36 @@ fn check_numbered(
 }
 
 /// Returns the finding of the stream of a role, if it has an error.
-pub(crate) fn check_role(
+pub(crate) fn check_role<S: Source>(
     alloc: Global,
     layout: &Layout,
-    file: &[u8],
+    source: &mut CountedSource<S>,
     roles: &Option<DBIExtraStreams>,
     part: Part,
 ) -> Result<Option<Finding>>
-    ensures { Answers (option_map finding_view) result (Ok (role_fault layout.now file.now part roles.now)) }
+    ensures { ReadsSource (S.state source.old.source) (S.state source.new.source) (option_map finding_view) result
+        (λ file. Ok (role_fault layout.now file part roles.now)) }
 {
     let Some(roles) = roles else {
         return Ok(None);
     };
     match role_index(part, roles).msf_number() {
-        Some(number) => check_numbered(alloc, layout, file, part, number),
+        Some(number) => check_numbered(alloc, layout, source, part, number),
         None => Ok(None),
     }
 }
 
 /// Returns the roles that stream 3 gives, if its bytes can be read and give roles.
 #[tactic(auto, unfolding(crate::specs::Roles::known_roles))]
-pub(crate) fn known_roles(
+pub(crate) fn known_roles<S: Source>(
     alloc: Global,
     layout: &Layout,
-    file: &[u8],
+    source: &mut CountedSource<S>,
 ) -> Result<Option<DBIExtraStreams>>
-    ensures { Answers (λ roles. roles) result (Ok (known_roles layout.now file.now)) }
+    ensures { ReadsSource (S.state source.old.source) (S.state source.new.source) (λ roles. roles) result
+        (λ file. Ok (known_roles layout.now file)) }
 {
-    match read(alloc, layout, file, DEBUG_STREAM)? {
+    match read(alloc, layout, source, DEBUG_STREAM)? {
         Ok(stream) => Ok(DBIExtraStreams::new(&stream).ok()),
         Err(_) => Ok(None),
     }
@@ -215,10 +219,15 @@ fn check_debug_stream(stream: &Stream) -> Option<Finding>
 
 /// Returns the finding of stream 3, if its header or its roles have an error.
 #[tactic(auto, unfolding(crate::specs::Roles::roles_fault))]
-pub(crate) fn check_roles(alloc: Global, layout: &Layout, file: &[u8]) -> Result<Option<Finding>>
-    ensures { Answers (option_map finding_view) result (Ok (roles_fault layout.now file.now)) }
+pub(crate) fn check_roles<S: Source>(
+    alloc: Global,
+    layout: &Layout,
+    source: &mut CountedSource<S>,
+) -> Result<Option<Finding>>
+    ensures { ReadsSource (S.state source.old.source) (S.state source.new.source) (option_map finding_view) result
+        (λ file. Ok (roles_fault layout.now file)) }
 {
-    match read(alloc, layout, file, DEBUG_STREAM)? {
+    match read(alloc, layout, source, DEBUG_STREAM)? {
         Ok(stream) => Ok(check_debug_stream(&stream)),
         Err(_) => Ok(None),
     }

@@ -1,23 +1,14 @@
 //! How large the directory and the streams of a file are.
 
-ghost use Rattle.std.specs.Prelude.{◌≡◌, ◌≤◌, length};
+ghost use Rattle.std.specs.Prelude.{◌≡◌, ◌≤◌};
 ghost use Rattle.pdb_msf.specs.Layout.{size_by};
-ghost use Rattle.pdb_validation.specs.Sizes.{directory_size, layout_sizes, size_or_none, streams_nameable};
+ghost use Rattle.pdb_validation.specs.Sizes.{layout_sizes, size_or_none, streams_nameable};
 ghost use Rattle.pdb_validation.specs.Sizes.{streams_size};
 
-use byteorder::{ByteOrder, LittleEndian};
 use pdb_msf::Layout;
 
 /// The numbers of streams are below this one, which has 16 bits and names no stream.
 const NO_STREAM: u32 = 0xffff;
-
-/// Returns the size of the directory, as the header at the start of a file says it.
-pub(crate) fn directory_size(file: &[u8]) -> u32
-    requires { 48 ≤ length file.now }
-    ensures { result ≡ directory_size file.now }
-{
-    LittleEndian::read_u32(&file[44..48])
-}
 
 /// Returns how many streams of a layout can be named.
 pub(crate) fn nameable(layout: &Layout) -> u32

@@ -3,6 +3,7 @@
 ghost use Rattle.std.specs.Prelude.{◌++◌, map, Ok};
 ghost use Rattle.std.specs.Option.{option_map};
 ghost use Rattle.pdb_base.specs.Answer.{Answers};
+ghost use Rattle.pdb_msf.specs.Source.{ReadsSource};
 ghost use Rattle.pdb_validation.specs.Finding.{by_extent, finding_view};
 ghost use Rattle.pdb_validation.specs.Streams.{bytes_fault, streams_faults};
 
@@ -11,15 +12,21 @@ use crate::problem::Problem;
 use crate::read::read;
 use pdb_base::{Error, Result};
 use pdb_consistency::Extent;
-use pdb_msf::Layout;
+use pdb_msf::{CountedSource, Layout, Source};
 use std::alloc::Global;
 
 /// Returns the finding that the bytes of a stream can't be read, unless there is no such stream.
 #[tactic(auto, unfolding(crate::specs::Streams::bytes_fault))]
-fn check_bytes(alloc: Global, layout: &Layout, file: &[u8], number: u32) -> Result<Option<Finding>>
-    ensures { Answers (option_map finding_view) result (Ok (bytes_fault layout.now file.now number)) }
+fn check_bytes<S: Source>(
+    alloc: Global,
+    layout: &Layout,
+    source: &mut CountedSource<S>,
+    number: u32,
+) -> Result<Option<Finding>>
+    ensures { ReadsSource (S.state source.old.source) (S.state source.new.source) (option_map finding_view) result
+        (λ file. Ok (bytes_fault layout.now file number)) }
 {
-    match read(alloc, layout, file, number)? {
+    match read(alloc, layout, source, number)? {
         Ok(_) => Ok(None),
         Err(Error::StreamNotFound(_)) => Ok(None),
         Err(error) => Ok(Some(in_stream(Part::Stream, number, Problem::Error(error)))),
@@ -27,20 +34,20 @@ fn check_bytes(alloc: Global, layout: &Layout, file: &[u8], number: u32) -> Resu
 }
 
 /// Adds the findings of the first streams whose bytes can't be read.
-pub(crate) fn add_streams(
+pub(crate) fn add_streams<S: Source>(
     alloc: Global,
     layout: &Layout,
-    file: &[u8],
+    source: &mut CountedSource<S>,
     count: u32,
     extent: Extent,
     findings: &mut Vec<Finding>,
 ) -> Result<()>
-    ensures { Answers (λ done. map finding_view findings.new.items) result
-        (Ok (map finding_view findings.old.items
-        ++ by_extent extent (streams_faults layout.now file.now count))) }
+    ensures { ReadsSource (S.state source.old.source) (S.state source.new.source)
+        (λ done. map finding_view findings.new.items) result (λ file. Ok (map finding_view findings.old.items
+        ++ by_extent extent (streams_faults layout.now file count))) }
 {
     for number in 0..count {
-        let found = check_bytes(alloc, layout, file, number)?;
+        let found = check_bytes(alloc, layout, source, number)?;
         if add_until(extent, findings, found)? {
             return Ok(());
         }

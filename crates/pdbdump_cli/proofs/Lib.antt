@@ -1,3 +1,4 @@
 pub mod AnsweredLemmas
+pub mod DiffLemmas
 pub mod DoneLemmas
 pub mod ValidateLemmas

@@ -1,17 +1,19 @@
 -- What `id` does with a file, and how the program ends.
-use Rattle.std.specs.Prelude.{◌≡◌, ◌≢◌, ◌⊎◌, ◌↔◌, ℕ, Bool, false, IsTrue, ⊤, List, Option, Some, None, Result, Ok, Err}
+use Rattle.std.specs.Prelude.{◌≡◌, ◌≢◌, ◌↔◌, ℕ, Bool, false, IsTrue, ⊤, List, Option, Some, None, Result, Ok, Err}
 use Rattle.std.specs.Prelude.{IfOk}
 use Rattle.pdb_base.specs.declared.error.Error.{Error}
-use Rattle.pdb_base.specs.declared.error.Error.TheVariants.{OutOfMemory}
 use Rattle.pdb_base.specs.Answer.{Answer, ◌>>=◌}
-use Rattle.pdb_base.specs.Refusal.{refusal_of}
 use Rattle.pdb_identity.specs.Format.{format_of}
 use Rattle.pdb_identity.specs.Identity.{file_identity}
 use Rattle.pdb_identity.specs.declared.format.Format.TheVariants.{Msf7}
 use Rattle.pdb_identity.specs.declared.identity.Identity.{Identity}
 use Rattle.pdb_msf.specs.Header.{file_head}
+use Rattle.pdb_msf.specs.Source.{State, IsKept}
+use Rattle.pdb_cli.specs.Channels.{IsFaultReported}
 use Rattle.pdb_output.specs.Output.{GetsUnlessFailed, OutputState, Writes, done_of}
 use Rattle.pdbdump_tables.specs.Identity.{IsKey}
+use Rattle.pdbdump_tables.specs.Reading.{Reads}
+use Rattle.pdbdump_cli.specs.InputFile.{IsFront}
 use Rattle.pdbdump_cli.specs.Served.{IsEnded}
 
 -- what identifies a file
@@ -30,14 +32,15 @@ pub record IsIdentityShown (expected : Option (List ℕ)) (identity : Identity) 
   pub writes : Writes text out out' (done_of result)
   pub is_expected : IfOk result (λ is_expected. IsTrue is_expected ↔ IsExpected expected identity)
 
--- What `id` does with a file: what identifies it was found and written; or it is refused, or memory for it, and
--- nothing is written.
-pub data IsIdentified (expected : Option (List ℕ)) (file : List ℕ) (out out' : OutputState) (result : Result Bool Error)
+-- What `id` does with a file: what identifies it was found and written; or it is refused, or can't be read, and nothing
+-- is written.
+pub data IsIdentified (expected : Option (List ℕ)) (file : State) (out out' : OutputState) (result : Result Bool Error)
     : Type 0 where
-  found : (identity : Identity) → identity_in file ≡ Ok identity → IsIdentityShown expected identity out out' result
+  found : (identity : Identity) → Reads file identity_in (Ok identity)
+      → IsIdentityShown expected identity out out' result
       → IsIdentified expected file out out' result
-  refused : (fault : Error) → result ≡ Err fault → (identity_in file ≡ Err (refusal_of fault)) ⊎ (fault ≡ OutOfMemory)
-      → out' ≡ out → IsIdentified expected file out out' result
+  refused : (fault : Error) → result ≡ Err fault → Reads {A = Identity} file identity_in (Err fault) → out' ≡ out
+      → IsIdentified expected file out out' result
 
 -- How the program ends after a file was identified: as behind a listing; or, if the file is not the expected one,
 -- it says so behind that, with status 1.
@@ -48,12 +51,16 @@ pub data IsConcluded (result : Result Bool Error) (written out' err err' : Outpu
       → IsEnded (Ok tt) written out' err told ended → GetsUnlessFailed told err' message → status ≡ 1
       → IsConcluded result written out' err err' status
 
--- What `id` does with a file: it reports that the file has another format, and writes no output; or it identifies the
--- file, flushes the output, and ends.
-pub data IsIdDone (expected : Option (List ℕ)) (file : List ℕ) (out out' err err' : OutputState) (status : ℕ)
+-- What `id` does with a file: it reports that the file has another format, as its front says, or that it can't be read,
+-- and writes no output; or it identifies the file, flushes the output, and ends.
+pub data IsIdDone (expected : Option (List ℕ)) (file : State) (out out' err err' : OutputState) (status : ℕ)
     : Type 0 where
-  other : (message : List ℕ) → format_of file ≢ Msf7 → out' ≡ out → GetsUnlessFailed err err' message → status ≡ 1
+  other : (front message : List ℕ) → IsFront file front → format_of front ≢ Msf7 → out' ≡ out
+      → GetsUnlessFailed err err' message → status ≡ 1
       → IsIdDone expected file out out' err err' status
-  identified : (written : OutputState) (result : Result Bool Error) → format_of file ≡ Msf7
-      → IsIdentified expected file out written result → IsConcluded result written out' err err' status
+  identified : (front : List ℕ) (read : State) (written : OutputState) (result : Result Bool Error)
+      → IsFront file front → format_of front ≡ Msf7 → IsKept file read
+      → IsIdentified expected read out written result → IsConcluded result written out' err err' status
+      → IsIdDone expected file out out' err err' status
+  unread_front : (fault : Error) → out' ≡ out → IsFaultReported fault err err' status
       → IsIdDone expected file out out' err err' status

@@ -1,7 +1,9 @@
 pub mod Asked
 pub mod Asking
+pub mod Diffed
 pub mod Extracted
 pub mod Identified
+pub mod InputFile
 pub mod LaidOut
 pub mod Listed
 pub mod Questions

@@ -1,20 +1,21 @@
 -- What the program does for a request, and how it ends.
-use Rattle.std.specs.Prelude.{ℕ, List, Result}
+use Rattle.std.specs.Prelude.{ℕ, Result}
 use Rattle.std.specs.Option.{option_map}
 use Rattle.pdb_base.specs.declared.error.Error.{Error}
+use Rattle.pdb_msf.specs.Source.{State}
 use Rattle.pdb_output.specs.Output.{OutputState}
 use Rattle.pdbdump_rows.specs.declared.form.Form.{Form}
 use Rattle.pdbdump_cli.specs.Identified.{IsIdDone}
 use Rattle.pdbdump_cli.specs.LaidOut.{IsLayoutDone}
 use Rattle.pdbdump_cli.specs.Listed.{Does}
 use Rattle.pdbdump_cli.specs.Served.{IsEnded}
-use Rattle.pdbdump_cli.specs.Validated.{IsValidated}
+use Rattle.pdbdump_cli.specs.Validated.{IsValidatedIn}
 use Rattle.pdbdump_cli.specs.declared.command.Command.{Command}
 use Rattle.pdbdump_cli.specs.declared.command.Request.{Request}
 use Rattle.pdbdump_cli.specs.declared.command.Request.TheVariants as requests
 
 -- What a command writes about a file was written, or cut short; the output was flushed, and the program ended.
-pub record IsCommandDone (form : Form) (command : Command) (file : List ℕ) (out out' err err' : OutputState)
+pub record IsCommandDone (form : Form) (command : Command) (file : State) (out out' err err' : OutputState)
     (status : ℕ) : Type 0 where
   pub written : OutputState
   pub result : Result (Unit {0}) Error
@@ -22,11 +23,12 @@ pub record IsCommandDone (form : Form) (command : Command) (file : List ℕ) (ou
   pub ends : IsEnded result written out' err err' status
 
 -- what is done for a request with a file
-abbrev pub IsDone : Form → Request → List ℕ → OutputState → OutputState → OutputState → OutputState → ℕ → Type 0
+abbrev pub IsDone : Form → Request → State → OutputState → OutputState → OutputState → OutputState → ℕ → Type 0
 IsDone form (requests.List command) file out out' err err' status =
     IsCommandDone form command file out out' err err' status
 IsDone form (requests.Identify asked) file out out' err err' status =
     IsIdDone (option_map (λ word. word.now) asked.expected) file out out' err err' status
 IsDone form (requests.Validate options path) file out out' err err' status =
-    IsValidated options form file out out' err err' status
+    IsValidatedIn options form file out out' err err' status
 IsDone form (requests.Layout asked) file out out' err err' status = IsLayoutDone file out out' err err' status
+IsDone form (requests.Declare asked) file out out' err err' status = IsLayoutDone file out out' err err' status

@@ -1,12 +1,13 @@
 -- What `validate` does with a file, and how the program ends.
 use Rattle.std.specs.Prelude.{◌≡◌, ◌↔◌, ⊤, ℕ, Bool, true, false, IsTrue, List, [], Result}
 use Rattle.pdb_base.specs.declared.error.Error.{Error}
-use Rattle.pdb_base.specs.declared.error.Error.TheVariants.{OutOfMemory}
 use Rattle.pdb_cli.specs.Channels.{IsFaultReported}
+use Rattle.pdb_msf.specs.Source.{State, IsFixed}
 use Rattle.pdb_output.specs.Output.{OutputState, Writes}
 use Rattle.pdbdump_rows.specs.declared.form.Form.{Form}
 use Rattle.pdbdump_rows.specs.declared.form.Form.TheVariants as forms
 use Rattle.pdbdump_rows.specs.Rows.{AreLines}
+use Rattle.pdb_consistency.specs.declared.mismatch.Extent.{Extent}
 use Rattle.pdb_validation.specs.Finding.{FaultPlace, error_count, warning_count}
 use Rattle.pdb_validation.specs.IsWhole.{IsWhole}
 use Rattle.pdb_validation.specs.Whole.{faults_of}
@@ -45,22 +46,28 @@ pub record AreFindingsWritten (is_quiet : Bool) (form : Form) (old new : OutputS
   pub writes : Writes text old new result
 
 -- What was found in a file was written, or cut short; the output was flushed, and the program ended with a status
--- that tells whether the file has passed. It has no error exactly if it is whole.
-pub record IsConcluded (options : ValidateOptions) (form : Form) (file : List ℕ) (out out' err err' : OutputState)
-    (status : ℕ) : Type 0 where
+-- that tells whether the file has passed.
+pub record IsConcluded (options : ValidateOptions) (form : Form) (faults : List FaultPlace)
+    (out out' err err' : OutputState) (status : ℕ) : Type 0 where
   pub written : OutputState
   pub result : Result (Unit {0}) Error
   pub writes : AreFindingsWritten options.is_quiet form out written result
   pub ended : ℕ
   pub ends : IsEnded result written out' err err' ended
-  pub judged : IsJudged options.is_strict (faults_of options.extent file) ended status
-  pub whole : (error_count (faults_of options.extent file) ≡ 0) ↔ IsWhole file
+  pub judged : IsJudged options.is_strict faults ended status
 
--- What `validate` does with a file: faults are looked for, and the program ends as above; or an allocation fails,
--- which is reported, and no output is written.
-pub data IsValidated (options : ValidateOptions) (form : Form) (file : List ℕ) (out out' err err' : OutputState)
+-- These are the faults of a file, which has no error exactly if it is whole.
+pub record AreFaultsOf (extent : Extent) (file : List ℕ) (faults : List FaultPlace) : Type 0 where
+  pub are : faults ≡ faults_of extent file
+  pub whole : (error_count faults ≡ 0) ↔ IsWhole file
+
+-- What `validate` does with a file: faults are looked for, which are those of its bytes if these are fixed, and the
+-- program ends as above; or the file can't be read, or an allocation fails, which is reported, and no output is
+-- written.
+pub data IsValidatedIn (options : ValidateOptions) (form : Form) (file : State) (out out' err err' : OutputState)
     (status : ℕ) : Type 0 where
-  concluded : IsConcluded options form file out out' err err' status
-      → IsValidated options form file out out' err err' status
-  lacking : out' ≡ out → IsFaultReported OutOfMemory err err' status
-      → IsValidated options form file out out' err err' status
+  concluded : (faults : List FaultPlace) → (IsFixed file → AreFaultsOf options.extent file.bytes faults)
+      → IsConcluded options form faults out out' err err' status
+      → IsValidatedIn options form file out out' err err' status
+  unread : (fault : Error) → out' ≡ out → IsFaultReported fault err err' status
+      → IsValidatedIn options form file out out' err err' status

@@ -1,6 +1,7 @@
 //! The commands of the program and their arguments.
 
 use pdb_consistency::Extent;
+use pdbdump_declarations::Options as DeclareOptions;
 use pdbdump_layouts::Options;
 use pdbdump_tables::{KeyStyle, MapStreams};
 
@@ -33,6 +34,10 @@ pub enum Verb {
     Validate,
     /// `layout`: where the members of classes are.
     Layout,
+    /// `diff`: what types differ between two files.
+    Diff,
+    /// `declare`: a header of types.
+    Declare,
 }
 
 /// What the program writes of a file that is opened. A stream that isn't given is found by its role.
@@ -164,6 +169,30 @@ pub struct Layouts<'w> {
     pub options: Options,
 }
 
+/// The arguments of `diff`, which compares the types of two files.
+#[derive(Clone, Copy)]
+pub struct Diff<'w> {
+    /// The path of the old file, or `-` for standard input.
+    pub old: &'w str,
+    /// The path of the new file, or `-` for standard input.
+    pub new: &'w str,
+    /// The names of types, in which `*` and `?` are allowed, or none for all types.
+    pub names: &'w [&'w str],
+    /// Whether only sizes, offsets, bits and names are compared.
+    pub is_layout_only: bool,
+}
+
+/// The arguments of `declare`, which writes a header of types of a file.
+#[derive(Clone, Copy)]
+pub struct Declarations<'w> {
+    /// The path of the file, or `-` for standard input.
+    pub path: &'w str,
+    /// The names of types.
+    pub names: &'w [&'w str],
+    /// What is declared, and in which language.
+    pub options: DeclareOptions,
+}
+
 /// A request for one file.
 #[derive(Clone, Copy)]
 pub enum Request<'w> {
@@ -175,6 +204,8 @@ pub enum Request<'w> {
     Validate(ValidateOptions, &'w str),
     /// Layouts of its types.
     Layout(Layouts<'w>),
+    /// A header of its types.
+    Declare(Declarations<'w>),
 }
 
 /// Why words ask nothing of a file.

@@ -1,13 +1,16 @@
 //! What `extract` writes of a file.
 ghost use Rattle.pdb_msf.specs.File.{ReadsFile};
-ghost use Rattle.pdbdump_tables.specs.Extracted.{IsExtracted};
-ghost use Rattle.pdbdump_cli.specs.Extracted.{extraction_in, number_meant};
+ghost use Rattle.pdb_output.specs.Output.{Writes};
+ghost use Rattle.pdbdump_tables.specs.Extracted.{part_of};
+ghost use Rattle.pdbdump_tables.specs.Reading.{Reads, WritesRead};
+ghost use Rattle.pdbdump_cli.specs.Extracted.{number_meant, stream_extracted};
 
 use crate::command::Extract;
+use pdb_base::Stream;
 use pdb_cli::number;
-use pdb_container::{PDB, Result, Source};
+use pdb_container::{Msf, PDB, Result, Source};
 use pdb_output::Output;
-use pdbdump_tables::{extract, stream_meant};
+use pdbdump_tables::{stream_meant, write_part};
 use std::alloc::Global;
 use std::io::Write;
 
@@ -24,16 +27,30 @@ fn number_meant<S: Source>(alloc: Global, file: &mut PDB<S>, word: &str) -> Resu
     }
 }
 
-/// Writes a part of the bytes of a stream of a file that was opened.
-#[tactic(auto, unfolding(crate::specs::Extracted::extraction_in))]
-pub(crate) fn extract_opened<W: Write>(
+/// Reads the stream that was asked for.
+#[tactic(auto, unfolding(crate::specs::Extracted::stream_extracted))]
+fn stream_extracted<S: Source>(
     alloc: Global,
-    file: &mut PDB<Vec<u8>>,
+    file: &mut PDB<S>,
+    asked: &Extract<'_>,
+) -> Result<Stream>
+    ensures { ReadsFile S.state file.old file.new (λ stream. stream) result
+        (λ file head. stream_extracted file head asked.now) }
+{
+    let number = number_meant(alloc, file, asked.stream)?;
+    file.get(alloc, number, None)
+}
+
+/// Writes a part of the bytes of a stream of a file that was opened.
+pub(crate) fn extract_opened<S: Source + Drop, W: Write>(
+    alloc: Global,
+    mut file: PDB<S>,
     asked: &Extract<'_>,
     out: &mut Output<W>,
 ) -> Result<()>
-    ensures { IsExtracted (extraction_in file.old.source.items file.old.head asked.now) out.old out.new result }
+    ensures { WritesRead (Reads (S.state file.source) (λ bytes. stream_extracted bytes file.head asked.now))
+        (λ stream. Writes (part_of asked.now.skip asked.now.limit stream)) out.old out.new result }
 {
-    let number = number_meant(alloc, file, asked.stream)?;
-    extract(alloc, file, number, asked.skip, asked.limit, out)
+    let stream = stream_extracted(alloc, &mut file, asked)?;
+    write_part(&stream, asked.skip, asked.limit, out)
 }

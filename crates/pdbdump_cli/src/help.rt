@@ -22,6 +22,8 @@ FILE is a path, or `-` for standard input.
   extract .. FILE STREAM          the bytes of a stream, which is a number, a role or a name
   validate .. FILE..              whether each file is whole, and what is wrong in it
   layout .. FILE NAME..           where the members of classes are, and the holes between them
+  diff .. OLD NEW [NAME..]        which types differ between two files, and in which members
+  declare .. FILE NAME..          a header in C++ or C with types as they are laid out
 
 S is the number of a stream, I an index and RVA an address, in decimal, or in hexadecimal after 0x. A stream
 that isn't given is found by its role. With --index only that record is shown, in full. With --json each line
@@ -44,10 +46,12 @@ pub fn usage_of(verb: Verb) -> &'static str {
             "pdbdump id [--format key|ssqp|breakpad|guid] [--name NAME] [--expect KEY] FILE.."
         }
         Verb::Extract => "pdbdump extract [--skip N] [--take N] FILE STREAM > OUT",
+        Verb::Diff => "pdbdump diff [--layout-only] OLD NEW [NAME..]",
         Verb::Validate => "pdbdump validate [--all] [--strict] [--quiet] FILE..",
         Verb::Layout => {
             "pdbdump layout [--style c|dt] [--sort size|holes|name] [--expand N] [--holes] FILE NAME.."
         }
+        Verb::Declare => "pdbdump declare [--c] FILE NAME..",
     }
 }
 
@@ -125,6 +129,15 @@ the OMAP tables and the frames.
 --quiet   nothing is written
 With --json each line is an object. The status is 0 if all files are whole, and else 1."
         }
+        Verb::Diff => {
+            "The classes, unions and enumerations that the file OLD defines and NEW doesn't, or otherwise, and then those that
+only NEW defines: behind --- as it was, behind +++ as it is, and then behind - and + each member that went, came,
+moved, or has another width or type, and each enumerator that has another value. Definitions are paired by their names,
+and those of one name in their order. With NAME, in which * and ? are allowed, only those of that name.
+--layout-only  a difference in the names of members' types alone doesn't count
+With --json an object for each definition, with its members that differ. The status is 0 if nothing differs, 1 if
+something does, and 2 if a file, or a part of one, can't be compared, or if no type has a NAME."
+        }
         Verb::Layout => {
             "The layout of each class or union that NAME means: its members with their places and sizes, and the bytes and
 bits that no member takes. NAME is the name of a class, a name with * and ?, the index of a type as 0x1026, or a
@@ -136,6 +149,16 @@ member of a class as Derived.inner.tag, of which a line tells its offset, its si
 --holes        only classes that have a hole
 --all          all classes of the file, and no NAME
 With --json an object for each class, with its rows."
+        }
+        Verb::Declare => {
+            "A header in C++ that declares the types that NAME means, and all that they need to be whole, in order: each class
+with the size and the members at the places that the file says, which the header asserts. NAME is the name of a class,
+a union or an enumeration, a name with * and ?, or the index of a type as 0x1026.
+What the language can't say is an array of bytes, with a comment. References are pointers, and names that are no
+identifiers get one, with the name of the file in a comment.
+--c    a header in C, where bases are members and names have __ in the place of ::
+--all  all types of the file, and no NAME
+There is no form in JSON. The status is 1 if a name means nothing or a type is left out."
         }
     }
 }

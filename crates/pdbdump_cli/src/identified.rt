@@ -2,20 +2,25 @@
 
 ghost use Rattle.std.specs.Prelude.{◌≡◌, ◌≢◌, ◌↔◌, IsTrue, IfOk, MatchOption};
 ghost use Rattle.std.specs.Option.{option_map};
-ghost use Rattle.pdb_base.specs.Answer.{Answers};
 ghost use Rattle.pdb_identity.specs.declared.format.Format.TheVariants.{Msf7};
 ghost use Rattle.pdbdump_cli.specs.Identified.{IsConcluded, IsExpected, IsIdDone, IsIdentified, IsIdentityShown};
 ghost use Rattle.pdbdump_cli.specs.Identified.{identity_in};
+ghost use Rattle.pdbdump_tables.specs.Reading.{Reads};
 
 use crate::command::Identify;
+use crate::input_file::InputFile;
 use crate::served::end;
-use pdb_container::{Error, PDB};
+use pdb_cli::tell;
+use pdb_container::{Error, PDB, Source, SourceView};
 use pdb_identity::{Format, Identity};
 use pdb_output::Output;
 use pdbdump_rows::Form;
 use pdbdump_tables::{is_key, write_identity};
 use std::alloc::{AllocError, Global};
 use std::io::Write;
+
+/// How many bytes at the start of a file say which format it has.
+const FORMAT_SIZE: u64 = 42;
 
 /// What is written if the file is not the expected one.
 const UNEXPECTED: &[u8] = b"the file has another key than the expected one\n";
@@ -39,11 +44,10 @@ fn other_format(format: Format) -> Option<&'static str>
 }
 
 /// Reads what identifies a file.
-#[tactic(auto, unfolding(crate::specs::Identified::identity_in))]
-fn identity_in(alloc: Global, file: Vec<u8>) -> Result<Identity, Error>
-    ensures { Answers (λ identity. identity) result (identity_in file.items) }
+fn identity_in<S: Source + Drop>(alloc: Global, source: S) -> Result<Identity, Error>
+    ensures { Reads (S.state source) identity_in result }
 {
-    let mut file = PDB::open(alloc, file)?;
+    let mut file = PDB::open(alloc, source)?;
     Identity::of(alloc, &mut file)
 }
 
@@ -78,16 +82,16 @@ fn write_found<W: Write>(
 }
 
 /// Finds and writes what identifies a file, and returns whether it is the expected one.
-fn identify<W: Write>(
+fn identify<S: Source + Drop, W: Write>(
     alloc: Global,
-    file: Vec<u8>,
+    source: S,
     asked: &Identify<'_>,
     form: Form,
     out: &mut Output<W>,
 ) -> Result<bool, Error>
-    ensures { IsIdentified (option_map (λ word. word.now) asked.now.expected) file.items out.old out.new result }
+    ensures { IsIdentified (option_map (λ word. word.now) asked.now.expected) (S.state source) out.old out.new result }
 {
-    match identity_in(alloc, file) {
+    match identity_in(alloc, source) {
         Ok(identity) => write_found(alloc, asked, &identity, form, out),
         Err(fault) => Err(fault),
     }
@@ -116,21 +120,25 @@ fn conclude<O: Write, E: Write>(
 /// Writes to the output what identifies a file. Returns the status with which the program ends: 1
 /// if the file is of another format, or not the expected one, or after a fault of the file or of a
 /// channel, which is written to the error channel, unless it is that the output was closed.
-pub(crate) fn serve_id<O: Write, E: Write>(
+pub(crate) fn serve_id<S: Source + Drop, O: Write, E: Write>(
     alloc: Global,
-    file: Vec<u8>,
+    mut file: InputFile<S>,
     asked: &Identify<'_>,
     form: Form,
     out: &mut Output<O>,
     err: &mut Output<E>,
 ) -> u8
-    ensures { IsIdDone (option_map (λ word. word.now) asked.now.expected) file.items
+    ensures { IsIdDone (option_map (λ word. word.now) asked.now.expected) (S.state file.source)
         out.old out.new err.old err.new result }
 {
-    if let Some(text) = other_format(Format::of(&file)) {
+    let front = match file.front(alloc, FORMAT_SIZE) {
+        Ok(front) => front,
+        Err(fault) => return tell(alloc, &fault, err),
+    };
+    if let Some(text) = other_format(Format::of(front.as_slice())) {
         err.report(text.as_bytes());
         return 1;
     }
-    let identified = identify(alloc, file, asked, form, out);
+    let identified = identify(alloc, file.source, asked, form, out);
     conclude(alloc, identified, out, err)
 }

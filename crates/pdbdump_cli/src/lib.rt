@@ -6,12 +6,17 @@ mod answer;
 mod answers;
 mod asking;
 mod command;
+mod declare_words;
+mod declared;
+mod diff_words;
+mod diffed;
 mod extracted;
 mod finding_lines;
 mod help;
 mod id_options;
 mod id_words;
 mod identified;
+mod input_file;
 mod laid_out;
 mod layout_words;
 mod listed;
@@ -27,13 +32,16 @@ mod words;
 pub use answers::ask;
 pub use asking::serve_questions;
 pub use command::{
-    Call, Command, Extract, Identify, Layouts, Misuse, Request, Task, Validate, ValidateOptions,
-    Verb,
+    Call, Command, Declarations, Diff, Extract, Identify, Layouts, Misuse, Request, Task, Validate,
+    ValidateOptions, Verb,
 };
+pub use declare_words::declarations_of;
+pub use diff_words::diff_of;
 pub use id_words::identify_of;
+pub use input_file::{InputFile, in_memory};
 pub use layout_words::layouts_of;
 pub use listed::list;
 pub use process::program;
-pub use request::serve;
+pub use request::{serve, serve_opened};
 pub use validate_words::validate_of;
 pub use words::{any_is, call_of, extract_of, first_verb, plain_words, verb_named};

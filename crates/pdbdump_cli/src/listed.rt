@@ -1,11 +1,15 @@
 //! What a command writes of a file.
 
-ghost use Rattle.std.specs.Prelude.{unwrap_or};
-ghost use Rattle.pdbdump_cli.specs.Listed.{AreIds, AreTypes, Does, DoesIn, IsListedIn};
+ghost use Rattle.std.specs.Prelude.{◌≡◌, None, unwrap_or};
+ghost use Rattle.pdb_file.specs.File.{id_stream, type_stream};
+ghost use Rattle.pdb_msf.specs.File.{stream_of};
+ghost use Rattle.pdbdump_cli.specs.Listed.{AreIds, AreTypes, Does, DoesIn};
+ghost use Rattle.pdbdump_tables.specs.Reading.{Reads, WritesRead};
 
 use crate::command::Command;
 use crate::extracted::extract_opened;
-use pdb_container::{PDB, Result};
+use crate::input_file::InputFile;
+use pdb_container::{PDB, Result, Source};
 use pdb_file::{ID_STREAM, TYPE_STREAM};
 use pdb_output::Output;
 use pdbdump_rows::Form;
@@ -16,17 +20,31 @@ use pdbdump_tables::{
 use std::alloc::Global;
 use std::io::Write;
 
+/// Returns the number of the stream whose types are listed.
+fn types_number(stream: Option<u32>) -> u32
+    ensures { result ≡ unwrap_or stream type_stream }
+{
+    stream.unwrap_or(TYPE_STREAM)
+}
+
+/// Returns the number of the stream whose ids are listed.
+fn ids_number(stream: Option<u32>) -> u32
+    ensures { result ≡ unwrap_or stream id_stream }
+{
+    stream.unwrap_or(ID_STREAM)
+}
+
 /// Lists the types of the table in a stream, or only the one of an index.
-fn list_types<W: Write>(
+fn list_types<S: Source + Drop, W: Write>(
     alloc: Global,
-    file: PDB<Vec<u8>>,
+    file: PDB<S>,
     number: u32,
     index: Option<u32>,
     form: Form,
     out: &mut Output<W>,
 ) -> Result<()>
-    ensures { IsListedIn (AreTypes form index) file.source.items file.head number
-        out.old out.new result }
+    ensures { WritesRead (Reads (S.state file.source) (λ bytes. stream_of bytes file.head number None))
+        (AreTypes form index) out.old out.new result }
 {
     let stream = last_stream(alloc, file, number)?;
     match index {
@@ -36,16 +54,16 @@ fn list_types<W: Write>(
 }
 
 /// Lists the ids of the table in a stream, or only the one of an index.
-fn list_ids<W: Write>(
+fn list_ids<S: Source + Drop, W: Write>(
     alloc: Global,
-    file: PDB<Vec<u8>>,
+    file: PDB<S>,
     number: u32,
     index: Option<u32>,
     form: Form,
     out: &mut Output<W>,
 ) -> Result<()>
-    ensures { IsListedIn (AreIds form index) file.source.items file.head number
-        out.old out.new result }
+    ensures { WritesRead (Reads (S.state file.source) (λ bytes. stream_of bytes file.head number None))
+        (AreIds form index) out.old out.new result }
 {
     let stream = last_stream(alloc, file, number)?;
     match index {
@@ -54,25 +72,24 @@ fn list_ids<W: Write>(
     }
 }
 
-/// Writes what a command lists of a file that was opened.
-fn list_opened<W: Write>(
+/// Writes what a command lists of a file of this size that was opened.
+fn list_opened<S: Source + Drop, W: Write>(
     alloc: Global,
-    mut file: PDB<Vec<u8>>,
+    file: PDB<S>,
+    size: u64,
     command: Command<'_>,
     form: Form,
     out: &mut Output<W>,
 ) -> Result<()>
-    ensures { DoesIn form command.entry file.source.items file.head out.old out.new result }
+    ensures { DoesIn form command.entry (S.state file.source) file.head out.old out.new result }
 {
     match command {
-        Command::Summary => list_summary(alloc, file, form, out),
+        Command::Summary => list_summary(alloc, file, size, form, out),
         Command::Types { stream, index } => {
-            let number = stream.unwrap_or(TYPE_STREAM);
-            list_types(alloc, file, number, index, form, out)
+            list_types(alloc, file, types_number(stream), index, form, out)
         }
         Command::Ids { stream, index } => {
-            let number = stream.unwrap_or(ID_STREAM);
-            list_ids(alloc, file, number, index, form, out)
+            list_ids(alloc, file, ids_number(stream), index, form, out)
         }
         Command::Names { stream } => list_names(alloc, file, stream, form, out),
         Command::Sections { stream } => list_sections(alloc, file, stream, form, out),
@@ -80,7 +97,7 @@ fn list_opened<W: Write>(
         Command::Frames => list_frames(alloc, file, form, out),
         Command::FramesIn { old, new } => list_frames_in(alloc, file, old, new, form, out),
         Command::Map { address, streams } => list_map(alloc, file, address, streams, form, out),
-        Command::Extract(asked) => extract_opened(alloc, &mut file, &asked, out),
+        Command::Extract(asked) => extract_opened(alloc, file, &asked, out),
     }
 }
 
@@ -90,14 +107,16 @@ fn list_opened<W: Write>(
 /// Fails with the errors of `PDB::open`, and then with those of the command, after the lines up to
 /// the first fault; with `IoError` if the writer fails; and with `OutOfMemory` if an allocation
 /// fails.
-pub fn list<W: Write>(
+pub fn list<S: Source + Drop, W: Write>(
     alloc: Global,
-    file: Vec<u8>,
+    file: InputFile<S>,
     command: Command<'_>,
     form: Form,
     out: &mut Output<W>,
 ) -> Result<()>
-    ensures { Does form command.entry file.items out.old out.new result }
+    ensures { Does form command.entry (S.state file.source) out.old out.new result }
 {
-    list_opened(alloc, PDB::open(alloc, file)?, command, form, out)
+    let InputFile { source, size } = file;
+    let file = PDB::open(alloc, source)?;
+    list_opened(alloc, file, size, command, form, out)
 }

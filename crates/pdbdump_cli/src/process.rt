@@ -1,18 +1,25 @@
 //! The program on the channels of its process.
 
 use crate::asking::serve_questions;
-use crate::command::{Call, Command, Misuse, Request, Task, Validate, Verb};
+use crate::command::{Call, Command, Diff, Misuse, Request, Task, Validate, Verb};
+use crate::declare_words::declarations_of;
+use crate::diff_words::diff_of;
+use crate::diffed::{refuse, serve_diff};
 use crate::help::{HELP, meaning_of, usage_of};
 use crate::id_words::{WordsApart, identify_of, words_apart};
+use crate::input_file::InputFile;
+use crate::laid_out::type_stream;
 use crate::layout_words::layouts_of;
-use crate::request::serve;
+use crate::request::{serve, serve_opened};
 use crate::validate_words::validate_of;
 use crate::words::{any_is, call_of, extract_of, first_verb, plain_words};
-use pdb_cli::{Errors, tell, texts_of, words_of};
-use pdb_container::{Error, Result};
+use pdb_base::Stream;
+use pdb_cli::{Errors, read_all, tell, texts_of, words_of};
+use pdb_container::{Error, FileSource, Result};
+use pdb_msf::SeekFile;
 use pdb_output::Output;
 use pdbdump_rows::Form;
-use std::io::{BufWriter, ErrorKind, Read, Write};
+use std::io::{BufWriter, ErrorKind, Read, Seek, SeekFrom, Write};
 use std::rt::{Env, Files};
 use std::{env, fs, io};
 
@@ -61,6 +68,15 @@ fn tell_misuse<P: Eprint + AllocGlobal>(process: &P, misuse: Misuse, words: &[&s
     Ok(MISUSED)
 }
 
+/// Returns the size of a file that can be sought and tells one. Any other is read whole, from its
+/// start: a pipe can't be sought, and a device has no size.
+fn told_size<F: Seek>(file: &mut F) -> Option<u64> {
+    match file.seek(SeekFrom::End(0)) {
+        Ok(size) if size > 0 => Some(size),
+        _ => None,
+    }
+}
+
 /// Serves a request for the file at a path, or for the one in standard input if the path is `-`.
 fn serve_file<P: Files + Input + Print + Eprint + AllocGlobal>(
     process: &P,
@@ -76,9 +92,17 @@ fn serve_file<P: Files + Input + Print + Eprint + AllocGlobal>(
         let mut input = process.reader();
         return Ok(serve(alloc, request, form, &mut input, &mut out, &mut err));
     }
-    match fs::open(process, path) {
-        Ok(mut input) => Ok(serve(alloc, request, form, &mut input, &mut out, &mut err)),
-        Err(fault) => Ok(tell(alloc, &Error::from(fault), &mut err)),
+    let mut input = match fs::open(process, path) {
+        Ok(input) => input,
+        Err(fault) => return Ok(tell(alloc, &Error::from(fault), &mut err)),
+    };
+    match told_size(&mut input) {
+        Some(size) => {
+            let source = FileSource::new(SeekFile::new(input))?;
+            let file = InputFile { source, size };
+            Ok(serve_opened(alloc, request, form, file, &mut out, &mut err))
+        }
+        None => Ok(serve(alloc, request, form, &mut input, &mut out, &mut err)),
     }
 }
 
@@ -133,6 +157,68 @@ fn call_layout<P: Files + Input + Print + Eprint + AllocGlobal>(
     match layouts_of(plain) {
         Some(asked) => serve_file(process, asked.path, &Request::Layout(asked), form),
         None => tell_misuse(process, Misuse::Arguments(Verb::Layout), words),
+    }
+}
+
+/// Returns the stream of types of the file at a path, or of the one in standard input if the path is
+/// `-`.
+fn types_at<P: Files + Input + AllocGlobal>(process: &P, path: &str) -> Result<Stream> {
+    let alloc = process.alloc();
+    if path == "-" {
+        return type_stream(alloc, read_all(alloc, &mut process.reader())?);
+    }
+    let mut input = fs::open(process, path)?;
+    match told_size(&mut input) {
+        Some(_) => type_stream(alloc, FileSource::new(SeekFile::new(input))?),
+        None => type_stream(alloc, read_all(alloc, &mut input)?),
+    }
+}
+
+/// Compares the types of two files.
+fn compare_files<P: Files + Input + Print + Eprint + AllocGlobal>(
+    process: &P,
+    asked: &Diff<'_>,
+    form: Form,
+) -> Result<u8> {
+    let alloc = process.alloc();
+    let buffer = BufWriter::with_capacity(alloc, BUFFER_SIZE, io::writer(process))?;
+    let mut out = Output::new(buffer);
+    let mut err = Output::new(Errors { process });
+    let old = match types_at(process, asked.old) {
+        Ok(stream) => stream,
+        Err(fault) => return Ok(refuse(alloc, asked.old, &fault, &mut err)),
+    };
+    match types_at(process, asked.new) {
+        Ok(new) => Ok(serve_diff(alloc, asked, old, new, form, &mut out, &mut err)),
+        Err(fault) => Ok(refuse(alloc, asked.new, &fault, &mut err)),
+    }
+}
+
+/// Does what the words after `diff` ask.
+fn call_diff<P: Files + Input + Print + Eprint + AllocGlobal>(
+    process: &P,
+    plain: &[&str],
+    words: &[&str],
+    form: Form,
+) -> Result<u8> {
+    match diff_of(plain) {
+        Some(asked) => compare_files(process, &asked, form),
+        None => tell_misuse(process, Misuse::Arguments(Verb::Diff), words),
+    }
+}
+
+/// Does what the words after `declare` ask, which has no form in JSON.
+fn call_declare<P: Files + Input + Print + Eprint + AllocGlobal>(
+    process: &P,
+    plain: &[&str],
+    words: &[&str],
+    form: Form,
+) -> Result<u8> {
+    match (declarations_of(plain), form) {
+        (Some(asked), Form::Text) => {
+            serve_file(process, asked.path, &Request::Declare(asked), form)
+        }
+        _ => tell_misuse(process, Misuse::Arguments(Verb::Declare), words),
     }
 }
 
@@ -219,6 +305,8 @@ fn call<P: Files + Input + Print + Eprint + AllocGlobal>(
         Some(Verb::Extract) => call_extract(process, rest, words, form),
         Some(Verb::Validate) => call_validate(process, rest, words, form),
         Some(Verb::Layout) => call_layout(process, rest, words, form),
+        Some(Verb::Diff) => call_diff(process, rest, words, form),
+        Some(Verb::Declare) => call_declare(process, rest, words, form),
         _ => call_listing(process, &plain, words, form),
     }
 }

@@ -10,7 +10,7 @@ use std::alloc::Global;
 use std::io::{ErrorKind, Write};
 
 /// Returns whether a fault is that the reader of the output has closed it.
-fn is_closed(fault: &Error) -> bool
+pub(crate) fn is_closed(fault: &Error) -> bool
     ensures { IsTrue result ↔ IsClosed fault.now }
 {
     match fault {

@@ -1,16 +1,14 @@
 //! What `validate` does with a file.
 
-ghost use Rattle.std.specs.Prelude.{◌≡◌, ◌↔◌, map, ℕ, List, IsTrue};
-ghost use Rattle.pdb_validation.specs.Finding.{error_count, finding_view};
-ghost use Rattle.pdb_validation.specs.IsWhole.{IsWhole};
-ghost use Rattle.pdb_validation.specs.Whole.{faults_of};
-ghost use Rattle.pdbdump_cli.specs.Validated.{AreFindingsWritten, HasPassed, IsConcluded, IsValidated};
+ghost use Rattle.std.specs.Prelude.{◌↔◌, map, IsTrue};
+ghost use Rattle.pdb_validation.specs.Finding.{finding_view};
+ghost use Rattle.pdbdump_cli.specs.Validated.{AreFindingsWritten, HasPassed, IsConcluded, IsValidatedIn};
 
 use crate::command::ValidateOptions;
 use crate::finding_lines::{counts_of, validate_lines};
 use crate::served::end;
 use pdb_cli::tell;
-use pdb_container::{Error, Result};
+use pdb_container::{Result, Source};
 use pdb_output::Output;
 use pdb_validation::{Finding, validate};
 use pdbdump_rows::Form;
@@ -52,9 +50,7 @@ fn conclude<O: Write, E: Write>(
     out: &mut Output<O>,
     err: &mut Output<E>,
 ) -> u8
-    ensures { (file : List ℕ) → faults_of options.extent file ≡ map finding_view findings.now
-        → ((error_count (map finding_view findings.now) ≡ 0) ↔ IsWhole file)
-        → IsConcluded options form file out.old out.new err.old err.new result }
+    ensures { IsConcluded options form (map finding_view findings.now) out.old out.new err.old err.new result }
 {
     let written = write_findings(alloc, options.is_quiet, form, path, findings, out);
     let status = end(alloc, written, out, err);
@@ -66,21 +62,21 @@ fn conclude<O: Write, E: Write>(
 
 /// Writes what is found wrong in the file with a path. Returns the status with which the program
 /// ends: 0 if there is no error, and no warning where that counts too; and 1 if there is, or after a
-/// fault of a channel, which is written to the error channel, unless it is that the output was
-/// closed.
-pub(crate) fn judge<O: Write, E: Write>(
+/// fault of the file or of a channel, which is written to the error channel, unless it is that the
+/// output was closed.
+pub(crate) fn judge<S: Source + Drop, O: Write, E: Write>(
     alloc: Global,
     options: ValidateOptions,
     form: Form,
     path: &str,
-    file: &[u8],
+    source: S,
     out: &mut Output<O>,
     err: &mut Output<E>,
 ) -> u8
-    ensures { IsValidated options form file.now out.old out.new err.old err.new result }
+    ensures { IsValidatedIn options form (S.state source) out.old out.new err.old err.new result }
 {
-    match validate(alloc, file, options.extent) {
+    match validate(alloc, source, options.extent) {
         Ok(findings) => conclude(alloc, options, form, path, &findings, out, err),
-        Err(_) => tell(alloc, &Error::OutOfMemory, err),
+        Err(fault) => tell(alloc, &fault, err),
     }
 }

@@ -38,6 +38,8 @@ pub fn verb_named(word: &str) -> Option<Verb> {
         "extract" => Some(Verb::Extract),
         "validate" => Some(Verb::Validate),
         "layout" => Some(Verb::Layout),
+        "diff" => Some(Verb::Diff),
+        "declare" => Some(Verb::Declare),
         _ => None,
     }
 }
@@ -207,7 +209,13 @@ fn with_option(verb: Verb, options: Options, option: &str, value: u32) -> Option
             Some(Options { map, ..options })
         }
         Verb::Extract => part_option(options, option, value),
-        Verb::Summary | Verb::Ask | Verb::Id | Verb::Layout | Verb::Validate => None,
+        Verb::Summary
+        | Verb::Ask
+        | Verb::Id
+        | Verb::Layout
+        | Verb::Diff
+        | Verb::Declare
+        | Verb::Validate => None,
     }
 }
 
@@ -285,7 +293,17 @@ fn command_with<'w>(verb: Verb, options: Options, operand: Option<&'w str>) -> O
             let address = number(address)?;
             Some(Command::Map { address, streams })
         }
-        (Verb::Map | Verb::Ask | Verb::Id | Verb::Extract | Verb::Layout | Verb::Validate, _)
+        (
+            Verb::Map
+            | Verb::Ask
+            | Verb::Id
+            | Verb::Extract
+            | Verb::Layout
+            | Verb::Diff
+            | Verb::Declare
+            | Verb::Validate,
+            _,
+        )
         | (_, Some(_)) => None,
         (Verb::Summary, None) => Some(Command::Summary),
         (Verb::Types, None) => Some(Command::Types { stream, index }),

@@ -1,2 +1,3 @@
+pub mod ComparedLemmas
 pub mod MatchLemmas
 pub mod ShowLemmas

@@ -7,7 +7,7 @@ use Rattle.pdb_base.specs.declared.error.Error.TheVariants.{OutOfMemory}
 use Rattle.pdb_output.specs.Output.{GetsUnlessFailed, IsFailed, OutputState}
 use Rattle.pdb_tpi.specs.Table.{Table, table_of}
 use Rattle.pdb_types.specs.Definition.{whole_table}
-use Rattle.pdbdump_layouts.specs.declared.show.Progress.{Progress}
+use Rattle.pdbdump_layouts.specs.declared.progress.Progress.{Progress}
 
 -- the table of types in a stream, if it can be walked to its end
 abbrev pub walked_table : List ℕ → Answer Table

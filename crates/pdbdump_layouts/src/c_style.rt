@@ -6,6 +6,7 @@ use crate::gap_place::gap_place;
 use crate::head::head_of;
 use crate::layout_row::LayoutRow;
 use crate::text::{escape_text, plural, push_commented, push_indent, push_remark};
+use crate::text_allowance::TextAllowance;
 use crate::totals::totals_of;
 use pdb_base::Result;
 use pdb_types::{Definitions, Extent, FieldKind, Gap, GapKind, Layout, LayoutField};
@@ -59,13 +60,14 @@ fn declaration<'t>(
     alloc: Global,
     definitions: &Definitions<'t>,
     field: &LayoutField<'t>,
+    texts: &mut TextAllowance,
 ) -> Result<Vec<u8>> {
     match field.place.kind {
-        FieldKind::Base => definitions.text_of(alloc, field.place.field_type, b""),
+        FieldKind::Base => texts.bytes(alloc, definitions, field.place.field_type, b""),
         FieldKind::VirtualBasePointer(_) => Ok(Vec::from_slice(alloc, b"vbptr")?),
         FieldKind::VirtualFunctionPointer => Ok(Vec::from_slice(alloc, b"vfptr")?),
         FieldKind::Member(name) => {
-            definitions.text_of(alloc, field.place.field_type, name.as_bytes())
+            texts.bytes(alloc, definitions, field.place.field_type, name.as_bytes())
         }
     }
 }
@@ -75,12 +77,13 @@ fn push_role<'t>(
     alloc: Global,
     definitions: &Definitions<'t>,
     field: &LayoutField<'t>,
+    texts: &mut TextAllowance,
     comment: &mut Vec<u8>,
 ) -> Result<()> {
     match field.place.kind {
         FieldKind::Base => comment.extend_from_slice(b"  base")?,
         FieldKind::VirtualBasePointer(base) => {
-            let name = definitions.text_of(alloc, base.base_class, b"")?;
+            let name = texts.bytes(alloc, definitions, base.base_class, b"")?;
             comment.extend_from_slice(b"  of virtual base ")?;
             comment.extend_from_slice(&escape_text(alloc, &name)?)?;
         }
@@ -89,20 +92,25 @@ fn push_role<'t>(
     Ok(())
 }
 
-/// Appends the line of a field.
-fn push_field<'t>(
+/// Appends the line of a field of a class that begins at an offset from the start of what is shown,
+/// behind what the line begins with.
+///
+/// # Errors
+/// Fails as `Definitions::type_text` does for the type of the field.
+pub(crate) fn push_field<'t>(
     alloc: Global,
     definitions: &Definitions<'t>,
     start: u64,
     field: &LayoutField<'t>,
+    texts: &mut TextAllowance,
     mut line: Vec<u8>,
     text: &mut Vec<u8>,
 ) -> Result<()> {
-    let declared = declaration(alloc, definitions, field)?;
+    let declared = declaration(alloc, definitions, field, texts)?;
     line.extend_from_slice(&escape_text(alloc, &declared)?)?;
     line.push(b';')?;
     let mut comment = field_place(alloc, start, field)?;
-    push_role(alloc, definitions, field, &mut comment)?;
+    push_role(alloc, definitions, field, texts, &mut comment)?;
     push_commented(&line, &comment, text)?;
     Ok(())
 }
@@ -112,13 +120,22 @@ fn push_row<'t>(
     alloc: Global,
     definitions: &Definitions<'t>,
     shown_row: &ShownRow<'t>,
+    texts: &mut TextAllowance,
     text: &mut Vec<u8>,
 ) -> Result<()> {
     let mut line = Vec::new(alloc);
     push_indent(shown_row.depth.saturating_add(1), WIDTH, &mut line)?;
     match &shown_row.row {
         LayoutRow::Field(field) => {
-            push_field(alloc, definitions, shown_row.start, field, line, text)
+            push_field(
+                alloc,
+                definitions,
+                shown_row.start,
+                field,
+                texts,
+                line,
+                text,
+            )
         }
         LayoutRow::Gap(gap) => {
             line.extend_from_slice(&gap_text(alloc, gap)?)?;
@@ -157,14 +174,15 @@ pub(crate) fn c_text<'t>(
     layout: &Layout<'t>,
     class: Option<&Class<'t>>,
     expansion: &Expansion<'t>,
+    texts: &mut TextAllowance,
 ) -> Result<Vec<u8>> {
     let mut text = Vec::new(alloc);
-    let head = head_of(alloc, definitions, &layout.fields, class)?;
+    let head = head_of(alloc, definitions, &layout.fields, class, texts)?;
     let (index, size) = (layout.index.0, layout.size);
     let comment = format!(in alloc; "0x{index:x}, size 0x{size:x}")?;
     push_commented(&head, comment.as_bytes(), &mut text)?;
     for row in &expansion.rows {
-        push_row(alloc, definitions, row, &mut text)?;
+        push_row(alloc, definitions, row, texts, &mut text)?;
     }
     if expansion.is_cut {
         push_indent(1, WIDTH, &mut text)?;

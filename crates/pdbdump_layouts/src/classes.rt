@@ -24,7 +24,7 @@ pub(crate) struct Class<'t> {
 }
 
 /// Returns what C++ calls a kind of class.
-fn class_word(kind: ClassKind) -> &'static str {
+pub(crate) fn class_word(kind: ClassKind) -> &'static str {
     match kind {
         ClassKind::Class => "class",
         ClassKind::Struct => "struct",
@@ -68,31 +68,50 @@ fn class_defined<'t>(alloc: Global, item: &Type<'t>) -> Result<Option<Class<'t>>
     }
 }
 
-/// Returns whether a name is wanted: any is if there is no pattern.
-fn is_name_wanted(pattern: Option<&[u8]>, name: RawString<'_>) -> bool {
-    match pattern {
-        Some(pattern) => matches(pattern, name.as_bytes()),
-        None => true,
+/// Which classes are wanted.
+#[derive(Clone, Copy)]
+pub(crate) enum Wanted<'n> {
+    /// All of them.
+    All,
+
+    /// Those whose names a pattern means.
+    Meant(&'n [u8]),
+
+    /// Those with whose names and a point a path begins.
+    Before(&'n [u8]),
+}
+
+/// Returns what is behind a name and a point in a path that begins so.
+pub(crate) fn steps_behind<'p>(path: &'p [u8], name: &[u8]) -> Option<&'p [u8]> {
+    path.strip_prefix(name)?.strip_prefix(b".")
+}
+
+/// Returns whether a name is wanted.
+fn is_name_wanted(wanted: Wanted<'_>, name: RawString<'_>) -> bool {
+    match wanted {
+        Wanted::All => true,
+        Wanted::Meant(pattern) => matches(pattern, name.as_bytes()),
+        Wanted::Before(path) => steps_behind(path, name.as_bytes()).is_some(),
     }
 }
 
 /// Returns whether a record is that of a class or a union that is defined and whose name is wanted.
-fn is_class(alloc: Global, item: &Type<'_>, pattern: Option<&[u8]>) -> Result<bool, AllocError> {
+fn is_class(alloc: Global, item: &Type<'_>, wanted: Wanted<'_>) -> Result<bool, AllocError> {
     match class_defined(alloc, item)? {
-        Some(class) => Ok(is_name_wanted(pattern, class.name)),
+        Some(class) => Ok(is_name_wanted(wanted, class.name)),
         None => Ok(false),
     }
 }
 
-/// Returns the indexes of the classes and unions that a table defines and whose names match a
-/// pattern, or of all of them, in the order of the table.
+/// Returns the indexes of the classes and unions that a table defines and that are wanted, in the
+/// order of the table.
 ///
 /// # Errors
 /// Fails with `OutOfMemory` if an allocation fails.
 pub(crate) fn classes_in(
     alloc: Global,
     types: &OpenTable<TypeIndex>,
-    pattern: Option<&[u8]>,
+    wanted: Wanted<'_>,
 ) -> Result<Vec<TypeIndex>, AllocError> {
     let header = types.items().header();
     let mut found = Vec::new(alloc);
@@ -101,7 +120,7 @@ pub(crate) fn classes_in(
         let Ok(item) = types.item(TypeIndex(number)) else {
             return Ok(found);
         };
-        if !is_class(alloc, &item, pattern)? {
+        if !is_class(alloc, &item, wanted)? {
             continue;
         }
         found.push(TypeIndex(number))?;
@@ -129,8 +148,25 @@ fn modified_type(value: &TypeData<'_>) -> Option<TypeIndex> {
     }
 }
 
-/// Returns the layout of a class or a union, also of one with modifiers. Compilers write one
-/// modifier for a type, and up to 15 are followed.
+/// Returns the type that one with modifiers is without them. Compilers write one modifier for a
+/// type, and up to 15 are followed.
+fn unmodified(
+    alloc: Global,
+    types: &OpenTable<TypeIndex>,
+    index: TypeIndex,
+) -> Result<Option<TypeIndex>, Error> {
+    let mut index = index;
+    for _ in 0..MOST_TYPES {
+        let value = type_at(alloc, types, index)?;
+        match modified_type(&value) {
+            Some(other) => index = other,
+            None => return Ok(Some(index)),
+        }
+    }
+    Ok(None)
+}
+
+/// Returns the layout of a class or a union, also of one with modifiers.
 ///
 /// # Errors
 /// Fails as `Definitions::layout_of` does.
@@ -139,13 +175,80 @@ pub(crate) fn class_layout<'t>(
     definitions: &Definitions<'t>,
     index: TypeIndex,
 ) -> Result<Option<Layout<'t>>, Error> {
-    let mut index = index;
-    for _ in 0..MOST_TYPES {
-        let value = type_at(alloc, definitions.types(), index)?;
-        match modified_type(&value) {
-            Some(other) => index = other,
-            None => return definitions.layout_of(alloc, index),
-        }
+    match unmodified(alloc, definitions.types(), index)? {
+        Some(index) => definitions.layout_of(alloc, index),
+        None => Ok(None),
     }
-    Ok(None)
+}
+
+/// Returns the list of the fields of a class, a union or an enumeration.
+fn list_in(value: &TypeData<'_>) -> Option<TypeIndex> {
+    match value {
+        TypeData::Class(class) => class.fields,
+        TypeData::Union(union_type) => Some(union_type.fields),
+        TypeData::Enumeration(enumeration) => Some(enumeration.fields),
+        _ => None,
+    }
+}
+
+/// Returns the list of the fields of a class, a union or an enumeration, also of one with modifiers.
+fn list_of(
+    alloc: Global,
+    definitions: &Definitions<'_>,
+    index: TypeIndex,
+) -> Result<Option<TypeIndex>, Error> {
+    let types = definitions.types();
+    let Some(index) = unmodified(alloc, types, index)? else {
+        return Ok(None);
+    };
+    let Some(definition) = definitions.definition_of(alloc, index)? else {
+        return Ok(None);
+    };
+    let value = type_at(alloc, types, definition)?;
+    Ok(list_in(&value))
+}
+
+/// Returns how many records a list of fields has, and the list in which it goes on.
+fn records_in(value: &TypeData<'_>) -> (usize, Option<TypeIndex>) {
+    match value {
+        TypeData::FieldList(list) => (list.fields.len(), list.continuation),
+        _ => (0, None),
+    }
+}
+
+/// Returns how many records are read for the fields of a class, a union or an enumeration, and of the
+/// lists in which they are, but no more than one list beyond a limit. It is as many as can be read
+/// where one can't.
+///
+/// # Errors
+/// Fails if an allocation fails.
+pub(crate) fn records_of(
+    alloc: Global,
+    definitions: &Definitions<'_>,
+    index: TypeIndex,
+    most: usize,
+) -> Result<usize, AllocError> {
+    let mut next = match list_of(alloc, definitions, index) {
+        Ok(list) => list,
+        Err(Error::OutOfMemory) => return Err(AllocError),
+        Err(_) => return Ok(0),
+    };
+    let mut count = 0usize;
+    for _ in 0..=most {
+        let Some(list) = next else {
+            return Ok(count);
+        };
+        let value = match type_at(alloc, definitions.types(), list) {
+            Ok(value) => value,
+            Err(Error::OutOfMemory) => return Err(AllocError),
+            Err(_) => return Ok(count),
+        };
+        let (records, behind) = records_in(&value);
+        count = count.saturating_add(records).saturating_add(1);
+        if count > most {
+            return Ok(count);
+        }
+        next = behind;
+    }
+    Ok(count)
 }

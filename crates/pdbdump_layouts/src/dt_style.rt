@@ -5,6 +5,7 @@ use crate::dt_type::dt_type;
 use crate::expanded::{Expansion, ShownRow};
 use crate::layout_row::LayoutRow;
 use crate::text::{escape_text, plural, push_indent, push_named};
+use crate::text_allowance::TextAllowance;
 use pdb_base::Result;
 use pdb_types::{Definitions, Extent, FieldKind, LayoutField};
 use std::alloc::Global;
@@ -43,6 +44,7 @@ fn field_type<'t>(
     alloc: Global,
     definitions: &Definitions<'t>,
     field: &LayoutField<'t>,
+    texts: &mut TextAllowance,
 ) -> Result<Vec<u8>> {
     match field.extent {
         Extent::Bits(bits) => bits_type(alloc, bits.position, bits.length),
@@ -50,7 +52,7 @@ fn field_type<'t>(
             let bits = size.saturating_mul(8);
             Ok(format!(in alloc; "Ptr{bits}")?.into_bytes())
         }
-        _ => dt_type(alloc, definitions, field.place.field_type),
+        _ => dt_type(alloc, definitions, field.place.field_type, texts),
     }
 }
 
@@ -59,6 +61,7 @@ fn push_row<'t>(
     alloc: Global,
     definitions: &Definitions<'t>,
     shown_row: &ShownRow<'t>,
+    texts: &mut TextAllowance,
     text: &mut Vec<u8>,
 ) -> Result<()> {
     let LayoutRow::Field(field) = &shown_row.row else {
@@ -69,7 +72,7 @@ fn push_row<'t>(
     let offset = field.place.offset;
     place.extend_from_slice(format!(in alloc; "+0x{offset:03x}")?.as_bytes())?;
     let name = field_name(alloc, field)?;
-    let type_text = field_type(alloc, definitions, field)?;
+    let type_text = field_type(alloc, definitions, field, texts)?;
     push_named(&place, &name, &type_text, text)?;
     Ok(())
 }
@@ -81,6 +84,7 @@ pub(crate) fn dt_text<'t>(
     definitions: &Definitions<'t>,
     class: Option<&Class<'t>>,
     expansion: &Expansion<'t>,
+    texts: &mut TextAllowance,
 ) -> Result<Vec<u8>> {
     let mut text = Vec::new(alloc);
     if let Some(class) = class {
@@ -88,7 +92,7 @@ pub(crate) fn dt_text<'t>(
         text.push(b'\n')?;
     }
     for row in &expansion.rows {
-        push_row(alloc, definitions, row, &mut text)?;
+        push_row(alloc, definitions, row, texts, &mut text)?;
     }
     if expansion.is_cut {
         push_indent(1, WIDTH, &mut text)?;

@@ -2,6 +2,7 @@
 
 use crate::classes::type_at;
 use crate::text::escape_text;
+use crate::text_allowance::TextAllowance;
 use pdb_base::{Result, TypeIndex};
 use pdb_flags::PointerMode;
 use pdb_types::Definitions;
@@ -108,6 +109,7 @@ fn push_last<'t>(
     definitions: &Definitions<'t>,
     index: TypeIndex,
     value: &TypeData<'t>,
+    texts: &mut TextAllowance,
     text: &mut Vec<u8>,
 ) -> Result<()> {
     if let TypeData::Primitive(primitive) = value {
@@ -115,7 +117,7 @@ fn push_last<'t>(
             return Ok(());
         }
     }
-    let spelled = definitions.text_of(alloc, index, b"")?;
+    let spelled = texts.bytes(alloc, definitions, index, b"")?;
     text.extend_from_slice(&escape_text(alloc, &spelled)?)?;
     Ok(())
 }
@@ -127,6 +129,7 @@ pub(crate) fn dt_type<'t>(
     alloc: Global,
     definitions: &Definitions<'t>,
     index: TypeIndex,
+    texts: &mut TextAllowance,
 ) -> Result<Vec<u8>> {
     let mut text = Vec::new(alloc);
     let mut index = index;
@@ -135,7 +138,7 @@ pub(crate) fn dt_type<'t>(
         match push_outer(alloc, definitions, &value, &mut text)? {
             Some(next) => index = next,
             None => {
-                push_last(alloc, definitions, index, &value, &mut text)?;
+                push_last(alloc, definitions, index, &value, texts, &mut text)?;
                 return Ok(text);
             }
         }

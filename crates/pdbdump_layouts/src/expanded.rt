@@ -2,6 +2,7 @@
 
 ghost use Rattle.std.specs.Prelude.{◌<◌, ◌≤◌, IsTrue};
 
+use crate::allowance::Allowance;
 use crate::classes::class_layout;
 use crate::layout_row::{LayoutRow, rows_of};
 use pdb_base::{Result, TypeIndex};
@@ -199,7 +200,8 @@ fn push_rows<'t>(
 ///
 /// In a damaged file a class may hold itself. So classes within are shown at most 256 deep, and
 /// only until they have 65,536 fields and gaps together, where each class counts as 16 of them at
-/// least, and at least as one for 16 records that it has. `is_cut` tells if one was left out.
+/// least, and at least as one for 16 records that it has; and only until those of the call are as
+/// many as are allowed. `is_cut` tells if one was left out.
 ///
 /// # Errors
 /// Fails as `Definitions::layout_of` does for a class within, and with `OutOfMemory` if an
@@ -209,15 +211,18 @@ pub(crate) fn expand<'t>(
     definitions: &Definitions<'t>,
     layout: &Layout<'t>,
     depth: u32,
+    allowed: &mut Allowance,
 ) -> Result<Expansion<'t>> {
+    let most = MOST_ROWS.min(allowed.left());
     let own = rows_of(alloc, layout)?;
     let mut rows = Vec::new(alloc);
     let mut budget = Budget {
         asked: depth,
-        most: MOST_ROWS,
+        most,
         is_cut: false,
     };
     push_rows(alloc, definitions, &own, 0, 0, &mut budget, &mut rows)?;
+    allowed.take(most.saturating_sub(budget.most));
     Ok(Expansion {
         rows,
         is_cut: budget.is_cut,

@@ -2,6 +2,7 @@
 
 use crate::classes::Class;
 use crate::text::escape_text;
+use crate::text_allowance::TextAllowance;
 use pdb_base::{Result, TypeIndex};
 use pdb_types::{Definitions, FieldKind, LayoutField};
 use std::alloc::Global;
@@ -21,6 +22,7 @@ fn push_bases<'t>(
     alloc: Global,
     definitions: &Definitions<'t>,
     fields: &[LayoutField<'t>],
+    texts: &mut TextAllowance,
     head: &mut Vec<u8>,
 ) -> Result<()> {
     let mut is_first = true;
@@ -35,7 +37,7 @@ fn push_bases<'t>(
         })?;
         is_first = false;
         head.extend_from_slice(word.as_bytes())?;
-        let name = definitions.text_of(alloc, index, b"")?;
+        let name = texts.bytes(alloc, definitions, index, b"")?;
         head.extend_from_slice(&escape_text(alloc, &name)?)?;
     }
     Ok(())
@@ -47,6 +49,7 @@ pub(crate) fn head_of<'t>(
     definitions: &Definitions<'t>,
     fields: &[LayoutField<'t>],
     class: Option<&Class<'t>>,
+    texts: &mut TextAllowance,
 ) -> Result<Vec<u8>> {
     let mut head = Vec::new(alloc);
     if let Some(class) = class {
@@ -54,7 +57,7 @@ pub(crate) fn head_of<'t>(
         head.push(b' ')?;
         head.extend_from_slice(&escape_text(alloc, class.name.as_bytes())?)?;
     }
-    push_bases(alloc, definitions, fields, &mut head)?;
+    push_bases(alloc, definitions, fields, texts, &mut head)?;
     head.extend_from_slice(b" {")?;
     Ok(head)
 }

@@ -4,34 +4,41 @@ use crate::classes::Class;
 use crate::expanded::{Expansion, ShownRow};
 use crate::layout_row::LayoutRow;
 use crate::object::{FieldTexts, show_field, show_gap};
+use crate::text_allowance::TextAllowance;
 use crate::totals::totals_of;
 use pdb_base::Result;
 use pdb_types::{Definitions, FieldKind, Layout, LayoutField};
 use pdbdump_rows::{Form, Line, Value, optional_text, optional_word};
 use std::alloc::Global;
 
-/// Adds what the object of a field holds.
-fn show_part<'t>(
+/// Adds what the object of a field holds, whose class is so deep in what is shown and begins at an
+/// offset from the start of that.
+///
+/// # Errors
+/// Fails as `Definitions::type_text` does for the type of the field.
+pub(crate) fn show_part<'t>(
     alloc: Global,
     line: &mut Line,
     definitions: &Definitions<'t>,
-    shown: &ShownRow<'t>,
+    depth: u32,
+    start: u64,
     part: &LayoutField<'t>,
+    texts: &mut TextAllowance,
 ) -> Result<()> {
     let index = part.place.field_type;
     let name = match part.place.kind {
         FieldKind::Member(name) => name.as_bytes(),
         _ => b"".as_slice(),
     };
-    let type_text = definitions.type_text(alloc, index, b"")?;
-    let declaration = definitions.type_text(alloc, index, name)?;
-    let offset = shown.start.saturating_add(part.place.offset);
-    let texts = FieldTexts {
+    let type_text = texts.text(alloc, definitions, index, b"")?;
+    let declaration = texts.text(alloc, definitions, index, name)?;
+    let offset = start.saturating_add(part.place.offset);
+    let spelled = FieldTexts {
         type_text: &type_text.bytes,
         declaration: &declaration.bytes,
         is_cut: type_text.is_cut || declaration.is_cut,
     };
-    show_field(line, shown.depth, offset, part, texts)?;
+    show_field(line, depth, offset, part, spelled)?;
     Ok(())
 }
 
@@ -41,11 +48,22 @@ fn push_object<'t>(
     line: &mut Line,
     definitions: &Definitions<'t>,
     shown: &ShownRow<'t>,
+    texts: &mut TextAllowance,
     text: &mut Vec<u8>,
 ) -> Result<()> {
     line.begin(Form::Json);
     match &shown.row {
-        LayoutRow::Field(part) => show_part(alloc, line, definitions, shown, part)?,
+        LayoutRow::Field(part) => {
+            show_part(
+                alloc,
+                line,
+                definitions,
+                shown.depth,
+                shown.start,
+                part,
+                texts,
+            )?;
+        }
         LayoutRow::Gap(gap) => show_gap(line, shown.depth, shown.start, gap)?,
     }
     text.extend_from_slice(line.as_bytes())?;
@@ -61,6 +79,7 @@ pub(crate) fn json_text<'t>(
     layout: &Layout<'t>,
     class: Option<&Class<'t>>,
     expansion: &Expansion<'t>,
+    texts: &mut TextAllowance,
 ) -> Result<Vec<u8>> {
     let totals = totals_of(&layout.gaps);
     let mut line = Line::new(alloc);
@@ -80,7 +99,7 @@ pub(crate) fn json_text<'t>(
         if number > 0 {
             text.push(b',')?;
         }
-        push_object(alloc, &mut line, definitions, row, &mut text)?;
+        push_object(alloc, &mut line, definitions, row, texts, &mut text)?;
     }
     text.extend_from_slice(b"]}\n")?;
     Ok(text)

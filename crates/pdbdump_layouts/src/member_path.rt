@@ -1,10 +1,11 @@
 //! Members of members of classes, by a path such as `Derived.inner.tag`.
 
-use crate::classes::class_layout;
+use crate::allowance::Allowance;
+use crate::classes::{class_layout, records_of};
 use crate::cut::cut_at;
 use crate::object::{FieldTexts, show_field};
 use crate::text::escape_text;
-use pdb_base::{Result, TypeIndex};
+use pdb_base::{Error, Result, TypeIndex};
 use pdb_types::{Definitions, Extent, FieldKind, Layout, LayoutField};
 use pdbdump_rows::{Form, Line};
 use std::alloc::Global;
@@ -31,21 +32,30 @@ fn member_named<'t>(layout: &Layout<'t>, name: &[u8]) -> Option<LayoutField<'t>>
     None
 }
 
+/// Why a path isn't followed to its end.
+const TOO_LONG: &str = "member path along so many fields";
+
 /// Returns the member that a path leads to from a class.
 ///
 /// # Errors
-/// Fails as `Definitions::layout_of` does for a class on the way, and with `OutOfMemory` if an
-/// allocation fails.
+/// Fails with `UnimplementedFeature` if more records would be read than are allowed, as
+/// `Definitions::layout_of` does for a class on the way, and with `OutOfMemory` if an allocation
+/// fails.
 pub(crate) fn member_at<'t>(
     alloc: Global,
     definitions: &Definitions<'t>,
     index: TypeIndex,
     path: &[u8],
+    records: &mut Allowance,
 ) -> Result<Option<FoundMember<'t>>> {
     let mut index = index;
     let mut offset = 0u64;
     let mut rest = path;
     loop {
+        let count = records_of(alloc, definitions, index, records.left())?;
+        if !records.take(count) {
+            return Err(Error::UnimplementedFeature(TOO_LONG));
+        }
         let Some(layout) = class_layout(alloc, definitions, index)? else {
             return Ok(None);
         };

@@ -2,7 +2,8 @@
 
 ghost use Rattle.pdb_base.specs.Memory.{FailsOnlyForMemory};
 
-use crate::classes::classes_in;
+use crate::allowance::Allowance;
+use crate::classes::{Wanted, class_of, classes_in, steps_behind, type_at};
 use crate::member_path::{FoundMember, member_at, member_text};
 use crate::pattern::is_pattern;
 use pdb_base::{Result, TypeIndex};
@@ -11,7 +12,7 @@ use pdbdump_rows::Form;
 use std::alloc::Global;
 
 /// Returns the index that a name spells in hexadecimal digits behind `0x`, if it spells one.
-fn index_named(name: &str) -> Option<TypeIndex> {
+pub fn index_named(name: &str) -> Option<TypeIndex> {
     let digits = name.strip_prefix("0x")?;
     if !digits.bytes().all(|digit| digit.is_ascii_hexdigit()) {
         return None;
@@ -35,10 +36,43 @@ pub(crate) fn types_named(
         return Ok(vec![in alloc; index]?);
     }
     if is_pattern(name.as_bytes()) {
-        let classes = classes_in(alloc, definitions.types(), Some(name.as_bytes()))?;
+        let classes = classes_in(alloc, definitions.types(), Wanted::Meant(name.as_bytes()))?;
         return Ok(classes);
     }
     definitions.all_definitions(alloc, name.as_bytes())
+}
+
+/// A class with whose name a path begins.
+#[derive(Clone, Copy)]
+struct Start<'p> {
+    /// The class.
+    class: TypeIndex,
+
+    /// The path behind the name and a point.
+    steps: &'p [u8],
+}
+
+/// Returns the classes with whose names and a point a path begins, those with the longest names
+/// first.
+fn starts_of<'p>(
+    alloc: Global,
+    definitions: &Definitions<'_>,
+    path: &'p [u8],
+) -> Result<Vec<Start<'p>>> {
+    let mut starts = Vec::new(alloc);
+    let classes = classes_in(alloc, definitions.types(), Wanted::Before(path))?;
+    for index in &classes {
+        let value = type_at(alloc, definitions.types(), *index)?;
+        let steps = class_of(&value).and_then(|class| steps_behind(path, class.name.as_bytes()));
+        if let Some(steps) = steps {
+            starts.push(Start {
+                class: *index,
+                steps,
+            })?;
+        }
+    }
+    starts.sort_by_key(|start| start.steps.len())?;
+    Ok(starts)
 }
 
 /// Returns the member that a path leads to: from the first definition of the longest name before a
@@ -47,17 +81,13 @@ fn member_named<'t>(
     alloc: Global,
     definitions: &Definitions<'t>,
     path: &[u8],
+    records: &mut Allowance,
 ) -> Result<Option<FoundMember<'t>>> {
-    for length in (0..path.len()).rev() {
-        if path[length] != b'.' {
-            continue;
-        }
-        let found = definitions.all_definitions(alloc, &path[..length])?;
-        for index in &found {
-            let member = member_at(alloc, definitions, *index, &path[length + 1..])?;
-            if member.is_some() {
-                return Ok(member);
-            }
+    let starts = starts_of(alloc, definitions, path)?;
+    for start in &starts {
+        let member = member_at(alloc, definitions, start.class, start.steps, records)?;
+        if member.is_some() {
+            return Ok(member);
         }
     }
     Ok(None)
@@ -67,15 +97,16 @@ fn member_named<'t>(
 /// path leads to none.
 ///
 /// # Errors
-/// Fails as `Definitions::layout_of` does for a class of the path and as `Definitions::text_of` does
-/// for the type of the member, and with `OutOfMemory` if an allocation fails.
+/// Fails as `member_at` does for a class with whose name the path begins, as `Definitions::type_text`
+/// does for the type of the member, and with `OutOfMemory` if an allocation fails.
 pub(crate) fn member_line(
     alloc: Global,
     definitions: &Definitions<'_>,
     path: &[u8],
     form: Form,
+    records: &mut Allowance,
 ) -> Result<Option<Vec<u8>>> {
-    match member_named(alloc, definitions, path)? {
+    match member_named(alloc, definitions, path, records)? {
         Some(member) => Ok(Some(member_text(alloc, definitions, path, &member, form)?)),
         None => Ok(None),
     }

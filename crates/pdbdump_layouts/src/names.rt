@@ -4,6 +4,8 @@ pub(crate) const BIT: &str = "bit";
 
 pub(crate) const BITS: &str = "bits";
 
+pub(crate) const CHANGE: &str = "change";
+
 pub(crate) const CUT: &str = "cut";
 
 pub(crate) const DECLARATION: &str = "declaration";

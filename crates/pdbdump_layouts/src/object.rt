@@ -2,9 +2,10 @@
 
 use crate::gap_place::gap_place;
 use crate::names::{BIT, BITS, CUT, DECLARATION, DEPTH, TYPE, TYPE_INDEX, VIRTUAL_BASE};
+use crate::part::Enumerator;
 use pdb_base::RawString;
 use pdb_types::{Extent, FieldKind, Gap, GapKind, LayoutField};
-use pdbdump_rows::names::{DIRECT, KIND, NAME, OFFSET, POSITION, SIZE};
+use pdbdump_rows::names::{DIRECT, KIND, NAME, OFFSET, POSITION, SIZE, VALUE};
 use pdbdump_rows::{Line, LineResult, Value, optional_text};
 
 /// Returns the word for what a field is.
@@ -91,6 +92,25 @@ pub(crate) fn show_field(
     show_extent(line, &part.extent)?;
     show_virtual_base(line, kind)?;
     Ok(())
+}
+
+/// Adds what the object of an enumerator holds.
+///
+/// # Errors
+/// Fails if an allocation fails.
+pub(crate) fn show_enumerator(line: &mut Line, enumerator: &Enumerator<'_>) -> LineResult {
+    line.field(KIND, Value::Word("enumerator"))?;
+    line.field(NAME, Value::Text(enumerator.name))?;
+    if let Ok(number) = u64::try_from(enumerator.value) {
+        return line.field(VALUE, Value::Number(number));
+    }
+    line.field(
+        VALUE,
+        match i64::try_from(enumerator.value) {
+            Ok(number) => Value::Signed(number),
+            Err(_) => Value::Absent,
+        },
+    )
 }
 
 /// Returns the word for why no field takes bits.

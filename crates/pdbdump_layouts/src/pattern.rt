@@ -8,7 +8,7 @@ ghost use Rattle.pdbdump_layouts.specs.Pattern.{IsFirst, IsNowhere, LacksByte, M
 use crate::cut::{cut_at, text_from};
 
 /// Returns whether a name is a pattern.
-pub(crate) fn is_pattern(name: &[u8]) -> bool
+pub fn is_pattern(name: &[u8]) -> bool
     ensures { result ≡ list_any is_sign name.now }
 {
     name.iter().any(|byte| *byte == b'*' || *byte == b'?')
@@ -81,7 +81,7 @@ fn matches_behind(pattern: &[u8], name: &[u8]) -> bool
 
 /// Returns whether a pattern matches a name: `*` in it matches any bytes, `?` matches one byte, and
 /// another byte matches itself. It takes time in proportion to the product of both lengths at most.
-pub(crate) fn matches(pattern: &[u8], name: &[u8]) -> bool
+pub fn matches(pattern: &[u8], name: &[u8]) -> bool
     ensures { IsTrue result ↔ Means pattern.now name.now }
 {
     let (signs, rest) = cut_at(b'*', pattern);

@@ -1,19 +1,21 @@
 //! The layouts that a call shows: of all classes, or of those that names mean.
 
-ghost use Rattle.std.specs.Prelude.{◌≡◌, OnOk};
+ghost use Rattle.std.specs.Prelude.{◌≡◌, ◌⊎◌, false, OnOk};
 ghost use Rattle.pdb_base.specs.Answer.{Answers};
 ghost use Rattle.pdb_base.specs.Memory.{FailsOnlyForMemory};
 ghost use Rattle.pdb_tpi.specs.Table.{table_of};
 ghost use Rattle.pdbdump_layouts.specs.Shown.{IsShowResult, IsStopped, StaysAccounted};
 
+use crate::allowance::Allowance;
 use crate::c_style::c_text;
-use crate::classes::{class_layout, class_of, classes_in, type_at};
+use crate::classes::{Wanted, class_layout, class_of, classes_in, type_at};
 use crate::dt_style::dt_text;
 use crate::expanded::expand;
 use crate::json::json_text;
 use crate::named::{member_line, types_named};
 use crate::options::{Options, Order, Style};
-use crate::text::escape_text;
+use crate::progress::{Progress, tell, tell_fault, tell_index, write_layout};
+use crate::text_allowance::TextAllowance;
 use crate::totals::totals_of;
 use pdb_base::{Error, Stream, TypeIndex};
 use pdb_output::Output;
@@ -31,20 +33,16 @@ struct Rank<'t> {
     index: TypeIndex,
 }
 
-/// How far the layouts are shown.
-#[derive(Clone, Copy)]
-struct Progress {
-    /// Whether a layout was shown.
-    has_shown: bool,
-
-    /// Whether each name so far was found, and no class had an error.
-    is_whole: bool,
-}
-
 /// Why a type has no layout, and why a name means nothing.
 const NO_CLASS: &[u8] = b"no class or union that is defined here";
 
 const NO_NAME: &[u8] = b"no class or union is called so";
+
+/// Why classes are left out.
+pub const TOO_MANY: &[u8] = b"left out with all that follow, since so many fields were read";
+
+/// Why members of classes within classes are left out.
+const TOO_DEEP: &[u8] = b"more is left out, since so much was shown";
 
 /// Returns a layout as text or JSON.
 fn layout_text<'t>(
@@ -53,99 +51,22 @@ fn layout_text<'t>(
     layout: &Layout<'t>,
     options: &Options,
     form: Form,
+    rows: &mut Allowance,
+    texts: &mut TextAllowance,
 ) -> Result<Vec<u8>, Error> {
     let class = class_of(&type_at(alloc, definitions.types(), layout.index)?);
     let class = class.as_ref();
-    let expansion = expand(alloc, definitions, layout, options.depth)?;
+    let expansion = expand(alloc, definitions, layout, options.depth, rows)?;
     match (form, options.style) {
-        (Form::Json, _) => json_text(alloc, definitions, layout, class, &expansion),
-        (Form::Text, Style::C) => c_text(alloc, definitions, layout, class, &expansion),
-        (Form::Text, Style::Dt) => dt_text(alloc, definitions, class, &expansion),
-    }
-}
-
-/// Writes to the error channel why a type or a name has no layout. Then not all is there.
-fn tell<E: Write>(
-    alloc: Global,
-    what: &[u8],
-    why: &[u8],
-    progress: &mut Progress,
-    err: &mut Output<E>,
-) -> Result<(), Error>
-    ensures accounted { OnOk result (StaysAccounted progress.old progress.new err.old err.new) }
-    ensures memory { FailsOnlyForMemory result }
-{
-    let mut line = escape_text(alloc, what)?;
-    line.extend_from_slice(b": ")?;
-    line.extend_from_slice(why)?;
-    line.push(b'\n')?;
-    progress.is_whole = false;
-    err.report(&line);
-    Ok(())
-}
-
-/// Writes to the error channel why the type of an index has no layout.
-fn tell_index<E: Write>(
-    alloc: Global,
-    index: TypeIndex,
-    why: &[u8],
-    progress: &mut Progress,
-    err: &mut Output<E>,
-) -> Result<(), Error>
-    ensures accounted { OnOk result (StaysAccounted progress.old progress.new err.old err.new) }
-    ensures memory { FailsOnlyForMemory result }
-{
-    let number = index.0;
-    let what = format!(in alloc; "0x{number:x}")?;
-    tell(alloc, what.as_bytes(), why, progress, err)
-}
-
-/// Writes to the error channel the fault for which the type of an index has no layout.
-fn tell_fault<E: Write>(
-    alloc: Global,
-    index: TypeIndex,
-    fault: &Error,
-    progress: &mut Progress,
-    err: &mut Output<E>,
-) -> Result<(), Error>
-    ensures accounted { OnOk result (StaysAccounted progress.old progress.new err.old err.new) }
-    ensures memory { FailsOnlyForMemory result }
-{
-    match fault {
-        Error::OutOfMemory => Err(Error::OutOfMemory),
-        _ => {
-            let why = error_text(alloc, fault)?;
-            tell_index(alloc, index, &why, progress, err)
-        }
+        (Form::Json, _) => json_text(alloc, definitions, layout, class, &expansion, texts),
+        (Form::Text, Style::C) => c_text(alloc, definitions, layout, class, &expansion, texts),
+        (Form::Text, Style::Dt) => dt_text(alloc, definitions, class, &expansion, texts),
     }
 }
 
 /// Returns whether a layout is among those that are wanted.
 fn is_wanted(layout: &Layout<'_>, options: &Options) -> bool {
     !options.has_holes || totals_of(&layout.gaps).holes > 0
-}
-
-/// Returns what is written between two layouts: a line feed, if they are texts.
-fn separator(form: Form, has_shown: bool) -> &'static [u8] {
-    match form {
-        Form::Text if has_shown => b"\n",
-        _ => b"",
-    }
-}
-
-/// Writes the text of a layout, behind an empty line if it isn't the first.
-fn write_layout<O: Write>(
-    text: &[u8],
-    form: Form,
-    progress: &mut Progress,
-    out: &mut Output<O>,
-) -> Result<(), Error>
-    ensures whole { progress.new.is_whole ≡ progress.old.is_whole }
-    ensures stopped { IsStopped out.new result }
-{
-    out.write(separator(form, progress.has_shown))?;
-    progress.has_shown = true;
-    out.write(text)
 }
 
 /// Shows a layout that is wanted, or tells why it can't be written.
@@ -163,7 +84,16 @@ fn show_layout<O: Write, E: Write>(
     ensures accounted { OnOk result (StaysAccounted progress.old progress.new err.old err.new) }
     ensures stopped { IsStopped out.new result }
 {
-    match layout_text(alloc, definitions, layout, options, form) {
+    let shown = layout_text(
+        alloc,
+        definitions,
+        layout,
+        options,
+        form,
+        &mut progress.rows,
+        &mut progress.texts,
+    );
+    match shown {
         Ok(text) => write_layout(&text, form, progress, out),
         Err(fault) => tell_fault(alloc, index, &fault, progress, err),
     }
@@ -344,7 +274,14 @@ fn find_name<O: Write, E: Write>(
         found.extend_from_slice(&types)?;
         return Ok(());
     }
-    match member_line(alloc, definitions, name.as_bytes(), form) {
+    let line = member_line(
+        alloc,
+        definitions,
+        name.as_bytes(),
+        form,
+        &mut progress.records,
+    );
+    match line {
         Ok(Some(line)) => out.write(&line),
         Ok(None) => tell(alloc, name.as_bytes(), NO_NAME, progress, err),
         Err(Error::OutOfMemory) => Err(Error::OutOfMemory),
@@ -375,6 +312,24 @@ fn find_names<O: Write, E: Write>(
     Ok(())
 }
 
+/// Returns of how many types the fields may be read.
+fn allowed_count(
+    alloc: Global,
+    definitions: &Definitions<'_>,
+    types: &[TypeIndex],
+    progress: &mut Progress,
+) -> Result<usize, AllocError>
+    ensures shown { progress.new.has_shown ≡ progress.old.has_shown }
+    ensures whole { progress.new.is_whole ≡ progress.old.is_whole }
+{
+    for (place, index) in types.iter().enumerate() {
+        if !progress.take_fields(alloc, definitions, *index)? {
+            return Ok(place);
+        }
+    }
+    Ok(types.len())
+}
+
 /// Returns the classes of a table if all are shown, and else none.
 fn first_types(
     alloc: Global,
@@ -382,10 +337,47 @@ fn first_types(
     has_all: bool,
 ) -> Result<Vec<TypeIndex>, AllocError> {
     if has_all {
-        classes_in(alloc, types, None)
+        classes_in(alloc, types, Wanted::All)
     } else {
         Ok(Vec::new(alloc))
     }
+}
+
+/// Leaves out the types from the first on for which more records of fields would be read than are
+/// allowed, and tells of it.
+fn limit_types<E: Write>(
+    alloc: Global,
+    definitions: &Definitions<'_>,
+    found: &mut Vec<TypeIndex>,
+    progress: &mut Progress,
+    err: &mut Output<E>,
+) -> Result<(), Error>
+    ensures accounted { OnOk result (StaysAccounted progress.old progress.new err.old err.new) }
+    ensures told { OnOk result ((found.new ≡ found.old) ⊎ (progress.new.is_whole ≡ false)) }
+    ensures memory { FailsOnlyForMemory result }
+{
+    let most = allowed_count(alloc, definitions, found, progress)?;
+    let Some(index) = found.get(most).copied() else {
+        return Ok(());
+    };
+    found.truncate(most);
+    tell_index(alloc, index, TOO_MANY, progress, err)
+}
+
+/// Tells if members of classes within classes were left out since so many were shown.
+fn tell_depth<E: Write>(
+    alloc: Global,
+    progress: &mut Progress,
+    err: &mut Output<E>,
+) -> Result<(), Error>
+    ensures accounted { OnOk result (StaysAccounted progress.old progress.new err.old err.new) }
+    ensures told { OnOk result (progress.old.rows.left ≡ 0 → progress.new.is_whole ≡ false) }
+    ensures memory { FailsOnlyForMemory result }
+{
+    if progress.rows.left() > 0 {
+        return Ok(());
+    }
+    tell(alloc, b"--expand", TOO_DEEP, progress, err)
 }
 
 /// Shows the types of a table that are wanted, and returns whether each name was found and no
@@ -414,6 +406,7 @@ fn show_asked<O: Write, E: Write>(
         out,
         err,
     )?;
+    limit_types(alloc, definitions, &mut found, progress, err)?;
     let ordered = sort_types(alloc, definitions, found, options.order)?;
     show_types(
         alloc,
@@ -424,11 +417,15 @@ fn show_asked<O: Write, E: Write>(
         progress,
         out,
         err,
-    )
+    )?;
+    tell_depth(alloc, progress, err)
 }
 
-/// Returns a table that knows where all its types are.
-fn learn_table(alloc: Global, stream: Stream) -> Result<OpenTable<TypeIndex>, Error>
+/// Returns the table in a stream, which knows where all its types are.
+///
+/// # Errors
+/// Fails with the errors of `TypeInformation::parse`, and with `OutOfMemory` if an allocation fails.
+pub fn learn_table(alloc: Global, stream: Stream) -> Result<OpenTable<TypeIndex>, Error>
     ensures { Answers (λ types. types.table) result (table_of stream) }
 {
     let table = TypeInformation::parse(stream)?;
@@ -458,12 +455,10 @@ pub fn show_layouts<O: Write, E: Write>(
 ) -> Result<bool, Error>
     ensures { IsShowResult stream out.old out.new err.old err.new result }
 {
+    let bytes = stream.as_slice().len();
     let types = learn_table(alloc, stream)?;
     let definitions = Definitions::new(alloc, &types)?;
-    let mut progress = Progress {
-        has_shown: false,
-        is_whole: true,
-    };
+    let mut progress = Progress::new(bytes);
     show_asked(
         alloc,
         &definitions,

@@ -11,7 +11,10 @@ const COMMENT: usize = 44;
 const NAME: usize = 17;
 
 /// Returns a text of a file as lines show it, with escapes for control characters.
-pub(crate) fn escape_text(alloc: Global, text: &[u8]) -> Result<Vec<u8>, AllocError> {
+///
+/// # Errors
+/// Fails if an allocation fails.
+pub fn escape_text(alloc: Global, text: &[u8]) -> Result<Vec<u8>, AllocError> {
     let mut line = Line::new(alloc);
     line.field("name", Value::Text(RawString::from(text)))?;
     Ok(Vec::from_slice(alloc, line.as_bytes())?)

@@ -1,53 +1,29 @@
--- What is listed where nothing was written, and behind other rows.
-use Rattle.std.proofs.Common.{◌≡◌, ◌⊎◌, ◌<◌, ℕ, List, Option, None, Result, Ok, Err, inl, inr, refl, sym}
-use Rattle.std.proofs.Common.{ap, subst, arith}
+-- What is listed behind other rows.
+use Rattle.std.proofs.Common.{◌≡◌, List, Result, Ok, Err, inl, inr, refl, sym}
+use Rattle.std.proofs.Common.{subst}
 use Rattle.std.proofs.lemmas.List.{append-nil}
 use Rattle.pdb_base.specs.declared.error.Error.{Error}
-use Rattle.pdb_base.specs.Answer.{Answer, ◌>>=◌, RefusesUnless}
+use Rattle.pdb_base.specs.Answer.{Answer}
 use Rattle.pdb_base.specs.Refusal.{refusal_of}
-use Rattle.pdb_base.specs.declared.error.Error.TheVariants.{OutOfMemory}
-use Rattle.pdb_output.specs.Output.{OutputState, Writes}
-use Rattle.pdbdump_rows.proofs.lemmas.Rows.{lines_lack, rows_first, rows_lack, rows_none, rows_second}
+use Rattle.pdb_base.specs.Index.{stream_number}
+use Rattle.pdb_file.specs.File.{stream_numbered}
+use Rattle.pdb_file.specs.declared.debug_header.DBIExtraStreams.{DBIExtraStreams}
+use Rattle.pdb_msf.specs.Header.{Head}
+use Rattle.pdb_msf.specs.Source.{State, IsKept}
+use Rattle.pdb_output.specs.Output.{OutputState}
+use Rattle.pdbdump_rows.proofs.lemmas.Rows.{rows_first, rows_none, rows_second}
 use Rattle.pdbdump_rows.specs.Line.{WritesWhat}
 use Rattle.pdbdump_rows.specs.Row.{ShownRow}
-use Rattle.pdbdump_rows.specs.Rows.{AreRows, WritesLines}
+use Rattle.pdbdump_rows.specs.Rows.{AreRows}
 use Rattle.pdbdump_rows.specs.declared.form.Form.{Form}
-use Rattle.pdbdump_tables.specs.Files.{stream_listing}
-use Rattle.pdbdump_tables.specs.Listing.{Listing, IsListed, IsWrittenOf, followed_by, with_rows_before, listed_of}
-use Rattle.pdbdump_tables.specs.Extracted.{IsExtracted}
+use Rattle.pdbdump_tables.specs.Files.{AreBothListed}
+use Rattle.pdbdump_tables.proofs.lemmas.Reading.{reads_before}
+use Rattle.pdbdump_tables.specs.Listing.{Listing, IsListed, followed_by, listed_of, with_rows_before}
 
-none_below : 0 < 0 → ⊥
-none_below h = omega arith
-
--- a refusal before the first row; a file in memory meets no other fault
+-- a refusal before the first row
 pub refused_listed : {A : Type 0} (form : Form) (listing : A → Listing) (meant : Answer A) (e : Error)
-    (old : OutputState) → RefusesUnless (0 < 0) e meant → IsListed form (listed_of listing meant) old old (Err e)
-refused_listed form listing meant e old (inl is) = inl (rw is (refl, rows_none form old))
-refused_listed form listing meant e old (inr (inl want)) =
-    inr (rows_lack form (listed_of listing meant).rows old e want)
-refused_listed form listing meant e old (inr (inr other)) = absurd (none_below other.1)
-
--- a refused step refuses what comes of it
-pub refused_then : {A B : Type 0} {failed : Type 0} (answer : Answer A) (more : A → Answer B) (e : Error)
-    → RefusesUnless failed e answer → RefusesUnless failed e (answer >>= more)
-refused_then answer more e (inl is) = inl (ap (λ a. a >>= more) is)
-refused_then answer more e (inr other) = inr other
-
--- a step that is answered is refused as what comes of it
-pub answered_then : {A B : Type 0} {failed : Type 0} (answer : Answer A) (more : A → Answer B) (x : A) (e : Error)
-    → answer ≡ Ok x → RefusesUnless failed e (more x) → RefusesUnless failed e (answer >>= more)
-answered_then {failed = failed} answer more x e is refuses =
-    subst (λ a. RefusesUnless failed e (a >>= more)) (sym is) refuses
-
--- the same, where both are answered
-pub then_is : {A B : Type 0} (answer : Answer A) (more : A → Answer B) (x : A) (y : B) → answer ≡ Ok x → more x ≡ Ok y
-    → (answer >>= more) ≡ Ok y
-then_is answer more x y is next = rw is next
-
--- nothing is listed of no stream
-pub none_listed : (form : Form) (listing : List ℕ → Listing) (meant : Answer (Option (List ℕ))) (old : OutputState)
-    → meant ≡ Ok None → IsListed form (listed_of (stream_listing listing) meant) old old (Ok tt)
-none_listed form listing meant old is = rw is (refl, rows_none form old)
+    (old : OutputState) → meant ≡ Err (refusal_of e) → IsListed form (listed_of listing meant) old old (Err e)
+refused_listed form listing meant e old is = inl (rw is (refl, rows_none form old))
 
 -- a listing behind rows
 pub listed_headed : (form : Form) (front : List ShownRow) (listing : Listing) (old mid new : OutputState)
@@ -89,29 +65,16 @@ listed_first form first next old new e (inl (ends, rows)) =
     (inl (refl, rows))
 listed_first form first next old new e (inr cut) = inr (rows_first form first.rows _ old new e cut)
 
--- ---- what is written of a map
-
-pub map_refused : {A : Type 0} (form : Form) (meant : Answer A) (e : Error) (old : OutputState)
-    → (meant ≡ Err (refusal_of e)) ⊎ (e ≡ OutOfMemory) → IsWrittenOf form meant old old (Err e)
-map_refused form meant e old (inl is) = inl (is, refl)
-map_refused form meant e old (inr want) = inr (lines_lack form old e want)
-
-pub written_of : {A : Type 0} (form : Form) (meant : Answer A) (value : A) (old new : OutputState)
-    (result : Result (Unit {0}) Error) → meant ≡ Ok value → WritesLines form old new result
-    → IsWrittenOf form meant old new result
-written_of form meant value old new (Ok done) is writes = (value, is, writes)
-written_of form meant value old new (Err e) is writes = inr writes
-
--- ---- what is written of a stream
-
-pub part_refused : {A : Type 0} (answer : Answer A) (more : A → Answer (List ℕ)) (e : Error) (old : OutputState)
-    → RefusesUnless (0 < 0) e answer → IsExtracted (answer >>= more) old old (Err e)
-part_refused answer more e old (inl is) = inl (ap (λ a. a >>= more) is, refl)
-part_refused answer more e old (inr (inl want)) = inr (inl (want, refl))
-part_refused answer more e old (inr (inr other)) = absurd (none_below other.1)
-
-pub part_written : (meant : Answer (List ℕ)) (bytes : List ℕ) (old new : OutputState)
-    (result : Result (Unit {0}) Error) → meant ≡ Ok bytes → Writes bytes old new result
-    → IsExtracted meant old new result
-part_written meant bytes old new (Ok done) is writes = (bytes, is, writes)
-part_written meant bytes old new (Err e) is writes = inr (inr (bytes, is, writes))
+-- both OMAP tables are those of the file before other reads
+pub both_before : (form : Form) (first later : State) (head : Head) (roles : DBIExtraStreams) (out out' : OutputState)
+    (result : Result (Unit {0}) Error) → IsKept first later → AreBothListed form later head roles out out' result
+    → AreBothListed form first head roles out out' result
+both_before form first later head roles out out' result kept both = record {
+  to_source = both.to_source;
+  from_source = both.from_source;
+  to_read = reads_before first later (λ bytes. stream_numbered bytes head (stream_number roles.omap_to_src.0))
+      both.to_source kept both.to_read;
+  from_read = reads_before first later (λ bytes. stream_numbered bytes head (stream_number roles.omap_from_src.0))
+      both.from_source kept both.from_read;
+  listed = both.listed;
+}

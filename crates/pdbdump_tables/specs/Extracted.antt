@@ -1,15 +1,11 @@
 -- The stream that a word means, and a part of its bytes.
-use Rattle.std.specs.Prelude.{◌≡◌, ◌⊎◌, ℕ, if◌then◌else◌, List, take, drop, codes, Option, Some, None, Result, Ok, Err}
+use Rattle.std.specs.Prelude.{ℕ, if◌then◌else◌, List, take, drop, codes, Option, Some, None, Ok, Err}
 use Rattle.std.specs.Str.{bytes_eq}
 use Rattle.pdb_base.specs.Answer.{Answer, ◌>>=◌}
 use Rattle.pdb_base.specs.Index.{stream_number}
-use Rattle.pdb_base.specs.Refusal.{refusal_of, stream_name_not_found}
-use Rattle.pdb_base.specs.declared.error.Error.{Error}
-use Rattle.pdb_base.specs.declared.error.Error.TheVariants.{OutOfMemory}
+use Rattle.pdb_base.specs.Refusal.{stream_name_not_found}
 use Rattle.pdb_base.specs.declared.index.StreamIndex.{StreamIndex}
-use Rattle.pdb_msf.specs.File.{stream_of}
 use Rattle.pdb_msf.specs.Header.{Head}
-use Rattle.pdb_output.specs.Output.{OutputState, Gets, IsCutShort}
 use Rattle.pdb_file.specs.File.{file_number, file_roles}
 use Rattle.pdb_file.specs.declared.debug_header.DBIExtraStreams.{DBIExtraStreams}
 use Rattle.pdbdump_tables.specs.declared.extraction.ListedRole.{ListedRole}
@@ -93,14 +89,3 @@ stream_meant file head word = fixed_or_other file head word (fixed_stream word)
 abbrev pub part_of : ℕ → Option ℕ → List ℕ → List ℕ
 part_of skip None bytes = drop skip bytes
 part_of skip (Some limit) bytes = take limit (drop skip bytes)
-
--- that part of stream n of a file
-unfoldable pub extraction : List ℕ → Head → ℕ → ℕ → Option ℕ → Answer (List ℕ)
-extraction file head n skip limit = stream_of file head n None >>= λ stream. Ok (part_of skip limit stream)
-
--- The bytes that are meant were written, or cut short; or they are refused or memory ran out, and nothing was written.
-abbrev pub IsExtracted : Answer (List ℕ) → OutputState → OutputState → Result (Unit {0}) Error → Type 0
-IsExtracted meant old new (Ok done) = (bytes : List ℕ) × (meant ≡ Ok bytes) × Gets old new bytes
-IsExtracted meant old new (Err e) = ((meant ≡ Err (refusal_of e)) × (new ≡ old))
-    ⊎ ((e ≡ OutOfMemory) × (new ≡ old))
-    ⊎ ((bytes : List ℕ) × (meant ≡ Ok bytes) × IsCutShort bytes old new e)

@@ -6,3 +6,4 @@ pub mod Extracted
 pub mod Listing
 pub mod Tables
 pub mod Files
+pub mod Reading

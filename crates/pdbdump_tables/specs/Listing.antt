@@ -7,7 +7,7 @@ use Rattle.pdb_output.specs.Output.{OutputState}
 use Rattle.pdbdump_rows.specs.declared.form.Form.{Form}
 use Rattle.pdbdump_rows.specs.Line.{WritesWhat}
 use Rattle.pdbdump_rows.specs.Row.{ShownRow}
-use Rattle.pdbdump_rows.specs.Rows.{AreRows, WritesLines}
+use Rattle.pdbdump_rows.specs.Rows.{AreRows}
 
 -- What each row up to the first fault begins with, and the refusal behind them, if there is one.
 pub record Listing : Type 0 where
@@ -51,8 +51,3 @@ IsListed form listing old new (Ok done) =
 IsListed form listing old new (Err e) =
     ((listing.end ≡ Err (refusal_of e)) × WritesWhat (AreRows form listing.rows) old new (Ok tt))
     ⊎ WritesWhat (AreRows form listing.rows) old new (Err e)
-
--- Some lines were written of what is read, or cut short; or what is read is refused, and nothing was written.
-abbrev pub IsWrittenOf : {A : Type 0} → Form → Answer A → OutputState → OutputState → Result (Unit {0}) Error → Type 0
-IsWrittenOf {A} form meant old new (Ok done) = (value : A) × (meant ≡ Ok value) × WritesLines form old new (Ok tt)
-IsWrittenOf form meant old new (Err e) = ((meant ≡ Err (refusal_of e)) × (new ≡ old)) ⊎ WritesLines form old new (Err e)

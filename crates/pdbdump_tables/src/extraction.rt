@@ -2,13 +2,14 @@
 
 ghost use Rattle.std.specs.Prelude.{◌≡◌, drop, take};
 ghost use Rattle.pdb_msf.specs.File.{ReadsFile};
-ghost use Rattle.pdbdump_tables.specs.Extracted.{IsExtracted, address_role, extraction, fixed_stream, stream_of_role};
+ghost use Rattle.pdb_output.specs.Output.{Writes};
+ghost use Rattle.pdbdump_tables.specs.Extracted.{address_role, fixed_stream, stream_of_role};
 ghost use Rattle.pdbdump_tables.specs.Extracted.{listed_role_of, part_of, role_number, section_role, stream_meant};
 ghost use Rattle.pdb_file.specs.File.{file_number};
 
-use pdb_base::{Error, Result, StreamIndex};
+use pdb_base::{Error, Result, Stream, StreamIndex};
 use pdb_file::{DBIExtraStreams, PDB};
-use pdb_msf::{Msf, Source};
+use pdb_msf::Source;
 use pdb_output::Output;
 use std::alloc::Global;
 use std::io::Write;
@@ -186,23 +187,17 @@ fn part_of(bytes: &[u8], skip: u32, limit: Option<u32>) -> &[u8]
     }
 }
 
-/// Writes the bytes of a stream after the first `skip`, and of these at most `limit`. Nothing else
-/// is written.
+/// Writes the bytes of a stream after the first `skip`, and of these at most `limit`.
 ///
 /// # Errors
-/// Fails as `Msf::get` does for the number, with `IoError` if the writer fails, and with
-/// `OutOfMemory` if an allocation fails.
-#[tactic(auto, unfolding(crate::specs::Extracted::extraction), using(crate::proofs::ListedLemmas::part_written))]
-pub fn extract<W: Write>(
-    alloc: Global,
-    file: &mut PDB<Vec<u8>>,
-    number: u32,
+/// Fails with `IoError` if the writer fails, and with `OutOfMemory` if an allocation fails.
+pub fn write_part<W: Write>(
+    stream: &Stream,
     skip: u32,
     limit: Option<u32>,
     out: &mut Output<W>,
 ) -> Result<()>
-    ensures { IsExtracted (extraction file.old.source.items file.old.head number skip limit) out.old out.new result }
+    ensures { Writes (part_of skip limit stream.now) out.old out.new result }
 {
-    let stream = file.get(alloc, number, None)?;
     out.write(part_of(stream.as_slice(), skip, limit))
 }

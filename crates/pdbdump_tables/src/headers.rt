@@ -1,8 +1,8 @@
 //! The headers that name streams of symbols and of hashes.
 
-use crate::streams::stream;
 use pdb_base::{Error, Stream};
 use pdb_file::{DBIHeader, ID_STREAM, PDB, TYPE_STREAM};
+use pdb_msf::{Msf, Source};
 use pdb_tpi::{Header, TypeInformation};
 use std::alloc::{AllocError, Global};
 
@@ -27,8 +27,11 @@ pub struct Headers {
 }
 
 /// Reads the header of the stream of debug information, or returns None if it can't be read.
-fn debug_header(alloc: Global, file: &mut PDB<Vec<u8>>) -> Result<Option<DBIHeader>, AllocError> {
-    match stream(alloc, file, DEBUG_STREAM, Some(DEBUG_HEADER_SIZE)) {
+fn debug_header<S: Source>(
+    alloc: Global,
+    file: &mut PDB<S>,
+) -> Result<Option<DBIHeader>, AllocError> {
+    match file.get(alloc, DEBUG_STREAM, Some(DEBUG_HEADER_SIZE)) {
         Ok(stream) => Ok(DBIHeader::parse(&stream).ok()),
         Err(Error::OutOfMemory) => Err(AllocError),
         Err(_) => Ok(None),
@@ -48,12 +51,12 @@ fn table_header_in(stream: Stream) -> Option<Header> {
 }
 
 /// Reads the header of a table, or returns None if it can't be read.
-fn table_header(
+fn table_header<S: Source>(
     alloc: Global,
-    file: &mut PDB<Vec<u8>>,
+    file: &mut PDB<S>,
     number: u32,
 ) -> Result<Option<Header>, AllocError> {
-    match stream(alloc, file, number, Some(TABLE_HEADER_SIZE)) {
+    match file.get(alloc, number, Some(TABLE_HEADER_SIZE)) {
         Ok(stream) => Ok(table_header_in(stream)),
         Err(Error::OutOfMemory) => Err(AllocError),
         Err(_) => Ok(None),
@@ -61,7 +64,7 @@ fn table_header(
 }
 
 /// Reads the headers of streams 2 to 4.
-pub fn headers_of(alloc: Global, file: &mut PDB<Vec<u8>>) -> Result<Headers, AllocError> {
+pub fn headers_of<S: Source>(alloc: Global, file: &mut PDB<S>) -> Result<Headers, AllocError> {
     Ok(Headers {
         debug: debug_header(alloc, file)?,
         types: table_header(alloc, file, TYPE_STREAM)?,

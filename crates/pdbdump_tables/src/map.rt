@@ -2,13 +2,14 @@
 
 ghost use Rattle.pdbdump_rows.specs.Rows.{WritesLines};
 ghost use Rattle.pdbdump_tables.specs.Given.{map_in};
-ghost use Rattle.pdbdump_tables.specs.Listing.{IsWrittenOf};
+ghost use Rattle.pdbdump_tables.specs.Reading.{Reads, WritesRead};
 
 use crate::conversions::{conversions_of_internal, conversions_of_loaded};
 use crate::map_lines::write_made;
 use crate::map_source::{MapStreams, map_in};
 use pdb_base::Result;
 use pdb_file::PDB;
+use pdb_msf::Source;
 use pdb_output::Output;
 use pdb_space::{AddressMap, PdbInternalRva, Rva};
 use pdbdump_rows::{Form, Line};
@@ -40,15 +41,16 @@ fn write_map<W: Write>(
 /// order of the fields of `MapStreams`, fails as `Msf::get` does, and then with `UnexpectedEof` if
 /// a section header is cut short, or with `InvalidStreamLength` if an OMAP record is. Fails with
 /// `IoError` if the writer fails, and with `OutOfMemory` if an allocation fails.
-pub fn list_map<W: Write>(
+pub fn list_map<S: Source + Drop, W: Write>(
     alloc: Global,
-    mut file: PDB<Vec<u8>>,
+    mut file: PDB<S>,
     address: u32,
     streams: MapStreams,
     form: Form,
     out: &mut Output<W>,
 ) -> Result<()>
-    ensures { IsWrittenOf form (map_in file.source.items file.head streams) out.old out.new result }
+    ensures { WritesRead (Reads (S.state file.source) (λ bytes. map_in bytes file.head streams))
+        (λ map. WritesLines form) out.old out.new result }
 {
     let map = map_in(alloc, &mut file, streams)?;
     write_map(alloc, &map, address, form, out)

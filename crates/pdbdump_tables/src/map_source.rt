@@ -1,7 +1,6 @@
 //! The address map of a file, or one that is made of given streams.
 
 ghost use Rattle.std.specs.Prelude.{◌≡◌};
-ghost use Rattle.pdb_base.specs.Answer.{Answers};
 ghost use Rattle.pdb_msf.specs.File.{ReadsFile};
 ghost use Rattle.pdbdump_tables.specs.Given.{given_map, gives_none, map_in};
 
@@ -59,12 +58,12 @@ fn map_of_streams<S: Source>(
 
 /// Reads the address map from the given streams, or the file's own map if no stream is given.
 #[tactic(auto, unfolding(crate::specs::Given::map_in))]
-pub(crate) fn map_in(
+pub(crate) fn map_in<S: Source>(
     alloc: Global,
-    file: &mut PDB<Vec<u8>>,
+    file: &mut PDB<S>,
     streams: MapStreams,
 ) -> Result<AddressMap>
-    ensures map { Answers (λ map. map) result (map_in file.old.source.items file.old.head streams) }
+    ensures { ReadsFile S.state file.old file.new (λ map. map) result (λ file head. map_in file head streams) }
 {
     if streams.is_empty() {
         file.address_map(alloc)

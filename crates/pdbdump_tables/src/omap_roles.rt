@@ -2,27 +2,28 @@
 
 #![tactic(auto, using(pdbdump_rows::proofs::lemmas::Line::adding))]
 
-ghost use Rattle.std.specs.Prelude.{◌≡◌};
+ghost use Rattle.std.specs.Prelude.{None};
+ghost use Rattle.pdb_msf.specs.File.{ReadsFile, stream_of};
 ghost use Rattle.pdbdump_rows.specs.Line.{IsRow, ShowsRow, WritesWhat};
 ghost use Rattle.pdbdump_rows.specs.Lines.{row_text};
-ghost use Rattle.pdbdump_tables.specs.Files.{both_omaps, file_omap, numbered_omap, role_omap, role_shown};
+ghost use Rattle.pdbdump_tables.specs.Files.{AreBothListed, IsOmapListed, role_listing, role_shown};
 ghost use Rattle.pdbdump_tables.specs.Listing.{IsListed};
 
 use crate::omap::write_omap;
-use pdb_base::Result;
+use pdb_base::{Result, Stream};
 use pdb_file::{DBIExtraStreams, PDB};
-use pdb_msf::Msf;
+use pdb_msf::{Msf, Source};
 use pdb_output::Output;
-use pdbdump_rows::{Form, Line, LineResult, Value, write_line};
+use pdbdump_rows::{Form, Line, LineResult, Value, optional_number, write_line};
 use std::alloc::Global;
 use std::io::Write;
 
 /// Adds the fields of the role of the table that follows, and the number of its stream.
-fn show_role(line: &mut Line, role: &'static str, number: u32) -> LineResult
+fn show_role(line: &mut Line, role: &'static str, number: Option<u32>) -> LineResult
     ensures { ShowsRow (role_shown role.now) line.old line.new result }
 {
     line.field("role", Value::Word(role))?;
-    line.field("stream", Value::Number(number as u64))?;
+    line.field("stream", optional_number(number))?;
     Ok(())
 }
 
@@ -31,7 +32,7 @@ fn show_role(line: &mut Line, role: &'static str, number: u32) -> LineResult
 fn write_role<W: Write>(
     alloc: Global,
     role: &'static str,
-    number: u32,
+    number: Option<u32>,
     form: Form,
     out: &mut Output<W>,
 ) -> Result<()>
@@ -43,60 +44,55 @@ fn write_role<W: Write>(
     write_line(added, &mut line, out)
 }
 
-/// Lists the records of the OMAP table in a stream, and then whether their sources never decrease.
-fn list_numbered<W: Write>(
-    alloc: Global,
-    file: &mut PDB<Vec<u8>>,
-    number: u32,
-    form: Form,
-    out: &mut Output<W>,
-) -> Result<()>
-    ensures listed { IsListed form (numbered_omap file.old.source.items file.old.head number)
-        out.old out.new result }
-    ensures bytes { file.new.source.items ≡ file.old.source.items }
-    ensures head { file.new.head ≡ file.old.head }
-{
-    let stream = file.get(alloc, number, None)?;
-    write_omap(alloc, stream, form, out)
-}
-
-/// Lists the records of the OMAP table that has a role, after a line that says which role it is.
-/// Lists nothing if no stream has the role.
+/// Lists the records of the OMAP table in the stream that has a role, after a line that says which
+/// role it is, or the error of the stream. Lists nothing if no stream has the role.
 fn list_role<W: Write>(
     alloc: Global,
-    file: &mut PDB<Vec<u8>>,
     role: &'static str,
     number: Option<u32>,
+    stream: Result<Option<Stream>>,
     form: Form,
     out: &mut Output<W>,
 ) -> Result<()>
-    ensures listed { IsListed form (role_omap file.old.source.items file.old.head role.now number)
-        out.old out.new result }
-    ensures bytes { file.new.source.items ≡ file.old.source.items }
-    ensures head { file.new.head ≡ file.old.head }
+    ensures { IsListed form (role_listing role.now stream) out.old out.new result }
 {
-    let Some(number) = number else {
-        return Ok(());
-    };
-    write_role(alloc, role, number, form, out)?;
-    list_numbered(alloc, file, number, form, out)
+    match stream {
+        Ok(None) => Ok(()),
+        Ok(Some(stream)) => {
+            write_role(alloc, role, number, form, out)?;
+            write_omap(alloc, stream, form, out)
+        }
+        Err(fault) => {
+            write_role(alloc, role, number, form, out)?;
+            Err(fault)
+        }
+    }
 }
 
 /// Lists the records of both OMAP tables, each table after a line with its role and its stream.
-fn list_both<W: Write>(
+fn list_both<S: Source, W: Write>(
     alloc: Global,
-    file: &mut PDB<Vec<u8>>,
+    file: &mut PDB<S>,
     roles: &DBIExtraStreams,
     form: Form,
     out: &mut Output<W>,
 ) -> Result<()>
-    ensures { IsListed form (both_omaps file.old.source.items file.old.head roles.now)
-        out.old out.new result }
+    ensures { AreBothListed form (S.state file.old.source) file.old.head roles.now out.old out.new result }
 {
-    let to_source = roles.omap_to_src.msf_number();
-    list_role(alloc, file, "omap_to_src", to_source, form, out)?;
-    let from_source = roles.omap_from_src.msf_number();
-    list_role(alloc, file, "omap_from_src", from_source, form, out)
+    let to_number = roles.omap_to_src.msf_number();
+    let from_number = roles.omap_from_src.msf_number();
+    let to_source = file.numbered_stream(alloc, to_number);
+    let from_source = file.numbered_stream(alloc, from_number);
+    list_role(alloc, "omap_to_src", to_number, to_source, form, out)?;
+    list_role(alloc, "omap_from_src", from_number, from_source, form, out)
+}
+
+/// Reads the stream of a number.
+fn read_stream<S: Source>(alloc: Global, file: &mut PDB<S>, number: u32) -> Result<Stream>
+    ensures { ReadsFile S.state file.old file.new (λ stream. stream) result
+        (λ file head. stream_of file head number None) }
+{
+    file.get(alloc, number, None)
 }
 
 /// Lists the records of the OMAP table in a stream, and then whether their sources never decrease.
@@ -110,19 +106,20 @@ fn list_both<W: Write>(
 /// then with `InvalidStreamLength` if its length isn't a multiple of eight; the table before it,
 /// and the line with its own role, have been listed by then. Fails with `IoError` if the writer
 /// fails, and with `OutOfMemory` if an allocation fails.
-#[tactic(auto, unfolding(crate::specs::Files::file_omap), using(crate::proofs::ListedLemmas::refused_listed))]
-pub fn list_omap<W: Write>(
+pub fn list_omap<S: Source + Drop, W: Write>(
     alloc: Global,
-    mut file: PDB<Vec<u8>>,
+    mut file: PDB<S>,
     stream: Option<u32>,
     form: Form,
     out: &mut Output<W>,
 ) -> Result<()>
-    ensures { IsListed form (file_omap file.source.items file.head stream)
-        out.old out.new result }
+    ensures { IsOmapListed form (S.state file.source) file.head stream out.old out.new result }
 {
     match stream {
-        Some(number) => list_numbered(alloc, &mut file, number, form, out),
+        Some(number) => {
+            let stream = read_stream(alloc, &mut file, number)?;
+            write_omap(alloc, stream, form, out)
+        }
         None => {
             let roles = file.extra_streams(alloc)?;
             list_both(alloc, &mut file, &roles, form, out)

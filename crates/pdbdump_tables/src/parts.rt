@@ -15,8 +15,6 @@ use std::io::Write;
 /// A part of a file.
 #[derive(Clone, Copy)]
 pub enum Part {
-    /// The header of the file.
-    Header,
     /// The directory of streams.
     Directory,
     /// The roles of streams.
@@ -34,7 +32,6 @@ fn show_part(line: &mut Line, part: Part) -> LineResult
     ensures { ShowsRow [] line.old line.new result }
 {
     match part {
-        Part::Header => line.field("part", Value::Word("header")),
         Part::Directory => line.field("part", Value::Word("directory")),
         Part::Roles => line.field("part", Value::Word("roles")),
         Part::Names => line.field("part", Value::Word("names")),

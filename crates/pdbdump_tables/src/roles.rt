@@ -1,8 +1,8 @@
-//! The role and the name of a stream.
+//! The role of a stream.
 
 use crate::headers::Headers;
-use pdb_base::{RawString, StreamIndex};
-use pdb_file::{DBIExtraStreams, DBIHeader, StreamName};
+use pdb_base::StreamIndex;
+use pdb_file::{DBIExtraStreams, DBIHeader};
 use pdb_tpi::Header;
 
 /// Returns whether an index names the stream with this number.
@@ -100,14 +100,4 @@ pub fn role_of(roles: &DBIExtraStreams, headers: &Headers, number: u32) -> Optio
             None => header_role(headers, number),
         },
     }
-}
-
-/// Returns the first name of a stream, if it has one.
-pub fn name_of<'n>(names: &[StreamName<'n>], number: u32) -> Option<RawString<'n>> {
-    for named in names {
-        if named.stream_id.0 as u32 == number {
-            return Some(named.name);
-        }
-    }
-    None
 }

@@ -3,55 +3,44 @@
 #![tactic(auto, using(pdbdump_rows::proofs::lemmas::Line::adding, pdbdump_rows::proofs::lemmas::Rows::listing))]
 
 ghost use Rattle.std.specs.Prelude.{[]};
-ghost use Rattle.pdb_base.specs.Answer.{Answers};
 ghost use Rattle.pdb_msf.specs.File.{stream_of};
 ghost use Rattle.pdbdump_rows.specs.Line.{ShowsRow};
 ghost use Rattle.pdbdump_rows.specs.Rows.{WritesLines};
+ghost use Rattle.pdbdump_tables.specs.Reading.{Reads};
 
 use crate::headers::Headers;
 use crate::parts::{Part, write_refused};
-use crate::roles::{name_of, role_of};
+use crate::roles::role_of;
+use crate::stream_names::{ShownName, ShownNames};
 use pdb_base::{Error, RawString, Result, Stream};
-use pdb_file::{DBIExtraStreams, PDB, StreamName};
-use pdb_msf::{Layout, Msf};
+use pdb_file::{DBIExtraStreams, PDB};
+use pdb_msf::{BigMSF, Source};
 use pdb_output::Output;
-use pdbdump_rows::{Form, Line, LineResult, Value, optional_text, optional_word, write_line};
+use pdbdump_rows::{Form, Line, LineResult, Value, optional_word, write_line};
 use std::alloc::Global;
 use std::io::Write;
 
 /// The number of 16 bits that names no stream.
-const NO_STREAM: u32 = 0xffff;
+pub const NO_STREAM: u32 = 0xffff;
 
-/// What is known of a file's streams apart from their bytes.
-#[derive(Clone, Copy)]
-pub struct Known<'k, 'n> {
-    /// Where the directory places the streams.
-    pub layout: &'k Layout,
+/// What is shown of a file's streams beside their sizes.
+#[derive(Drop)]
+pub struct Known<'n> {
     /// The roles of streams that the debug header lists.
     pub roles: DBIExtraStreams,
     /// The headers that give streams other roles.
     pub headers: Headers,
-    /// The streams that have names.
-    pub names: &'k [StreamName<'n>],
+    /// The names of the streams.
+    pub names: ShownNames<'n>,
 }
 
-/// Reads the stream with this number, at most as many of its bytes as the limit says.
-pub fn stream(
-    alloc: Global,
-    file: &mut PDB<Vec<u8>>,
-    number: u32,
-    limit: Option<usize>,
-) -> Result<Stream> {
-    file.get(alloc, number, limit)
-}
-
-/// Reads the stream with this number as `BigMSF::into_stream` does: it consumes the file, in whose
-/// memory the stream's bytes are moved together if the numbers of its pages increase.
+/// Reads the stream with this number as `BigMSF::into_stream` does: it consumes the file. If that is
+/// in memory, the stream's bytes are moved together in it where the numbers of its pages increase.
 ///
 /// # Errors
 /// Fails as `Msf::get` does.
-pub fn last_stream(alloc: Global, file: PDB<Vec<u8>>, number: u32) -> Result<Stream>
-    ensures { Answers (λ stream. stream) result (stream_of file.source.items file.head number None) }
+pub fn last_stream<S: Source + Drop>(alloc: Global, file: PDB<S>, number: u32) -> Result<Stream>
+    ensures { Reads (S.state file.source) (λ bytes. stream_of bytes file.head number None) result }
 {
     file.into_msf().into_stream(alloc, number, None)
 }
@@ -64,15 +53,33 @@ fn pages_held<'t>(page_size: u32, size: u32) -> Value<'t> {
     Value::Number((size as u64).div_ceil(page_size as u64))
 }
 
+/// Adds the name of a stream, behind which `..` stands if its end is cut off.
+fn show_name(alloc: Global, line: &mut Line, name: Option<ShownName<'_>>) -> LineResult
+    ensures { ShowsRow [] line.old line.new result }
+{
+    match name {
+        Some(name) if name.is_cut => {
+            let mut text = Vec::new(alloc);
+            text.extend_from_slice(name.text.as_bytes())?;
+            text.extend_from_slice(b"..")?;
+            line.field("name", Value::Text(RawString::from(text.as_slice())))?;
+            line.field("cut", Value::Flag(true))
+        }
+        Some(name) => line.field("name", Value::Text(name.text)),
+        None => Ok(()),
+    }
+}
+
 /// Adds the fields of a stream: its number, its size in bytes, how many pages hold it, its role and
 /// its name.
 fn show_stream(
+    alloc: Global,
     line: &mut Line,
     page_size: u32,
     number: u32,
     size: u32,
     role: Option<&'static str>,
-    name: Option<RawString<'_>>,
+    name: Option<ShownName<'_>>,
 ) -> LineResult
     ensures { ShowsRow [] line.old line.new result }
 {
@@ -80,67 +87,62 @@ fn show_stream(
     line.field("bytes", Value::Number(size as u64))?;
     line.field("pages", pages_held(page_size, size))?;
     line.field("role", optional_word(role))?;
-    line.field("name", optional_text(name))?;
-    Ok(())
+    show_name(alloc, line, name)
 }
 
 /// Writes the line of a stream with this number and this size in bytes.
 fn write_size<W: Write>(
+    alloc: Global,
+    page_size: u32,
     number: u32,
     size: u32,
-    known: Known<'_, '_>,
+    known: &mut Known<'_>,
     form: Form,
-    line: &mut Line,
     out: &mut Output<W>,
 ) -> Result<()>
     ensures { WritesLines form out.old out.new result }
 {
     let role = role_of(&known.roles, &known.headers, number);
-    let name = name_of(known.names, number);
+    let name = known.names.show(number);
+    let mut line = Line::new(alloc);
     line.begin(form);
-    let added = show_stream(line, known.layout.page_size(), number, size, role, name);
-    write_line(added, line, out)
+    let added = show_stream(alloc, &mut line, page_size, number, size, role, name);
+    write_line(added, &mut line, out)
 }
 
 /// Writes the line of the stream with this number, if there is one. If its size can't be read, the
 /// line has the error.
-fn write_stream<W: Write>(
+fn write_stream<S: Source, W: Write>(
     alloc: Global,
+    file: &mut BigMSF<S>,
     number: u32,
-    known: Known<'_, '_>,
+    known: &mut Known<'_>,
     form: Form,
-    line: &mut Line,
     out: &mut Output<W>,
 ) -> Result<()>
     ensures { WritesLines form out.old out.new result }
 {
-    match known.layout.stream_size(number) {
-        Ok(size) => write_size(number, size, known, form, line, out),
+    match file.stream_size(alloc, number) {
+        Ok(size) => write_size(alloc, file.page_size(), number, size, known, form, out),
+        Err(Error::OutOfMemory) => Err(Error::OutOfMemory),
         Err(Error::StreamNotFound(_)) => Ok(()),
         Err(error) => write_refused(alloc, Part::Stream(number), &error, form, out),
     }
 }
 
-/// Returns how many streams of a layout a number of 16 bits can name.
-fn nameable(layout: &Layout) -> u32 {
-    match layout.stream_count() {
-        Ok(count) => count.min(NO_STREAM),
-        Err(_) => 0,
-    }
-}
-
-/// Writes a line for each stream.
-pub fn write_streams<W: Write>(
+/// Writes a line for each of the first `count` streams.
+pub fn write_streams<S: Source, W: Write>(
     alloc: Global,
-    known: Known<'_, '_>,
+    file: &mut BigMSF<S>,
+    count: u32,
+    known: &mut Known<'_>,
     form: Form,
     out: &mut Output<W>,
 ) -> Result<()>
     ensures { WritesLines form out.old out.new result }
 {
-    let mut line = Line::new(alloc);
-    for number in 0..nameable(known.layout) {
-        write_stream(alloc, number, known, form, &mut line, out)?;
+    for number in 0..count {
+        write_stream(alloc, file, number, known, form, out)?;
     }
     Ok(())
 }

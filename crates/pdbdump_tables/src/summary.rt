@@ -9,52 +9,50 @@ ghost use Rattle.pdbdump_rows.specs.Rows.{WritesLines};
 
 use crate::headers::headers_of;
 use crate::parts::{Part, write_refused};
-use crate::streams::{Known, write_streams};
+use crate::stream_names::ShownNames;
+use crate::streams::{Known, NO_STREAM, write_streams};
 use crate::table_summary::{walk_last_table, walk_table, write_table};
-use pdb_base::{Error, ParseBuffer, Result};
+use pdb_base::{Error, Result};
 use pdb_file::{DBIExtraStreams, ID_STREAM, PDB, PDBInformation, TYPE_STREAM};
-use pdb_msf::Layout;
+use pdb_msf::Source;
 use pdb_output::Output;
 use pdbdump_rows::{Form, Line, LineResult, Value, write_line};
 use std::alloc::Global;
 use std::io::Write;
 
-/// The offset in a file at which its header says the size of a page.
-const PAGE_SIZE_OFFSET: usize = 32;
-
-/// Reads the size of a page and how many pages are used, as the header of a file says them.
-fn pages_of(file: &[u8]) -> Result<(u32, u32)> {
-    let mut buffer = ParseBuffer::from(file);
-    buffer.seek(PAGE_SIZE_OFFSET);
-    let page_size = buffer.parse_u32()?;
-    let _free_page_map = buffer.parse_u32()?;
-    let pages_used = buffer.parse_u32()?;
-    Ok((page_size, pages_used))
-}
-
 /// Adds the fields of a file: the size of its pages in bytes, how many pages it uses, and its own
 /// size in bytes.
-fn show_pages(line: &mut Line, page_size: u32, pages: u32, size: usize) -> LineResult
+fn show_pages(line: &mut Line, page_size: u32, pages: u32, size: u64) -> LineResult
     ensures { ShowsRow [] line.old line.new result }
 {
     line.field("page_size", Value::Number(page_size as u64))?;
     line.field("pages", Value::Number(pages as u64))?;
-    line.field("bytes", Value::Number(size as u64))?;
+    line.field("bytes", Value::Number(size))?;
     Ok(())
 }
 
-/// Reads the layout of a file, and fails if its directory or the count of streams can't be read.
-fn counted_layout(alloc: Global, file: &[u8]) -> Result<Layout> {
-    let layout = Layout::read(alloc, file)?;
-    layout.stream_count()?;
-    Ok(layout)
+/// Writes the line of a file.
+fn write_pages<W: Write>(
+    alloc: Global,
+    page_size: u32,
+    pages: u32,
+    size: u64,
+    form: Form,
+    out: &mut Output<W>,
+) -> Result<()>
+    ensures { WritesLines form out.old out.new result }
+{
+    let mut line = Line::new(alloc);
+    line.begin(form);
+    let added = show_pages(&mut line, page_size, pages, size);
+    write_line(added, &mut line, out)
 }
 
 /// Returns the roles of streams that stream 3 gives. If these can't be read, writes the error, and
 /// returns that no stream has a role.
-fn known_roles<W: Write>(
+fn known_roles<S: Source, W: Write>(
     alloc: Global,
-    file: &mut PDB<Vec<u8>>,
+    file: &mut PDB<S>,
     form: Form,
     out: &mut Output<W>,
 ) -> Result<DBIExtraStreams>
@@ -70,90 +68,55 @@ fn known_roles<W: Write>(
     }
 }
 
-/// Writes the error of the names of streams, and then the streams as `known` describes them.
-fn write_unnamed<W: Write>(
+/// Returns the information in stream 1. If it can't be read, writes the error, and returns None.
+fn known_information<S: Source, W: Write>(
     alloc: Global,
-    known: Known<'_, '_>,
-    error: &Error,
+    file: &mut PDB<S>,
     form: Form,
     out: &mut Output<W>,
-) -> Result<()>
-    ensures { WritesLines form out.old out.new result }
-{
-    write_refused(alloc, Part::Names, error, form, out)?;
-    write_streams(alloc, known, form, out)
-}
-
-/// Writes the streams of a file, with the names that stream 1 gives. If these can't be read, writes
-/// the error, and then the streams without names.
-fn write_named<W: Write>(
-    alloc: Global,
-    unnamed: Known<'_, '_>,
-    information: &PDBInformation,
-    form: Form,
-    out: &mut Output<W>,
-) -> Result<()>
-    ensures { WritesLines form out.old out.new result }
-{
-    match information.stream_names(alloc) {
-        Ok(names) => {
-            let known = Known {
-                layout: unnamed.layout,
-                roles: unnamed.roles,
-                headers: unnamed.headers,
-                names: names.as_slice(),
-            };
-            write_streams(alloc, known, form, out)
-        }
-        Err(Error::OutOfMemory) => Err(Error::OutOfMemory),
-        Err(error) => write_unnamed(alloc, unnamed, &error, form, out),
-    }
-}
-
-/// Writes the streams of a file. If their names can't be read, writes the error first, and no
-/// stream has a name.
-fn write_all_streams<W: Write>(
-    alloc: Global,
-    file: &mut PDB<Vec<u8>>,
-    unnamed: Known<'_, '_>,
-    form: Form,
-    out: &mut Output<W>,
-) -> Result<()>
-    ensures { WritesLines form out.old out.new result }
+) -> Result<Option<PDBInformation>>
+    ensures { WritesLines form out.old out.new (done_of result) }
 {
     match file.pdb_information(alloc) {
-        Ok(information) => write_named(alloc, unnamed, &information, form, out),
+        Ok(information) => Ok(Some(information)),
         Err(Error::OutOfMemory) => Err(Error::OutOfMemory),
-        Err(error) => write_unnamed(alloc, unnamed, &error, form, out),
+        Err(error) => {
+            write_refused(alloc, Part::Names, &error, form, out)?;
+            Ok(None)
+        }
     }
 }
 
-/// Writes the streams of a file, and the errors of their roles and names.
-fn write_streams_part<W: Write>(
+/// Returns the names that stream 1 gives to the first `count` streams. If these can't be read, writes
+/// the error, and returns that no stream has a name. All names together are shown with no more bytes
+/// than they take in stream 1.
+fn known_names<'i, W: Write>(
     alloc: Global,
-    file: &mut PDB<Vec<u8>>,
-    layout: &Layout,
+    information: Option<&'i PDBInformation>,
+    count: u32,
     form: Form,
     out: &mut Output<W>,
-) -> Result<()>
-    ensures { WritesLines form out.old out.new result }
+) -> Result<ShownNames<'i>>
+    ensures { WritesLines form out.old out.new (done_of result) }
 {
-    let headers = headers_of(alloc, file)?;
-    let roles = known_roles(alloc, file, form, out)?;
-    let unnamed = Known {
-        layout,
-        roles,
-        headers,
-        names: &[],
+    let Some(information) = information else {
+        return Ok(ShownNames::new(alloc, &[], count, 0)?);
     };
-    write_all_streams(alloc, file, unnamed, form, out)
+    match information.stream_names(alloc) {
+        Ok(names) => Ok(ShownNames::new(alloc, names.as_slice(), count, information.names_size)?),
+        Err(Error::OutOfMemory) => Err(Error::OutOfMemory),
+        Err(error) => {
+            write_refused(alloc, Part::Names, &error, form, out)?;
+            Ok(ShownNames::new(alloc, &[], count, 0)?)
+        }
+    }
 }
 
 /// Writes the tables of types and of ids. The walk over the types is the last, since it consumes the
 /// file: in most files, they are the largest stream.
-fn write_tables<W: Write>(
+fn write_tables<S: Source + Drop, W: Write>(
     alloc: Global,
-    mut file: PDB<Vec<u8>>,
+    mut file: PDB<S>,
     form: Form,
     out: &mut Output<W>,
 ) -> Result<()>
@@ -165,77 +128,75 @@ fn write_tables<W: Write>(
     write_table(alloc, ID_STREAM, &ids, form, out)
 }
 
-/// Writes the parts of a file whose directory is read.
-fn write_read_parts<W: Write>(
+/// Writes the parts of a file whose directory is read: its streams, of which the first `count` are
+/// shown, and its tables.
+fn write_read_parts<S: Source + Drop, W: Write>(
     alloc: Global,
-    mut file: PDB<Vec<u8>>,
-    layout: &Layout,
+    mut file: PDB<S>,
+    count: u32,
     form: Form,
     out: &mut Output<W>,
 ) -> Result<()>
     ensures { WritesLines form out.old out.new result }
 {
-    write_streams_part(alloc, &mut file, layout, form, out)?;
-    write_tables(alloc, file, form, out)
+    let headers = headers_of(alloc, &mut file)?;
+    let roles = known_roles(alloc, &mut file, form, out)?;
+    let information = known_information(alloc, &mut file, form, out)?;
+    let names = known_names(alloc, information.as_ref(), count, form, out)?;
+    let mut known = Known {
+        roles,
+        headers,
+        names,
+    };
+    let mut streams = file.into_msf();
+    write_streams(alloc, &mut streams, count, &mut known, form, out)?;
+    write_tables(alloc, PDB::from(streams), form, out)
 }
 
 /// Writes all parts of a file, or the error of its directory.
-fn write_parts<W: Write>(
+fn write_parts<S: Source + Drop, W: Write>(
     alloc: Global,
-    file: PDB<Vec<u8>>,
+    file: PDB<S>,
     form: Form,
     out: &mut Output<W>,
 ) -> Result<()>
     ensures { WritesLines form out.old out.new result }
 {
-    match counted_layout(alloc, file.msf().source()) {
-        Ok(layout) => write_read_parts(alloc, file, &layout, form, out),
+    let mut streams = file.into_msf();
+    match streams.stream_count(alloc) {
+        Ok(count) => {
+            let count = count.min(NO_STREAM);
+            write_read_parts(alloc, PDB::from(streams), count, form, out)
+        }
         Err(Error::OutOfMemory) => Err(Error::OutOfMemory),
         Err(error) => write_refused(alloc, Part::Directory, &error, form, out),
     }
 }
 
-/// Writes the line of a file, or the error of its header.
-fn write_pages<W: Write>(alloc: Global, file: &[u8], form: Form, out: &mut Output<W>) -> Result<()>
-    ensures { WritesLines form out.old out.new result }
-{
-    match pages_of(file) {
-        Ok((page_size, pages)) => {
-            let mut line = Line::new(alloc);
-            line.begin(form);
-            let added = show_pages(&mut line, page_size, pages, file.len());
-            write_line(added, &mut line, out)
-        }
-        Err(error) => write_refused(alloc, Part::Header, &error, form, out),
-    }
-}
-
-/// Writes the line of a file, and then all its parts.
-fn write_summary<W: Write>(
-    alloc: Global,
-    file: PDB<Vec<u8>>,
-    form: Form,
-    out: &mut Output<W>,
-) -> Result<()>
-    ensures { WritesLines form out.old out.new result }
-{
-    write_pages(alloc, file.msf().source(), form, out)?;
-    write_parts(alloc, file, form, out)
-}
-
-/// Lists what a file is made of: its pages, a line for each stream, and how many records of each
-/// kind the tables of types and ids have. A part that has an error has a line with the error, among
-/// those of the others.
+/// Lists what a file of this size is made of: its pages, a line for each stream, and how many records
+/// of each kind the tables of types and ids have. A part that has an error has a line with the error,
+/// among those of the others. The names of streams are shown with no more bytes than they take in
+/// stream 1: a name for which fewer are left is cut, and its line says so.
 ///
 /// # Errors
 /// Fails with `IoError` if the writer fails, and with `OutOfMemory` if an allocation fails.
-pub fn list_summary<W: Write>(
+pub fn list_summary<S: Source + Drop, W: Write>(
     alloc: Global,
-    file: PDB<Vec<u8>>,
+    file: PDB<S>,
+    size: u64,
     form: Form,
     out: &mut Output<W>,
 ) -> Result<()>
     ensures { WritesLines form out.old out.new result }
 {
-    write_summary(alloc, file, form, out)
+    let streams = file.msf();
+    write_pages(
+        alloc,
+        streams.page_size(),
+        streams.pages_used(),
+        size,
+        form,
+        out,
+    )?;
+    write_parts(alloc, file, form, out)
 }

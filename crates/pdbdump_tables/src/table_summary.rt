@@ -8,9 +8,10 @@ ghost use Rattle.pdbdump_rows.specs.Rows.{WritesLines};
 
 use crate::kinds::{KindCount, Walked, walk_over};
 use crate::parts::{Part, write_refused};
-use crate::streams::{last_stream, stream};
+use crate::streams::last_stream;
 use pdb_base::{Error, Result, Stream};
 use pdb_file::PDB;
+use pdb_msf::{Msf, Source};
 use pdb_output::Output;
 use pdb_tpi::TypeInformation;
 use pdbdump_rows::{Form, Line, LineResult, Value, write_line};
@@ -142,15 +143,19 @@ fn walk_in(alloc: Global, stream: Stream) -> Result<Walked> {
 /// # Errors
 /// Fails as `Msf::get` does for the stream, and then as `TypeInformation::parse` does for its bytes;
 /// with `OutOfMemory` if an allocation fails.
-pub fn walk_table(alloc: Global, file: &mut PDB<Vec<u8>>, number: u32) -> Result<Walked> {
-    walk_in(alloc, stream(alloc, file, number, None)?)
+pub fn walk_table<S: Source>(alloc: Global, file: &mut PDB<S>, number: u32) -> Result<Walked> {
+    walk_in(alloc, file.get(alloc, number, None)?)
 }
 
 /// Walks over the table in the stream with this number as `walk_table` does, and consumes the file.
 ///
 /// # Errors
 /// Fails as `walk_table` does.
-pub fn walk_last_table(alloc: Global, file: PDB<Vec<u8>>, number: u32) -> Result<Walked> {
+pub fn walk_last_table<S: Source + Drop>(
+    alloc: Global,
+    file: PDB<S>,
+    number: u32,
+) -> Result<Walked> {
     walk_in(alloc, last_stream(alloc, file, number)?)
 }
 

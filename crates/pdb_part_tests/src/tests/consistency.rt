@@ -7,6 +7,7 @@ use pdb_consistency::{
 };
 use pdb_file::section_headers::section_headers;
 use pdb_fixtures::{file_of, stream_of, with_bytes};
+use pdb_msf::{CountedSource, Layout};
 use pdb_tpi::{OpenTable, TypeInformation};
 use std::alloc::Global;
 use std::process::Abort;
@@ -102,6 +103,13 @@ fn types(rt: &impl Abort, alloc: Global, bytes: &[u8]) -> TypeInformation {
     TypeInformation::parse(stream(rt, alloc, bytes, &[])).expect(rt, "a table")
 }
 
+/// Returns what is inconsistent in the pages of a file.
+fn page_mismatches(rt: &impl Abort, alloc: Global, file: &[u8], extent: Extent) -> Vec<Mismatch> {
+    let mut source = CountedSource::new(file);
+    let layout = Layout::read(alloc, &mut source).expect(rt, "a layout");
+    check_pages(alloc, &layout, &mut source, extent).expect(rt, "memory")
+}
+
 /// Returns what is inconsistent between the records of a table of types.
 fn record_mismatches(
     rt: &impl Abort,
@@ -142,7 +150,7 @@ impl Checked {
         extent: Extent,
     ) -> Vec<Mismatch> {
         match self {
-            Pages => check_pages(alloc, bytes, extent).expect(rt, "memory"),
+            Pages => page_mismatches(rt, alloc, bytes, extent),
             Records => record_mismatches(rt, alloc, bytes, extent),
             Hashes => hash_mismatches(rt, alloc, bytes, extent),
             Buckets => check_buckets(alloc, 5, bytes, extent).expect(rt, "memory"),

@@ -4,7 +4,9 @@
 use pdb_base::TypeIndex;
 use pdb_fixtures::{stream_of, table_of};
 use pdb_tpi::{OpenTable, TypeInformation};
-use pdb_types::{Definitions, Gap, GapKind, Layout, LayoutField, Span};
+use pdb_types::{
+    Comparison, DeclarationOrder, Definitions, Gap, GapKind, Layout, LayoutField, Span, compare,
+};
 use std::alloc::Global;
 use std::process::Abort;
 
@@ -46,6 +48,28 @@ const CLASSES: &[&[u8]] = &[
     b"\x06\x15\x03\0\0\0\x09\x10\0\0\x08\0U\0", // 0x100a: the union `U`, of 8 bytes
     b"\x05\x15\0\0\x80\0\0\0\0\0\0\0\0\0\0\0\0\0\0\0D\0", // 0x100b: a forward reference to `D`
     b"\x04\x15\0\0\0\0\0\0\0\0\0\0\0\0\0\0\0\0\x01\0E\0", // 0x100c: a class without a list of fields, of 1 byte
+];
+
+/// The records of a table of classes `B`, which are compared with the one above.
+const OTHERS: &[&[u8]] = &[
+    b"\x03\x12\x0d\x15\x03\0t\0\0\0\0\0b\0", // 0x1000: the fields of the same `B`: `b`
+    b"\x05\x15\x01\0\0\0\0\x10\0\0\0\0\0\0\0\0\0\0\x04\0B\0", // 0x1001: it, of 4 bytes
+    b"\x03\x12\x0d\x15\x03\0u\0\0\0\0\0b\0", // 0x1002: the fields of one with an `unsigned int b`
+    b"\x05\x15\x01\0\0\0\x02\x10\0\0\0\0\0\0\0\0\0\0\x04\0B\0", // 0x1003: it, of 4 bytes
+    b"\x03\x12\x0d\x15\x03\0t\0\0\0\0\0c\0", // 0x1004: the fields of one whose field is `c`
+    b"\x05\x15\x01\0\0\0\x04\x10\0\0\0\0\0\0\0\0\0\0\x04\0B\0", // 0x1005: it, of 4 bytes
+    b"\x03\x12\x0d\x15\x03\0t\0\0\0\x04\0b\0", // 0x1006: the fields of one in which `b` has moved
+    b"\x05\x15\x01\0\0\0\x06\x10\0\0\0\0\0\0\0\0\0\0\x08\0B\0", // 0x1007: it, of 8 bytes
+    b"\x05\x15\x01\0\0\0\0\x10\0\0\0\0\0\0\0\0\0\0\x08\0B\0", // 0x1008: one of 8 bytes
+];
+
+/// A class of `OTHERS`, and what `B` of `CLASSES` has in common with it.
+const COMPARED: &[(u32, Comparison)] = &[
+    (0x1001, Comparison::Equal),
+    (0x1003, Comparison::TypesDiffer),
+    (0x1005, Comparison::LayoutDiffers),
+    (0x1007, Comparison::LayoutDiffers),
+    (0x1008, Comparison::LayoutDiffers),
 ];
 
 /// The records of a table of types with texts.
@@ -267,6 +291,70 @@ fn layouts(rt: HostRuntime) {
     }
     for index in [0x1002, 0x0074] {
         let is_well = has_no_layout(rt.alloc(), &definitions, index);
+        assert!(rt; is_well, "{index:#x}");
+    }
+}
+
+/// Returns an order, and whether it is a cycle in place of one.
+fn in_order(order: DeclarationOrder) -> (Vec<TypeIndex>, bool) {
+    match order {
+        DeclarationOrder::Ordered(types) => (types, false),
+        DeclarationOrder::Cycle(types) => (types, true),
+    }
+}
+
+/// Whether what these need is in this order, or is this cycle.
+fn is_ordered(
+    alloc: Global,
+    definitions: &Definitions<'_>,
+    roots: &[TypeIndex],
+    wanted: (&[TypeIndex], bool),
+) -> bool {
+    match definitions.declaration_order(alloc, roots) {
+        Ok(order) => {
+            let (types, is_cycle) = in_order(order);
+            types.as_slice() == wanted.0 && is_cycle == wanted.1
+        }
+        Err(_) => false,
+    }
+}
+
+#[test]
+fn orders(rt: HostRuntime) {
+    let types = open_table(&rt, rt.alloc(), CLASSES);
+    let definitions = definitions_in(&rt, rt.alloc(), &types);
+    let (base, derived) = (TypeIndex(0x1004), TypeIndex(0x1006));
+    let itself = TypeIndex(0x1008);
+    let both = (&[base, derived][..], false);
+    assert!(rt; is_ordered(rt.alloc(), &definitions, &[derived, base], both));
+    assert!(rt; is_ordered(rt.alloc(), &definitions, &[base], (&[base], false)));
+    assert!(rt; is_ordered(rt.alloc(), &definitions, &[itself], (&[itself], true)));
+}
+
+/// Whether two definitions have this in common.
+fn is_compared(
+    alloc: Global,
+    old: &Definitions<'_>,
+    new: &Definitions<'_>,
+    indexes: (u32, u32),
+    comparison: Comparison,
+) -> bool {
+    let found = compare(alloc, old, TypeIndex(indexes.0), new, TypeIndex(indexes.1));
+    matches!(found, Ok(found) if found == comparison)
+}
+
+#[test]
+fn comparisons(rt: HostRuntime) {
+    let types = open_table(&rt, rt.alloc(), CLASSES);
+    let others = open_table(&rt, rt.alloc(), OTHERS);
+    let old = definitions_in(&rt, rt.alloc(), &types);
+    let new = definitions_in(&rt, rt.alloc(), &others);
+    for (index, comparison) in COMPARED {
+        let is_well = is_compared(rt.alloc(), &old, &new, (0x1004, *index), *comparison);
+        assert!(rt; is_well, "{index:#x}");
+    }
+    for index in [0x1006, 0x1008, 0x100a] {
+        let is_well = is_compared(rt.alloc(), &old, &old, (index, index), Comparison::Equal);
         assert!(rt; is_well, "{index:#x}");
     }
 }

@@ -1,8 +1,9 @@
 //! A small file that is whole, and damages of each of its parts. The bytes are written by hand.
 
-use pdb_fixtures::{file_of, with_bytes};
+use pdb_fixtures::{Failing, file_of, is_gone, with_bytes};
 use pdb_validation::{Extent, Finding, Part, validate};
 use std::alloc::Global;
+use std::io::ErrorKind;
 use std::process::Abort;
 
 /// Stream 1: the numbers of the file, and a table that names stream 5 `/names`.
@@ -184,4 +185,33 @@ fn every_one(rt: HostRuntime) {
     let file = with_bytes(file(&rt, rt.alloc()), &[(0xc44, 0x01), (0x84c, 0x00)]);
     assert!(rt; errors_in(&rt, rt.alloc(), &file, Extent::First) == 2);
     assert!(rt; errors_in(&rt, rt.alloc(), &file, Extent::All) == 3);
+}
+
+/// Whether a validation of the small file whose view number `n` fails returns the error of the
+/// source. It makes fewer views than `n` if it finds no error instead.
+fn is_failure_told(rt: &impl Abort, alloc: Global, n: u64) -> bool {
+    let source = Failing::new(file(rt, alloc), n);
+    match validate(alloc, source, Extent::All) {
+        Ok(findings) => {
+            assert!(rt; error_count(&findings) == 0, "{n}");
+            false
+        }
+        Err(error) => {
+            assert!(rt; is_gone(alloc, &error, ErrorKind::Other), "{n}");
+            true
+        }
+    }
+}
+
+/// Each view of the source fails in turn. The header, the directory and the bytes of nine streams
+/// are viewed, and the size of the file is looked for.
+#[test]
+fn failing_views(rt: HostRuntime) {
+    let mut views = 0;
+    for n in 1..1000 {
+        if is_failure_told(&rt, rt.alloc(), n) {
+            views = n;
+        }
+    }
+    assert!(rt; views > 100, "{views}");
 }

@@ -3,7 +3,7 @@
 use pdb_container::Result;
 use pdb_fixtures::{s1, s1_with, with_bytes};
 use pdb_output::Output;
-use pdbdump_cli::{Call, Command, Task, any_is, call_of, list, plain_words};
+use pdbdump_cli::{Call, Command, Task, any_is, call_of, in_memory, list, plain_words};
 use pdbdump_rows::Form;
 use std::alloc::Global;
 use std::io::Cursor;
@@ -135,7 +135,13 @@ fn is_told(alloc: Global, answer: Result<()>, refusal: &str) -> Result<bool> {
 fn is_listed(alloc: Global, command: Command<'_>, form: Form, row: &Listed) -> Result<bool> {
     let (_, stream, lines, refusal) = *row;
     let mut out = Output::new(Vec::new(alloc));
-    let answer = list(alloc, s1_with(alloc, stream)?, command, form, &mut out);
+    let answer = list(
+        alloc,
+        in_memory(s1_with(alloc, stream)?),
+        command,
+        form,
+        &mut out,
+    );
     Ok(is_told(alloc, answer, refusal)? && out.into_inner().as_slice() == lines.as_bytes())
 }
 
@@ -165,7 +171,13 @@ const NO_DIRECTORY: &str =
 fn is_directory_told(alloc: Global) -> Result<bool> {
     let file = with_bytes(s1(alloc)?, &[(PAGE_OF_DIRECTORY, 9)]);
     let mut out = Output::new(Vec::new(alloc));
-    list(alloc, file, Command::Summary, Form::Text, &mut out)?;
+    list(
+        alloc,
+        in_memory(file),
+        Command::Summary,
+        Form::Text,
+        &mut out,
+    )?;
     Ok(out.into_inner().as_slice() == NO_DIRECTORY.as_bytes())
 }
 
@@ -185,7 +197,7 @@ fn is_cut(alloc: Global, room: usize) -> Result<bool> {
     let file = s1_with(alloc, &SECTION_ALONE)?;
     let mut out = Output::new(Cursor::new(taken.as_mut_slice()));
     let command = Command::Sections { stream: Some(3) };
-    let is_refused = list(alloc, file, command, Form::Text, &mut out).is_err();
+    let is_refused = list(alloc, in_memory(file), command, Form::Text, &mut out).is_err();
     let count = out.into_inner().position() as usize;
     Ok(is_front(SECTION_LINE.as_bytes(), &taken, count, is_refused))
 }

@@ -1,4 +1,4 @@
-use Rattle.std.proofs.Common.{◌≡◌, ◌+◌, ◌≤◌, ℕ, length, length-drop, arith, refl, ◌∙◌}
+use Rattle.std.proofs.Common.{ℕ, length-drop, arith, refl, ◌∙◌}
 use Rattle.std.proofs.lemmas.List.{length-take}
 use Rattle.pdb_msf.proofs.ReadLemmas.{filled_more, same_read}
 use Rattle.pdb_msf.proofs.read_at.fill.Goals as goal

@@ -1,6 +1,4 @@
-use Rattle.std.proofs.Common.{◌∙◌, sym, subst}
-use Rattle.std.specs.Prelude.{IsTrue}
-use Rattle.pdb_msf.specs.ReadAt.{FileContents}
+use Rattle.std.proofs.Common.{◌∙◌}
 use Rattle.pdb_msf.proofs.ReadLemmas.{same_read}
 use Rattle.pdb_msf.proofs.read_at.read_uninterrupted.Goals as goal
 

@@ -1,4 +1,4 @@
-use Rattle.std.proofs.Common.{◌≡◌, Vec, Global, List, map, sym, ap, subst, ◌∙◌, Ok}
+use Rattle.std.proofs.Common.{◌≡◌, Vec, Global, List, map, refl, sym, ap, subst, ◌∙◌, Ok}
 use Rattle.std.proofs.lemmas.Simd.{map-map}
 use Rattle.pdb_base.specs.Answer.{Answer, Answers}
 use Rattle.pdb_base.proofs.lemmas.Collected.{ok_is}
@@ -11,7 +11,7 @@ use Rattle.pdb_reports.proofs.findings.findings_in.Goals as goal
 
 pub returns : goal.returns
 returns c =
-    let found = ok_is _ _ c.in_ok-found.ensures.findings in
+    let found = ok_is _ _ (c.in_ok-found.ensures.findings refl) in
     let rows : map (λ one. finding_of (finding_view one)) c.deref.result.now
     ≡ map finding_of (faults_of (extent_of c.args.every) c.args.file.now) =
     rw c.deref.ensures.value (sym (map-map finding_of finding_view c.in_ok-found.found.items)

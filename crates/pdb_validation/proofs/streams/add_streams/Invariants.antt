@@ -1,5 +1,6 @@
 -- So far the streams below the number are told.
 use Rattle.std.proofs.Common.{map}
+use Rattle.pdb_msf.specs.Source.{IsFixed, IsKept}
 use Rattle.pdb_validation.specs.Finding.{finding_view}
 use Rattle.pdb_validation.specs.Streams.{streams_faults}
 use Rattle.pdb_validation.proofs.StreamLemmas.{faults_from}
@@ -7,6 +8,11 @@ use Rattle.pdb_validation.proofs.ToldLemmas.{IsTelling}
 use Rattle.pdb_validation.proofs.streams.add_streams.Given as goal
 
 abbrev pub invariant-loop-number : goal.invariant-loop-number
-invariant-loop-number l = IsTelling l.extent (map finding_view l.initial.findings.items)
-    (streams_faults l.layout l.file l.count) (map finding_view l.findings.items)
-    (faults_from l.layout l.file l.count l.number)
+invariant-loop-number g l =
+    let old = g.S.Source.state l.fn.source.source in
+    record {
+      kept : IsKept old (g.S.Source.state l.source.source);
+      told : IsFixed old →
+          IsTelling l.extent (map finding_view l.initial.findings.items) (streams_faults l.layout old.bytes l.count)
+          (map finding_view l.findings.items) (faults_from l.layout old.bytes l.count l.number);
+    }

@@ -1,15 +1,18 @@
 use Rattle.std.proofs.Common.{refl}
-use Rattle.pdbdump_cli.specs.Identified.{identified, other}
+use Rattle.pdbdump_cli.specs.Identified.{identified, other, unread_front}
 use Rattle.pdbdump_cli.proofs.identified.serve_id.Goals as goal
+
+pub returns-in-Err : goal.returns-in-Err
+returns-in-Err g c = unread_front c.in-Err.fault refl c.tell.ensures
 
 pub returns-in-Some : goal.returns-in-Some
 returns-in-Some g c =
-    let format = rw (c.of.ensures, c.deref.ensures.value) at c.in-Some.ensures in
+    let format = rw (c.of.ensures, c.as_slice.ensures) at c.in-Some.ensures in
     let told = rw c.as_bytes.ensures.value at c.report.ensures in
-    other c.in-Some.text.now format refl told refl
+    other _ c.in-Some.text.now c.in-Ok.ensures.front format refl told refl
 
 pub returns : goal.returns
 returns g c =
-    let format = rw (c.of.ensures, c.deref.ensures.value) at c.in_default.ensures in
-    identified c.identify-identified.new.out c.identify-identified.result format c.identify-identified.ensures
-    c.conclude.ensures
+    let format = rw (c.of.ensures, c.as_slice.ensures) at c.in_default.ensures in
+    identified _ _ c.identify-identified.new.out c.identify-identified.result c.in-Ok.ensures.front format
+    c.in-Ok.ensures.kept c.identify-identified.ensures c.conclude.ensures

@@ -1,16 +1,10 @@
-use Rattle.std.proofs.Common.{ℕ, List, refl, subst}
+use Rattle.std.proofs.Common.{refl}
 use Rattle.pdb_base.proofs.lemmas.Refused.{passed_on}
-use Rattle.pdbdump_cli.specs.Listed.{DoesIn, listed, refused}
-use Rattle.pdbdump_cli.proofs.DoneLemmas.{refused_or_lacking}
+use Rattle.pdbdump_cli.specs.Listed.{listed, refused}
 use Rattle.pdbdump_cli.proofs.listed.list.Goals as goal
 
-pub returns-in_err-open : goal.returns-in_err-open
-returns-in_err-open g c = rw (passed_on _ _ c.from_residual.ensures.1)
-    (refused _ refl (refused_or_lacking _ _ (c.in_err-open.ensures.head refl)) refl)
+pub returns-in_err-file : goal.returns-in_err-file
+returns-in_err-file g c = refused _ (passed_on _ _ c.from_residual.ensures.1) c.in_err-file.ensures.head refl
 
 pub returns : goal.returns
-returns g c =
-    let file = c.in_ok-open.field-0 in
-    let does = λ (bytes : List ℕ). DoesIn c.args.form c.args.command bytes file.head c.args.out.now
-    c.list_opened.new.out c.list_opened.result in
-    listed file.head (c.in_ok-open.ensures.head refl) (subst does c.in_ok-open.ensures.kept.bytes c.list_opened.ensures)
+returns g c = listed _ _ c.in_ok-file.ensures.kept c.in_ok-file.ensures.head c.list_opened.ensures

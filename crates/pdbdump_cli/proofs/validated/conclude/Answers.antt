@@ -4,24 +4,22 @@ use Rattle.pdbdump_cli.proofs.ValidateLemmas.{judged_other, judged_passed}
 use Rattle.pdbdump_cli.proofs.validated.conclude.Goals as goal
 
 pub returns-then-has_passed : goal.returns-then-has_passed
-returns-then-has_passed g c = λ file faults whole. record {
+returns-then-has_passed g c = record {
   written = c.write_findings-written.new.out;
   result = c.write_findings-written.result;
   writes = c.write_findings-written.ensures;
   ended = c.end-status.result;
   ends = c.end-status.ensures;
-  judged = rw faults (judged_passed _ _ c.end-status.result (c.has_passed.ensures.0 c.if-has_passed.true));
-  whole = rw faults whole;
+  judged = judged_passed _ _ c.end-status.result (c.has_passed.ensures.0 c.if-has_passed.true);
 }
 
 pub returns : goal.returns
-returns g c = λ file faults whole. record {
+returns g c = record {
   written = c.write_findings-written.new.out;
   result = c.write_findings-written.result;
   writes = c.write_findings-written.ensures;
   ended = c.end-status.result;
   ends = c.end-status.ensures;
-  judged = rw faults (judged_other _ _ c.end-status.result
-      (λ has. false≢true (sym c.if-has_passed.false ∙ c.has_passed.ensures.1 has)));
-  whole = rw faults whole;
+  judged = judged_other _ _ c.end-status.result
+      (λ has. false≢true (sym c.if-has_passed.false ∙ c.has_passed.ensures.1 has));
 }

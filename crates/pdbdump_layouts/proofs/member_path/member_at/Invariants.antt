@@ -2,5 +2,5 @@
 use Rattle.std.proofs.Common.{length}
 use Rattle.pdbdump_layouts.proofs.member_path.member_at.Given as goal
 
-abbrev pub decreases-loop-layout : goal.decreases-loop-layout
-decreases-loop-layout l = length l.rest
+abbrev pub decreases-loop-count : goal.decreases-loop-count
+decreases-loop-count l = length l.rest

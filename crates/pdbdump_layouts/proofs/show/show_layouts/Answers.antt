@@ -22,4 +22,4 @@ pub returns : goal.returns
 returns g c =
     IsShowResult.shown c.in_ok-definitions.definitions _
     (ap (λ (a : Answer Table). a >>= whole_table) c.in_ok-types.ensures ∙ c.in_ok-definitions.ensures)
-    (c.in_ok-show_asked.ensures.accounted c.args.err.now refl)
+    (c.in_ok-show_asked.ensures.accounted c.args.err.now (rw c.new-progress.ensures.whole refl))

@@ -1,30 +1,18 @@
 use Rattle.std.proofs.Common.{refl}
 use Rattle.pdb_base.proofs.lemmas.Refused.{passed_on}
-use Rattle.pdbdump_tables.specs.Files.{file_sections, stream_listing}
-use Rattle.pdbdump_tables.specs.Tables.{sections_listing}
-use Rattle.pdbdump_tables.proofs.ListedLemmas.{answered_then, none_listed, refused_listed, refused_then, then_is}
+use Rattle.pdbdump_rows.proofs.lemmas.Rows.{rows_none}
+use Rattle.pdbdump_tables.specs.Reading.{unread, written}
+use Rattle.pdbdump_tables.proofs.lemmas.Reading.{read_of}
 use Rattle.pdbdump_tables.proofs.file_tables.list_sections.Goals as goal
 
-pub returns-in_err-number : goal.returns-in_err-number
-unfolding file_sections
-returns-in_err-number g c =
-    rw (passed_on _ _ c.from_residual.ensures.1)
-    (refused_listed _ (stream_listing sections_listing) _ _ _
-    (refused_then _ _ _ (c.in_err-number.ensures.answer refl)))
-
 pub returns-in_err-stream : goal.returns-in_err-stream
-unfolding file_sections
 returns-in_err-stream g c =
-    let refuses = rw (c.in_ok-number.ensures.source.bytes, c.in_ok-number.ensures.head) at
-    (c.in_err-stream.ensures.answer refl) in
-    rw (passed_on _ _ c.from_residual-in_err-stream.ensures.1)
-    (refused_listed _ (stream_listing sections_listing) _ _ _
-    (answered_then _ _ _ _ (c.in_ok-number.ensures.answer refl) refuses))
+    unread _ (passed_on _ _ c.from_residual.ensures.1) (read_of _ _ _ _ _ c.in_err-stream.ensures) refl
+
+pub returns-in-Some : goal.returns-in-Some
+returns-in-Some g c =
+    written _ (read_of _ _ _ _ _ (rw c.in-Some.is at c.in_ok-stream.ensures)) c.write_sections.ensures
 
 pub returns : goal.returns
-unfolding file_sections
 returns g c =
-    let stream = rw (c.in_ok-number.ensures.source.bytes, c.in_ok-number.ensures.head) at
-    (c.in_ok-stream.ensures.answer refl) in
-    none_listed _ sections_listing _ _
-    (then_is _ _ _ _ (c.in_ok-number.ensures.answer refl) (rw c.in-None.is at stream))
+    written _ (read_of _ _ _ _ _ (rw c.in-None.is at c.in_ok-stream.ensures)) (refl, rows_none _ _)

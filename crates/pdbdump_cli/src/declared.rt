@@ -1,0 +1,26 @@
+//! What `declare` does with a file.
+
+ghost use Rattle.pdbdump_cli.specs.LaidOut.{AreLaidOut};
+
+use crate::command::Declarations;
+use crate::laid_out::type_stream;
+use pdb_container::{Result, Source};
+use pdb_output::Output;
+use pdbdump_declarations::declare;
+use std::alloc::Global;
+use std::io::Write;
+
+/// Writes a header of types of a file, and returns whether each name was found and no type was left
+/// out.
+pub(crate) fn declare_in<S: Source + Drop, O: Write, E: Write>(
+    alloc: Global,
+    source: S,
+    asked: &Declarations<'_>,
+    out: &mut Output<O>,
+    err: &mut Output<E>,
+) -> Result<bool>
+    ensures { AreLaidOut (S.state source) out.old out.new err.old err.new result }
+{
+    let stream = type_stream(alloc, source)?;
+    declare(alloc, stream, asked.names, &asked.options, out, err)
+}

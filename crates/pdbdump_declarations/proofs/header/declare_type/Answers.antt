@@ -1,0 +1,7 @@
+use Rattle.std.proofs.Common.{refl}
+use Rattle.pdbdump_layouts.proofs.ShowLemmas.{kept}
+use Rattle.pdbdump_declarations.proofs.header.declare_type.Goals as goal
+
+pub returns-in-Ok-clause-accounted : goal.returns-in-Ok-clause-accounted
+returns-in-Ok-clause-accounted g c =
+    kept c.args.progress.now.is_whole c.args.progress.now.is_whole c.args.err.now c.write.result refl

@@ -1,0 +1,6 @@
+-- What was reported so far is accounted for.
+use Rattle.pdbdump_layouts.specs.Shown.{StaysAccounted}
+use Rattle.pdbdump_declarations.proofs.header.tell_cycle.Given as goal
+
+abbrev pub invariant-loop-index : goal.invariant-loop-index
+invariant-loop-index g l = StaysAccounted l.fn.progress l.progress l.fn.err l.err

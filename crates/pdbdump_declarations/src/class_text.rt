@@ -1,0 +1,280 @@
+//! The definition of a class or a union.
+
+use crate::body::{Body, push_lines};
+use crate::comment::push_quoted;
+use crate::context::{Context, Target};
+use crate::group::{Group, greatest_alignment, groups_of, is_natural};
+use crate::known::Known;
+use crate::memory::AllocResult;
+use crate::mention::{push_declaration, push_mention};
+use crate::piece::{Piece, align_up};
+use crate::sketch::{Sketch, Sketcher, push_number};
+use crate::table_walk::Word;
+use pdb_base::Result;
+use pdb_types::Layout;
+use std::alloc::Global;
+
+/// How a class is laid out in a header.
+#[derive(Drop)]
+struct Plan {
+    groups: Vec<Group>,
+    is_natural: bool,
+    alignment: u64,
+
+    /// How many groups are base classes in the head of the definition.
+    bases: usize,
+}
+
+/// Returns how many of the first pieces are base classes where the compiler puts them, or 0 if not
+/// all bases are.
+fn inherited(pieces: &[Piece], groups: &[Group], is_natural: bool) -> usize {
+    let count = pieces.iter().filter(|piece| piece.base.is_some()).count();
+    let mut at = 0;
+    for (piece, group) in pieces.iter().zip(groups.iter()).take(count) {
+        let place = if is_natural {
+            align_up(at, piece.alignment)
+        } else {
+            at
+        };
+        if piece.base.is_none() || group.is_union() || piece.start != place {
+            return 0;
+        }
+        at = piece.end;
+    }
+    count
+}
+
+/// Returns one group of all pieces of a union.
+fn union_groups(alloc: Global, pieces: &[Piece]) -> AllocResult<Vec<Group>> {
+    let mut groups = Vec::new(alloc);
+    let mut group = Group {
+        first: 0,
+        behind: pieces.len(),
+        start: 0,
+        end: 0,
+        alignment: 1,
+    };
+    for piece in pieces {
+        group.end = group.end.max(piece.end);
+        group.alignment = group.alignment.max(piece.alignment);
+    }
+    groups.push(group)?;
+    Ok(groups)
+}
+
+/// Returns how a class of a size is laid out.
+fn plan_of(
+    alloc: Global,
+    context: &Context<'_, '_>,
+    word: Word,
+    sketch: &Sketch,
+    size: u64,
+) -> AllocResult<Plan> {
+    let pieces = &sketch.pieces;
+    let groups = if word == Word::Union {
+        union_groups(alloc, pieces)?
+    } else {
+        groups_of(alloc, pieces)?
+    };
+    let is_natural = is_natural(pieces, &groups, size);
+    let alignment = if is_natural {
+        greatest_alignment(&groups)
+    } else {
+        1
+    };
+    let has_heads = !context.is_c() && word == Word::Struct && sketch.empty_bases.is_empty();
+    let bases = if has_heads {
+        inherited(pieces, &groups, is_natural)
+    } else {
+        0
+    };
+    Ok(Plan {
+        groups,
+        is_natural,
+        alignment,
+        bases,
+    })
+}
+
+/// Appends the base classes behind the name of a class.
+fn push_bases(
+    context: &Context<'_, '_>,
+    sketch: &Sketch,
+    plan: &Plan,
+    out: &mut Vec<u8>,
+) -> AllocResult<()> {
+    let mut mark: &[u8] = b" : ";
+    for piece in sketch.pieces.iter().take(plan.bases) {
+        if let Some(base) = &piece.base {
+            out.extend_from_slice(mark)?;
+            out.extend_from_slice(base)?;
+            mark = b", ";
+        }
+    }
+    let has_base = sketch.pieces.iter().any(|piece| piece.base.is_some());
+    match sketch.empty_bases.as_slice() {
+        [base] if !has_base && !context.is_c() => {
+            out.extend_from_slice(b" : ")?;
+            out.extend_from_slice(base)
+        }
+        _ => Ok(()),
+    }
+}
+
+/// Appends the pieces of a class between its braces.
+fn push_body(
+    alloc: Global,
+    context: &Context<'_, '_>,
+    word: Word,
+    sketch: &Sketch,
+    plan: &Plan,
+    size: u64,
+    out: &mut Vec<u8>,
+) -> AllocResult<()> {
+    let mut body = Body {
+        pieces: &sketch.pieces,
+        groups: &plan.groups,
+        is_natural: plan.is_natural,
+        at: 0,
+    };
+    if word == Word::Union {
+        body.push_alternatives(alloc, 1, &sketch.pieces, 0, out)?;
+        let end = plan.groups.first().map(|group| group.end).unwrap_or(0);
+        if align_up(end, plan.alignment) < size {
+            push_number(b"    unsigned char pad_0x0[", size, out)?;
+            out.extend_from_slice(b"];\n")?;
+        }
+        return Ok(());
+    }
+    if sketch.pieces.is_empty() && size == 1 && !context.is_c() {
+        return Ok(());
+    }
+    for group in plan.groups.iter().take(plan.bases) {
+        body.at = group.end;
+    }
+    body.push_groups(alloc, plan.bases, size, plan.alignment, out)
+}
+
+/// Appends a comment with the name and the index of a type as the file has them.
+///
+/// # Errors
+/// Fails if an allocation fails.
+pub(crate) fn push_origin(
+    alloc: Global,
+    target: &Target<'_>,
+    out: &mut Vec<u8>,
+) -> AllocResult<()> {
+    let number = target.index.0;
+    let mark = format!(in alloc; "// 0x{number:x} ")?;
+    out.extend_from_slice(mark.as_bytes())?;
+    push_quoted(alloc, target.named.name.as_bytes(), out)?;
+    out.push(b'\n')?;
+    Ok(())
+}
+
+/// Appends the assertion of the size of a type.
+///
+/// # Errors
+/// Fails if an allocation fails.
+pub(crate) fn push_size(
+    context: &Context<'_, '_>,
+    target: &Target<'_>,
+    size: u64,
+    out: &mut Vec<u8>,
+) -> AllocResult<()> {
+    let word = if context.is_c() {
+        "_Static_assert(sizeof("
+    } else {
+        "static_assert(sizeof("
+    };
+    out.extend_from_slice(word.as_bytes())?;
+    push_mention(context, target, false, out)?;
+    push_number(b") == ", size, out)?;
+    out.extend_from_slice(b", \"")?;
+    target.name.push_to(out)?;
+    out.extend_from_slice(b"\");\n")
+}
+
+/// Appends the definition of a class from what it is made of.
+fn push_definition(
+    alloc: Global,
+    context: &Context<'_, '_>,
+    target: &Target<'_>,
+    sketch: &Sketch,
+    plan: &Plan,
+    size: u64,
+    out: &mut Vec<u8>,
+) -> AllocResult<()> {
+    if !plan.is_natural {
+        out.extend_from_slice(b"#pragma pack(push, 1)\n")?;
+    }
+    push_mention(context, target, false, out)?;
+    push_bases(context, sketch, plan, out)?;
+    out.extend_from_slice(b" {\n")?;
+    push_lines(1, &sketch.notes, out)?;
+    for base in &sketch.empty_bases {
+        out.extend_from_slice(b"    // a base without members: ")?;
+        out.extend_from_slice(base)?;
+        out.push(b'\n')?;
+    }
+    push_body(alloc, context, target.named.word, sketch, plan, size, out)?;
+    out.extend_from_slice(b"};\n")?;
+    if !plan.is_natural {
+        out.extend_from_slice(b"#pragma pack(pop)\n")?;
+    }
+    Ok(())
+}
+
+/// Returns the definition of a class or a union, with the declarations before it that it needs and
+/// the assertions of its size and of the places of its members.
+///
+/// # Errors
+/// Fails as `Definitions::marked_text` and `Definitions::size_of` do for its fields.
+pub(crate) fn class_text<'t>(
+    alloc: Global,
+    context: &Context<'_, 't>,
+    target: &Target<'t>,
+    layout: &Layout<'t>,
+    known: &mut Known,
+) -> Result<Vec<u8>> {
+    let mut sketcher = Sketcher {
+        context,
+        known,
+        target,
+        sketch: Sketch {
+            before: Vec::new(alloc),
+            notes: Vec::new(alloc),
+            pieces: Vec::new(alloc),
+            empty_bases: Vec::new(alloc),
+            assertions: Vec::new(alloc),
+        },
+    };
+    sketcher.add_fields(alloc, layout)?;
+    let Sketcher { known, sketch, .. } = sketcher;
+    let mut text = Vec::from_slice(alloc, &sketch.before)?;
+    push_origin(alloc, target, &mut text)?;
+    if layout.size == 0 || !target.name.scope.is_empty() {
+        push_declaration(alloc, context, target, known, &mut text)?;
+    }
+    known.declare(target.index);
+    if layout.size == 0 {
+        text.extend_from_slice(b"// It has no bytes, so there is no definition.\n\n")?;
+        return Ok(text);
+    }
+    let plan = plan_of(alloc, context, target.named.word, &sketch, layout.size)?;
+    push_definition(
+        alloc,
+        context,
+        target,
+        &sketch,
+        &plan,
+        layout.size,
+        &mut text,
+    )?;
+    push_size(context, target, layout.size, &mut text)?;
+    text.extend_from_slice(&sketch.assertions)?;
+    text.push(b'\n')?;
+    let is_empty = sketch.pieces.is_empty() && layout.size == 1;
+    known.define(target.index, plan.alignment, is_empty);
+    Ok(text)
+}

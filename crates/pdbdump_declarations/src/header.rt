@@ -1,0 +1,247 @@
+//! The header of the types that names mean.
+
+ghost use Rattle.std.specs.Prelude.{◌≡◌, OnOk};
+ghost use Rattle.pdb_base.specs.Memory.{FailsOnlyForMemory};
+ghost use Rattle.pdbdump_layouts.specs.Shown.{IsShowResult, IsStopped, StaysAccounted};
+
+use crate::class_text::class_text;
+use crate::context::Context;
+use crate::enumeration::enumeration_text;
+use crate::known::Known;
+use crate::memory::AllocResult;
+use crate::naming::Naming;
+use crate::needed::limit_types;
+use crate::options::{Language, Options};
+use crate::roots::{first_types, types_named};
+use crate::table_walk::{Walked, type_at, walk};
+use pdb_base::{Error, Stream, TypeIndex};
+use pdb_output::Output;
+use pdb_types::{DeclarationOrder, Definitions};
+use pdb_values::TypeData;
+use pdbdump_layouts::{Progress, learn_table, tell, tell_fault, tell_index};
+use std::alloc::Global;
+use std::io::Write;
+
+/// Why a name or a type isn't declared.
+const NO_NAME: &[u8] = b"no class, union or enumeration is defined that is called so";
+
+const HOLDS_ITSELF: &[u8] = b"a class that holds itself, so that nothing can be declared";
+
+/// Returns the lines with which a header begins.
+fn head_text(alloc: Global, language: Language, pointer_size: u64) -> AllocResult<Vec<u8>> {
+    let (word, includes) = match language {
+        Language::Cpp => ("C++", "#include <stddef.h>\n\n"),
+        Language::C => ("C", "#include <stdbool.h>\n#include <stddef.h>\n\n"),
+    };
+    let bits = pointer_size.saturating_mul(8);
+    let text = format!(in alloc;
+        "// Types of a program database, in {word} for a program of {bits} bits.\n#pragma once\n"
+    )?;
+    let mut text = text.into_bytes();
+    text.extend_from_slice(includes.as_bytes())?;
+    Ok(text)
+}
+
+/// Returns the definition of a type, with what it needs.
+fn type_text<'t>(
+    alloc: Global,
+    context: &Context<'_, 't>,
+    index: TypeIndex,
+    known: &mut Known,
+) -> Result<Vec<u8>, Error> {
+    let Some(target) = context.target(alloc, index)? else {
+        return Ok(Vec::new(alloc));
+    };
+    if let TypeData::Enumeration(enumeration) = type_at(alloc, context.definitions, index)? {
+        return enumeration_text(alloc, context, &target, &enumeration, known);
+    }
+    match context.definitions.layout_of(alloc, index)? {
+        Some(layout) => class_text(alloc, context, &target, &layout, known),
+        None => Ok(Vec::new(alloc)),
+    }
+}
+
+/// Writes the definition of a type, or tells why it can't be written.
+fn declare_type<O: Write, E: Write>(
+    alloc: Global,
+    context: &Context<'_, '_>,
+    index: TypeIndex,
+    known: &mut Known,
+    progress: &mut Progress,
+    out: &mut Output<O>,
+    err: &mut Output<E>,
+) -> Result<(), Error>
+    ensures accounted { OnOk result (StaysAccounted progress.old progress.new err.old err.new) }
+    ensures stopped { IsStopped out.new result }
+{
+    match type_text(alloc, context, index, known) {
+        Ok(text) => out.write(&text),
+        Err(fault) => tell_fault(alloc, index, &fault, progress, err),
+    }
+}
+
+/// Writes the definitions of types.
+fn declare_types<O: Write, E: Write>(
+    alloc: Global,
+    context: &Context<'_, '_>,
+    types: &[TypeIndex],
+    known: &mut Known,
+    progress: &mut Progress,
+    out: &mut Output<O>,
+    err: &mut Output<E>,
+) -> Result<(), Error>
+    ensures accounted { OnOk result (StaysAccounted progress.old progress.new err.old err.new) }
+    ensures stopped { IsStopped out.new result }
+{
+    for index in types {
+        declare_type(alloc, context, *index, known, progress, out, err)?;
+    }
+    Ok(())
+}
+
+/// Writes a header with the definitions of types, which are in an order in which they can be declared.
+fn declare_ordered<O: Write, E: Write>(
+    alloc: Global,
+    context: &Context<'_, '_>,
+    types: &[TypeIndex],
+    behind: u32,
+    progress: &mut Progress,
+    out: &mut Output<O>,
+    err: &mut Output<E>,
+) -> Result<(), Error>
+    ensures accounted { OnOk result (StaysAccounted progress.old progress.new err.old err.new) }
+    ensures stopped { IsStopped out.new result }
+{
+    let header = context.definitions.types().items().header();
+    let mut known = Known::new(alloc, header.minimum_index, behind, progress.texts())?;
+    let head = head_text(alloc, context.language, context.pointer_size)?;
+    out.write(&head)?;
+    declare_types(alloc, context, types, &mut known, progress, out, err)
+}
+
+/// Tells of the types of a cycle, each of which holds the next one, and the last one the first.
+fn tell_cycle<E: Write>(
+    alloc: Global,
+    cycle: &[TypeIndex],
+    progress: &mut Progress,
+    err: &mut Output<E>,
+) -> Result<(), Error>
+    ensures accounted { OnOk result (StaysAccounted progress.old progress.new err.old err.new) }
+    ensures memory { FailsOnlyForMemory result }
+{
+    for index in cycle {
+        tell_index(alloc, *index, HOLDS_ITSELF, progress, err)?;
+    }
+    Ok(())
+}
+
+/// Adds the types that a name means to some, or tells that it means none.
+fn find_name<E: Write>(
+    alloc: Global,
+    definitions: &Definitions<'_>,
+    walked: &Walked<'_>,
+    name: &str,
+    found: &mut Vec<TypeIndex>,
+    progress: &mut Progress,
+    err: &mut Output<E>,
+) -> Result<(), Error>
+    ensures accounted { OnOk result (StaysAccounted progress.old progress.new err.old err.new) }
+    ensures memory { FailsOnlyForMemory result }
+{
+    let types = types_named(alloc, definitions, walked, name)?;
+    if types.is_empty() {
+        return tell(alloc, name.as_bytes(), NO_NAME, progress, err);
+    }
+    found.extend_from_slice(&types)?;
+    Ok(())
+}
+
+/// Does the same for each of some names.
+fn find_names<E: Write>(
+    alloc: Global,
+    definitions: &Definitions<'_>,
+    walked: &Walked<'_>,
+    names: &[&str],
+    found: &mut Vec<TypeIndex>,
+    progress: &mut Progress,
+    err: &mut Output<E>,
+) -> Result<(), Error>
+    ensures accounted { OnOk result (StaysAccounted progress.old progress.new err.old err.new) }
+    ensures memory { FailsOnlyForMemory result }
+{
+    for name in names {
+        find_name(alloc, definitions, walked, name, found, progress, err)?;
+    }
+    Ok(())
+}
+
+/// Writes the header of the types of a table that are wanted.
+fn declare_asked<O: Write, E: Write>(
+    alloc: Global,
+    definitions: &Definitions<'_>,
+    names: &[&str],
+    options: &Options,
+    progress: &mut Progress,
+    out: &mut Output<O>,
+    err: &mut Output<E>,
+) -> Result<(), Error>
+    ensures accounted { OnOk result (StaysAccounted progress.old progress.new err.old err.new) }
+    ensures stopped { IsStopped out.new result }
+{
+    let walked = walk(alloc, definitions)?;
+    let naming = Naming::new(alloc, &walked, options.language)?;
+    let mut roots = first_types(alloc, &walked, options.all)?;
+    find_names(
+        alloc,
+        definitions,
+        &walked,
+        names,
+        &mut roots,
+        progress,
+        err,
+    )?;
+    limit_types(alloc, definitions, walked.behind, &mut roots, progress, err)?;
+    let context = Context {
+        definitions,
+        naming: &naming,
+        language: options.language,
+        pointer_size: walked.pointer_size,
+    };
+    match definitions.declaration_order(alloc, &roots)? {
+        DeclarationOrder::Ordered(types) => {
+            declare_ordered(alloc, &context, &types, walked.behind, progress, out, err)
+        }
+        DeclarationOrder::Cycle(cycle) => tell_cycle(alloc, &cycle, progress, err),
+    }
+}
+
+/// Writes a header that declares types of the table in a stream: all of them, or those that names
+/// mean, in which an index such as `0x1026`, a pattern with `*` and `?`, and the name of a class, a
+/// union or an enumeration are allowed; and behind each other, all that these need to be whole.
+/// Returns whether each name was found and no type was left out; what went wrong is written to the
+/// error channel.
+///
+/// Each class has the size and the members at the places that the file says, which the header asserts.
+/// What the language can't say is an array of bytes. If a class holds itself, directly or through
+/// others, nothing is declared.
+///
+/// # Errors
+/// Fails with the errors of `TypeInformation::parse` and with the fault at which the table stops,
+/// before anything is written; with `IoError` if the output fails; and with `OutOfMemory` if an
+/// allocation fails.
+pub fn declare<O: Write, E: Write>(
+    alloc: Global,
+    stream: Stream,
+    names: &[&str],
+    options: &Options,
+    out: &mut Output<O>,
+    err: &mut Output<E>,
+) -> Result<bool, Error>
+    ensures { IsShowResult stream out.old out.new err.old err.new result }
+{
+    let mut progress = Progress::new(stream.as_slice().len());
+    let types = learn_table(alloc, stream)?;
+    let definitions = Definitions::new(alloc, &types)?;
+    declare_asked(alloc, &definitions, names, options, &mut progress, out, err)?;
+    Ok(progress.is_whole)
+}

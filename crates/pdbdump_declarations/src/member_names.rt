@@ -1,0 +1,62 @@
+//! The names of members and of enumerators in a header.
+
+use crate::identifier::{is_identifier, push_letters, text_hash};
+use crate::memory::AllocResult;
+use std::alloc::Global;
+
+/// Returns a name as an identifier, which may be that of another member too.
+fn identifier_of(alloc: Global, name: &[u8]) -> AllocResult<Vec<u8>> {
+    let mut identifier = Vec::new(alloc);
+    if name.is_empty() || name[0].is_ascii_digit() {
+        identifier.push(b'_')?;
+    }
+    push_letters(name, &mut identifier)?;
+    if !is_identifier(&identifier) {
+        identifier.push(b'_')?;
+    }
+    Ok(identifier)
+}
+
+/// Returns a hash for each of some texts, in increasing order.
+fn hashes_of(alloc: Global, texts: &[Vec<u8>]) -> AllocResult<Vec<u64>> {
+    let mut hashes = Vec::new(alloc);
+    for text in texts {
+        hashes.push(text_hash(text))?;
+    }
+    hashes.sort_unstable();
+    Ok(hashes)
+}
+
+/// Returns whether a number is at more than one place among numbers in increasing order.
+fn is_repeated(hashes: &[u64], hash: u64) -> bool {
+    let start = hashes.partition_point(|other| *other < hash);
+    let end = hashes.partition_point(|other| *other <= hash);
+    end.saturating_sub(start) > 1
+}
+
+/// Returns names as identifiers that differ from each other and from a name that is taken: those that
+/// don't get their number as a suffix.
+///
+/// # Errors
+/// Fails if an allocation fails.
+pub(crate) fn distinct_names(
+    alloc: Global,
+    names: &[&[u8]],
+    taken: &[u8],
+) -> AllocResult<Vec<Vec<u8>>> {
+    let mut identifiers = Vec::new(alloc);
+    for name in names {
+        identifiers.push(identifier_of(alloc, name)?)?;
+    }
+    let hashes = hashes_of(alloc, &identifiers)?;
+    let mut distinct = Vec::new(alloc);
+    for (number, identifier) in identifiers.iter().enumerate() {
+        let mut name = Vec::from_slice(alloc, identifier)?;
+        if is_repeated(&hashes, text_hash(identifier)) || identifier.as_slice() == taken {
+            let suffix = format!(in alloc; "_{number}")?;
+            name.extend_from_slice(suffix.as_bytes())?;
+        }
+        distinct.push(name)?;
+    }
+    Ok(distinct)
+}

@@ -1,0 +1,130 @@
+//! What the definition of a class is made of, before it is written.
+
+use crate::comment::push_quoted;
+use crate::context::{Context, Target};
+use crate::known::Known;
+use crate::memory::AllocResult;
+use crate::mention::{declared_text, push_mention};
+use crate::piece::Piece;
+use pdb_base::{Result, TypeIndex};
+use std::alloc::Global;
+
+/// What the definition of a class is made of.
+#[derive(Drop)]
+pub(crate) struct Sketch {
+    /// The declarations of other types that it needs.
+    pub(crate) before: Vec<u8>,
+
+    /// Lines of comments on what isn't declared.
+    pub(crate) notes: Vec<u8>,
+
+    /// Its pieces, in the order of the records.
+    pub(crate) pieces: Vec<Piece>,
+
+    /// The names of its base classes without members, which take no bytes.
+    pub(crate) empty_bases: Vec<Vec<u8>>,
+
+    /// The assertions of where its members are.
+    pub(crate) assertions: Vec<u8>,
+}
+
+/// How a member is declared.
+#[derive(Drop)]
+pub(crate) struct Declared {
+    /// The declaration.
+    pub(crate) text: Vec<u8>,
+
+    /// To how many bytes its type is aligned.
+    pub(crate) alignment: u64,
+}
+
+/// A class of which a header gets the definition.
+#[derive(Drop)]
+pub(crate) struct Sketcher<'s, 'd, 't> {
+    /// What all parts of the header are written by.
+    pub(crate) context: &'s Context<'d, 't>,
+
+    /// What the header has so far.
+    pub(crate) known: &'s mut Known,
+
+    /// The class.
+    pub(crate) target: &'s Target<'t>,
+
+    /// What its definition is made of so far.
+    pub(crate) sketch: Sketch,
+}
+
+impl<'s, 'd, 't> Sketcher<'s, 'd, 't> {
+    /// Returns whether the class is in a namespace, so that names in it are looked for there first.
+    pub(crate) fn is_scoped(&self) -> bool {
+        !self.target.name.scope.is_empty()
+    }
+
+    /// Returns how a name is declared that has a type, or None if the header can't say it.
+    pub(crate) fn declared(
+        &mut self,
+        alloc: Global,
+        index: TypeIndex,
+        name: &[u8],
+    ) -> Result<Option<Declared>> {
+        let Some(alignment) = self.context.alignment(alloc, index, self.known)? else {
+            return Ok(None);
+        };
+        let is_scoped = self.is_scoped();
+        let before = &mut self.sketch.before;
+        let text = declared_text(
+            alloc,
+            self.context,
+            index,
+            name,
+            is_scoped,
+            self.known,
+            before,
+        )?;
+        match text {
+            Some(text) => Ok(Some(Declared { text, alignment })),
+            None => Ok(None),
+        }
+    }
+
+    /// Adds a line of comment on a member that isn't declared.
+    pub(crate) fn push_note(&mut self, alloc: Global, why: &str, what: &[u8]) -> AllocResult<()> {
+        let notes = &mut self.sketch.notes;
+        notes.extend_from_slice(b"// ")?;
+        notes.extend_from_slice(why.as_bytes())?;
+        notes.extend_from_slice(b": ")?;
+        push_quoted(alloc, what, notes)?;
+        notes.push(b'\n')?;
+        Ok(())
+    }
+
+    /// Adds the assertion of where a member begins.
+    pub(crate) fn push_assertion(&mut self, name: &[u8], offset: u64) -> AllocResult<()> {
+        let word = if self.context.is_c() {
+            "_Static_assert(offsetof("
+        } else {
+            "static_assert(offsetof("
+        };
+        let text = &mut self.sketch.assertions;
+        text.extend_from_slice(word.as_bytes())?;
+        push_mention(self.context, self.target, false, text)?;
+        text.extend_from_slice(b", ")?;
+        text.extend_from_slice(name)?;
+        push_number(b") == ", offset, text)?;
+        text.extend_from_slice(b", \"")?;
+        self.target.name.push_to(text)?;
+        text.push(b'.')?;
+        text.extend_from_slice(name)?;
+        text.extend_from_slice(b"\");\n")
+    }
+}
+
+/// Appends a text and a number in decimal behind it.
+///
+/// # Errors
+/// Fails if an allocation fails.
+pub(crate) fn push_number(before: &[u8], number: u64, out: &mut Vec<u8>) -> AllocResult<()> {
+    let mut buffer = itoa::Buffer::new();
+    out.extend_from_slice(before)?;
+    out.extend_from_slice(buffer.format(number).as_bytes())
+}

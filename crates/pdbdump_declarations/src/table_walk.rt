@@ -1,0 +1,193 @@
+//! The classes, unions and enumerations of a table, in its order.
+
+use crate::memory::AllocResult;
+use pdb_base::{Error, RawString, TypeIndex};
+use pdb_flags::TypeProperties;
+use pdb_tpi::constants::{LF_ARGLIST, LF_FIELDLIST, LF_METHODLIST};
+use pdb_types::Definitions;
+use pdb_values::TypeData;
+use std::alloc::{AllocError, Global};
+
+/// What the word before the name of a type is.
+#[derive(Clone, Copy, PartialEq, Eq)]
+pub(crate) enum Word {
+    /// `struct`, for classes and structures.
+    Struct,
+
+    /// `union`.
+    Union,
+
+    /// `enum`.
+    Enum,
+}
+
+impl Word {
+    /// Returns the word.
+    pub(crate) fn text(self) -> &'static str {
+        match self {
+            Word::Struct => "struct",
+            Word::Union => "union",
+            Word::Enum => "enum",
+        }
+    }
+}
+
+/// What the record of a class, a union or an enumeration says of its name.
+#[derive(Clone, Copy)]
+pub(crate) struct Named<'t> {
+    /// The word before the name.
+    pub(crate) word: Word,
+
+    /// The name.
+    pub(crate) name: RawString<'t>,
+
+    /// The decorated name, or else the name.
+    pub(crate) key: RawString<'t>,
+
+    /// Whether it is only declared.
+    pub(crate) is_forward: bool,
+
+    /// The type under an enumeration.
+    pub(crate) underlying: TypeIndex,
+}
+
+/// Returns what a record says of its name.
+fn name_record<'t>(
+    word: Word,
+    properties: TypeProperties,
+    name: RawString<'t>,
+    unique_name: Option<RawString<'t>>,
+    underlying: TypeIndex,
+) -> Named<'t> {
+    Named {
+        word,
+        name,
+        key: unique_name.unwrap_or(name),
+        is_forward: properties.forward_reference(),
+        underlying,
+    }
+}
+
+/// Returns what the record of a class, a union or an enumeration says of its name, or None for
+/// another record.
+pub(crate) fn named_of<'t>(value: &TypeData<'t>) -> Option<Named<'t>> {
+    let none = TypeIndex(0);
+    match value {
+        TypeData::Class(it) => {
+            Some(name_record(Word::Struct, it.properties, it.name, it.unique_name, none))
+        }
+        TypeData::Union(it) => Some(name_record(
+            Word::Union,
+            it.properties,
+            it.name,
+            it.unique_name,
+            none,
+        )),
+        TypeData::Enumeration(it) => Some(name_record(
+            Word::Enum,
+            it.properties,
+            it.name,
+            it.unique_name,
+            it.underlying_type,
+        )),
+        _ => None,
+    }
+}
+
+/// Returns the type of an index.
+///
+/// # Errors
+/// Fails as `OpenTable::item` and `Type::parse` do.
+pub(crate) fn type_at<'t>(
+    alloc: Global,
+    definitions: &Definitions<'t>,
+    index: TypeIndex,
+) -> Result<TypeData<'t>, Error> {
+    definitions.types().item(index)?.parse(alloc)
+}
+
+/// Returns the value of a record that is no list, if it can be read.
+fn value_at<'t>(
+    alloc: Global,
+    definitions: &Definitions<'t>,
+    index: TypeIndex,
+) -> AllocResult<Option<TypeData<'t>>> {
+    let Ok(item) = definitions.types().item(index) else {
+        return Ok(None);
+    };
+    let kind = item.raw_kind();
+    if kind == LF_FIELDLIST || kind == LF_ARGLIST || kind == LF_METHODLIST {
+        return Ok(None);
+    }
+    match item.parse(alloc) {
+        Ok(value) => Ok(Some(value)),
+        Err(Error::OutOfMemory) => Err(AllocError),
+        Err(_) => Ok(None),
+    }
+}
+
+/// Something that is found along a table.
+#[derive(Clone, Copy)]
+pub(crate) struct Found<'t> {
+    /// The index of the type.
+    pub(crate) index: TypeIndex,
+
+    /// What it says of its name.
+    pub(crate) named: Named<'t>,
+}
+
+/// What is found along a table.
+#[derive(Drop)]
+pub(crate) struct Walked<'t> {
+    /// Its classes, unions and enumerations, in its order.
+    pub(crate) found: Vec<Found<'t>>,
+
+    /// How many bytes a pointer has in the program, by the first one in the table.
+    pub(crate) pointer_size: u64,
+
+    /// The index behind that of the last record.
+    pub(crate) behind: u32,
+}
+
+/// Returns how many bytes a pointer has, if a record is of one of 4 or 8.
+fn pointer_size(value: &TypeData<'_>) -> Option<u64> {
+    match value {
+        TypeData::Pointer(pointer) => match (pointer.containing_class, pointer.attributes.size()) {
+            (None, 4) => Some(4),
+            (None, 8) => Some(8),
+            _ => None,
+        },
+        _ => None,
+    }
+}
+
+/// Walks along the table of definitions.
+///
+/// # Errors
+/// Fails if an allocation fails.
+pub(crate) fn walk<'t>(alloc: Global, definitions: &Definitions<'t>) -> AllocResult<Walked<'t>> {
+    let header = definitions.types().items().header();
+    let mut found = Vec::new(alloc);
+    let mut size = None;
+    let mut behind = header.minimum_index;
+    for number in header.minimum_index..header.maximum_index {
+        let index = TypeIndex(number);
+        // No record follows the first that is missing, whatever the header counts.
+        if definitions.types().item(index).is_err() {
+            break;
+        }
+        behind = number.saturating_add(1);
+        let Some(value) = value_at(alloc, definitions, index)? else {
+            continue;
+        };
+        size = size.or(pointer_size(&value));
+        if let Some(named) = named_of(&value) {
+            found.push(Found { index, named })?;
+        }
+    }
+    Ok(Walked {
+        found,
+        pointer_size: size.unwrap_or(8),
+        behind,
+    })
+}

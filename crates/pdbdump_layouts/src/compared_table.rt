@@ -1,0 +1,155 @@
+//! One of two tables that are compared.
+
+use crate::allowance::Allowance;
+use crate::classes::records_of;
+use crate::defined::{Defined, defined_by};
+use crate::pairing::NameIndex;
+use crate::version::Version;
+use pdb_base::{Error, FallibleIterator, TypeIndex};
+use pdb_tpi::{OpenTable, Type};
+use pdb_types::Definitions;
+use std::alloc::{AllocError, Global};
+
+/// Why definitions aren't compared.
+const TOO_MANY: &str = "comparison of so many fields, so that more is left out";
+
+/// One of two tables that are compared.
+#[derive(Drop)]
+pub struct ComparedTable<'t> {
+    /// What the file with the table is called.
+    pub(crate) path: &'t str,
+
+    /// How many bytes its records have.
+    pub(crate) bytes: usize,
+
+    /// The definitions of the table.
+    definitions: Definitions<'t>,
+
+    /// Those whose names are wanted, in the order of the table.
+    pub(crate) wanted: Vec<TypeIndex>,
+
+    /// The same by their names.
+    names: NameIndex,
+}
+
+/// Returns the definition that an item is. An item that can't be read is none.
+fn defined_in<'t>(alloc: Global, item: &Type<'t>) -> Result<Option<Defined<'t>>, AllocError> {
+    match item.parse(alloc) {
+        Ok(value) => Ok(defined_by(&value)),
+        Err(Error::OutOfMemory) => Err(AllocError),
+        Err(_) => Ok(None),
+    }
+}
+
+impl<'t> ComparedTable<'t> {
+    /// Finds the definitions of a table whose names are wanted: all if no name is given, in which
+    /// `*` and `?` are allowed. The path is that of the file, for what is reported of it.
+    ///
+    /// # Errors
+    /// Fails with the fault at which the walk along the table stops if that is before its end, and
+    /// with `OutOfMemory` if an allocation fails.
+    pub fn new(
+        alloc: Global,
+        path: &'t str,
+        types: &'t OpenTable<TypeIndex>,
+        wanted: &[&str],
+    ) -> Result<Self, Error> {
+        let definitions = Definitions::new(alloc, types)?;
+        let mut table = ComparedTable {
+            path,
+            bytes: 0,
+            definitions,
+            wanted: Vec::new(alloc),
+            names: NameIndex::new(alloc),
+        };
+        let mut items = types.items().iter();
+        for _ in 0..u64::MAX {
+            let Some(item) = items.next()? else {
+                break;
+            };
+            table.bytes = table.bytes.saturating_add(item.len());
+            let Some(defined) = defined_in(alloc, &item)? else {
+                continue;
+            };
+            if defined.is_wanted(wanted) {
+                table.wanted.push(item.index())?;
+                table.names.push(defined.hash(), item.index().0 as usize)?;
+            }
+        }
+        table.names.sort();
+        Ok(table)
+    }
+
+    /// Returns whether one of the definitions that are wanted has a name, which may be a pattern.
+    ///
+    /// # Errors
+    /// Fails if an allocation fails.
+    pub(crate) fn has(&self, alloc: Global, name: &str) -> Result<bool, AllocError> {
+        for index in &self.wanted {
+            let Ok(item) = self.definitions.types().item(*index) else {
+                continue;
+            };
+            if let Some(defined) = defined_in(alloc, &item)? {
+                if defined.is_wanted(&[name]) {
+                    return Ok(true);
+                }
+            }
+        }
+        Ok(false)
+    }
+
+    /// Returns the definition with an index.
+    ///
+    /// # Errors
+    /// Fails as `Version::at` does.
+    pub(crate) fn version(
+        &self,
+        alloc: Global,
+        index: TypeIndex,
+    ) -> Result<Option<Version<'_, 't>>, Error> {
+        Version::at(alloc, &self.definitions, index)
+    }
+
+    /// Takes the records of the fields of a definition from those that may yet be read.
+    ///
+    /// # Errors
+    /// Fails with `UnimplementedFeature` if there aren't as many, and with `OutOfMemory` if an
+    /// allocation fails.
+    pub(crate) fn take_records(
+        &self,
+        alloc: Global,
+        index: TypeIndex,
+        records: &mut Allowance,
+    ) -> Result<(), Error> {
+        let count = records_of(alloc, &self.definitions, index, records.left())?;
+        if records.take(count) {
+            Ok(())
+        } else {
+            Err(Error::UnimplementedFeature(TOO_MANY))
+        }
+    }
+
+    /// Returns the definition in this table that stands for one of another: that of its name, and
+    /// where several have the name the i-th for the i-th.
+    ///
+    /// # Errors
+    /// Fails as `Version::at` does.
+    pub(crate) fn counterpart(
+        &self,
+        alloc: Global,
+        other: &ComparedTable<'t>,
+        version: &Version<'_, 't>,
+    ) -> Result<Option<Version<'_, 't>>, Error> {
+        let number = version.index.0 as usize;
+        let found = other
+            .names
+            .counterpart(version.defined.hash(), number, &self.names);
+        let Some(Ok(index)) = found.map(u32::try_from) else {
+            return Ok(None);
+        };
+        match self.version(alloc, TypeIndex(index))? {
+            Some(own) if own.defined.is_namesake(&version.defined) => Ok(Some(own)),
+            _ => Ok(None),
+        }
+    }
+}
