@@ -15,13 +15,13 @@ use Rattle.pdb_base.specs.declared.error.Error.{Error}
 use Rattle.pdb_container.specs.declared.query.Query.{Query}
 use Rattle.pdb_container.specs.declared.query.Reply.{Reply}
 use Rattle.pdb_container.specs.declared.query.Reply.TheVariants as replies
-use Rattle.pdb_msf.specs.Header.{Head}
+use Rattle.pdb_msf.specs.Source.{State}
 use Rattle.pdb_output.specs.Output.{OutputState, Gets}
 use Rattle.pdbdump_rows.proofs.lemmas.Rows.{lines_more, lines_none}
 use Rattle.pdbdump_rows.specs.declared.form.Form.{Form}
 use Rattle.pdbdump_rows.specs.Rows.{AreRows, WritesLines}
 use Rattle.pdbdump_cli.specs.Asked.{AnswersAll, AnswersQuery, AreAnswered, AreLinesAnswered, AsksAll, IsBlockAnswered}
-use Rattle.pdbdump_cli.specs.Asked.{IsQuestionAnswered, IsKeptOpen, IsReady, IsReplied, is_answer}
+use Rattle.pdbdump_cli.specs.Asked.{IsQuestionAnswered, IsKeptOpen, IsReady, IsReplied, OpenedFile, file_of, is_answer}
 use Rattle.pdbdump_cli.specs.Questions.{Asking, asking, ends_line, query_in, questions_in, questions_of}
 
 -- ---- pieces of a text
@@ -116,65 +116,68 @@ questions_here text rest ended split =
     ap (λ (parts : List (List ℕ)). questions_of parts) split ∙ questions_append ended (rest ∷ [])
 
 -- a line that has an answer is a question that is answered
-answered_by : (file : List ℕ) (head : Head) (query : Option Query) (reply : Option Reply)
-    → IsReplied file head query reply → IsTrue (is_answer reply) → IsSomeAnd query (AnswersQuery file head)
-answered_by file head None reply is holds = absurd (false≢true (rw is at holds))
-answered_by file head (Some query) None is holds = absurd is
-answered_by file head (Some query) (Some (replies.Bytes stream)) is holds = (_, is)
-answered_by file head (Some query) (Some (replies.Record index kind name)) is holds = (_, is)
-answered_by file head (Some query) (Some (replies.Name name)) is holds = (_, is)
-answered_by file head (Some query) (Some (replies.Fields names)) is holds = (_, is)
-answered_by file head (Some query) (Some (replies.Ranges ranges)) (table, asked, is, are) holds = (_, is)
-answered_by file head (Some query) (Some (replies.Refused e)) is holds = absurd (false≢true holds)
+answered_by : (failed : Type 0) (file : OpenedFile) (query : Option Query) (reply : Option Reply)
+    → IsTrue file.is_fixed → IsReplied failed file query reply → IsTrue (is_answer reply)
+    → IsSomeAnd query (AnswersQuery file)
+answered_by failed file None reply fixed is holds = absurd (false≢true (rw is at holds))
+answered_by failed file (Some query) None fixed is holds = absurd is
+answered_by failed file (Some query) (Some (replies.Bytes stream)) fixed is holds = (_, is fixed)
+answered_by failed file (Some query) (Some (replies.Record index kind name)) fixed is holds = (_, is fixed)
+answered_by failed file (Some query) (Some (replies.Name name)) fixed is holds = (_, is fixed)
+answered_by failed file (Some query) (Some (replies.Fields names)) fixed is holds = (_, is fixed)
+answered_by failed file (Some query) (Some (replies.Ranges ranges)) fixed is holds =
+    let (table, asked, meant, are) = is fixed in
+    (_, meant)
+answered_by failed file (Some query) (Some (replies.Refused e)) fixed is holds = absurd (false≢true holds)
 
 -- some questions, and then others
-answered_append : (file : List ℕ) (head : Head) (first others : List Asking) (all next : Bool)
-    → AreAnswered file head first all → AreAnswered file head others next
-    → AreAnswered file head (first ++ others) (all && next)
-answered_append file head first others true next is are =
-    λ yes. All-append (IsQuestionAnswered file head) first others (is refl) (are yes)
-answered_append file head first others false next is are = λ yes. absurd (false≢true yes)
+answered_append : (file : OpenedFile) (first others : List Asking) (all next : Bool)
+    → AreAnswered file first all → AreAnswered file others next
+    → AreAnswered file (first ++ others) (all && next)
+answered_append file first others true next is are =
+    λ fixed yes. All-append (IsQuestionAnswered file) first others (is fixed refl) (are fixed yes)
+answered_append file first others false next is are = λ fixed yes. absurd (false≢true yes)
 
-module _ (form : Form) (file : List ℕ) (head : Head) where
+module _ (form : Form) (file : OpenedFile) where
   -- an empty line is no question
   pub none_answered : (line : List ℕ) (old : OutputState) → (length line == 0) ≡ true
-      → AnswersAll form file head (questions_of (line ∷ [])) old old (Ok true)
-  none_answered line old empty = rw empty (λ yes. All-nil (IsQuestionAnswered file head), lines_none form old)
+      → AnswersAll form file (questions_of (line ∷ [])) old old (Ok true)
+  none_answered line old empty = rw empty (λ fixed yes. All-nil (IsQuestionAnswered file), lines_none form old)
 
   -- the only question
-  pub one_answered : (line : List ℕ) (reply : Option Reply) (old new : OutputState) → (length line == 0) ≡ false
-      → IsReplied file head (query_in line) reply → WritesLines form old new (Ok tt)
-      → AnswersAll form file head (questions_of (line ∷ [])) old new (Ok (is_answer reply))
-  one_answered line reply old new some is lines = rw some (
-    λ yes. All-cons (IsQuestionAnswered file head) (asking line) [] (answered_by file head (query_in line) reply is yes)
-        (All-nil (IsQuestionAnswered file head)),
+  pub one_answered : (failed : Type 0) (line : List ℕ) (reply : Option Reply) (old new : OutputState)
+      → (length line == 0) ≡ false → IsReplied failed file (query_in line) reply → WritesLines form old new (Ok tt)
+      → AnswersAll form file (questions_of (line ∷ [])) old new (Ok (is_answer reply))
+  one_answered failed line reply old new some is lines = rw some (
+    λ fixed yes. All-cons (IsQuestionAnswered file) (asking line) []
+        (answered_by failed file (query_in line) reply fixed is yes) (All-nil (IsQuestionAnswered file)),
     lines,
   )
 
   -- the answers to some questions, and then to others
   answers_then : (first others : List Asking) (old now new : OutputState) (all next : Bool)
-      → AnswersAll form file head first old now (Ok all) → AnswersAll form file head others now new (Ok next)
-      → AnswersAll form file head (first ++ others) old new (Ok (all && next))
+      → AnswersAll form file first old now (Ok all) → AnswersAll form file others now new (Ok next)
+      → AnswersAll form file (first ++ others) old new (Ok (all && next))
   answers_then first others old now new all next is are = (
-    answered_append file head first others all next is.0 are.0,
+    answered_append file first others all next is.0 are.0,
     lines_more form old now new (Ok tt) are.1 is.1,
   )
 
   -- no line is read
   pub no_line : (now : OutputState) (rest : List ℕ) → slice_split ends_line rest ≡ rest ∷ []
-      → AreLinesAnswered form file head rest now now rest true
+      → AreLinesAnswered form file rest now now rest true
   no_line now rest whole =
       record {
         ended = [];
         split = whole;
-        answers = (λ yes. All-nil (IsQuestionAnswered file head), lines_none form now);
+        answers = (λ fixed yes. All-nil (IsQuestionAnswered file), lines_none form now);
       }
 
   -- more lines behind those that were answered
   lines_then : (text more rest left : List ℕ) (old now new : OutputState) (all next : Bool)
-      → slice_split ends_line rest ≡ rest ∷ [] → AreLinesAnswered form file head text old now rest all
-      → AreLinesAnswered form file head (rest ++ more) now new left next
-      → AreLinesAnswered form file head (text ++ more) old new left (all && next)
+      → slice_split ends_line rest ≡ rest ∷ [] → AreLinesAnswered form file text old now rest all
+      → AreLinesAnswered form file (rest ++ more) now new left next
+      → AreLinesAnswered form file (text ++ more) old new left (all && next)
   lines_then text more rest left old now new all next whole before these = record {
     ended = before.ended ++ these.ended;
     split =
@@ -188,17 +191,17 @@ module _ (form : Form) (file : List ℕ) (head : Head) where
 
   -- the line that the text ends in, behind those that have an end
   last_line : (text rest : List ℕ) (old now new : OutputState) (all next : Bool)
-      → AreLinesAnswered form file head text old now rest all
-      → AnswersAll form file head (questions_of (rest ∷ [])) now new (Ok next)
-      → AnswersAll form file head (questions_in text) old new (Ok (all && next))
+      → AreLinesAnswered form file text old now rest all
+      → AnswersAll form file (questions_of (rest ∷ [])) now new (Ok next)
+      → AnswersAll form file (questions_in text) old new (Ok (all && next))
   last_line text rest old now new all next before answers =
       rw (questions_here text rest before.ended before.split)
       (answers_then _ _ old now new all next before.answers answers)
 
   -- the lines are flushed
   lines_flushed : (text rest : List ℕ) (old now new : OutputState) (all : Bool)
-      → AreLinesAnswered form file head text old now rest all → Gets now new []
-      → AreLinesAnswered form file head text old new rest all
+      → AreLinesAnswered form file text old now rest all → Gets now new []
+      → AreLinesAnswered form file text old new rest all
   lines_flushed text rest old now new all before flushed =
       let nothing : WritesLines form now new (Ok tt)
       = record { text = []; holds = record { fronts = []; rows = AreRows.none }; written = flushed } in
@@ -210,87 +213,87 @@ module _ (form : Form) (file : List ℕ) (head : Head) where
 
 -- ---- a file that is asked
 
-pub stays : (before mid after : AskedFile) → IsKeptOpen before mid → IsKeptOpen mid after → IsKeptOpen before after
-stays before mid after first next = record {
-  form = next.form ∙ first.form;
-  bytes = next.bytes ∙ first.bytes;
-  head = next.head ∙ first.head;
-  ready = next.ready;
-}
+module _ {S : Type 0} (state : S → State) where
+  pub stays : (before mid after : AskedFile S) → IsKeptOpen state before mid → IsKeptOpen state mid after
+      → IsKeptOpen state before after
+  stays before mid after first next = record {
+    form = next.form ∙ first.form;
+    file = next.file ∙ first.file;
+    ready = next.ready;
+  }
 
--- a line that its last byte ends is answered
-pub line_taken : (before after : AskedFile) (byte : ℕ) (old new : OutputState) (result : Result Bool Error)
-    → IsReady before → ends_line byte ≡ true
-    → AnswersAll before.form before.file.source.items before.file.head (questions_of (before.rest.items ∷ [])) old new
-    result
-    → OnOk result (after.rest.items ≡ []) → IsBlockAnswered before after (byte ∷ []) old new result
-line_taken before after byte old new (Ok all) ready is answers none = rw none (record {
-  ended = before.rest.items ∷ [];
-  split = line_ends before.rest.items byte ready.unended is;
-  answers = answers;
-})
-line_taken before after byte old new (Err e) ready is answers none = answers
+  -- a line that its last byte ends is answered
+  pub line_taken : (before after : AskedFile S) (byte : ℕ) (old new : OutputState) (result : Result Bool Error)
+      → IsReady state before → ends_line byte ≡ true
+      → AnswersAll before.form (file_of state before) (questions_of (before.rest.items ∷ [])) old new result
+      → OnOk result (after.rest.items ≡ []) → IsBlockAnswered state before after (byte ∷ []) old new result
+  line_taken before after byte old new (Ok all) ready is answers none = rw none (record {
+    ended = before.rest.items ∷ [];
+    split = line_ends before.rest.items byte ready.unended is;
+    answers = answers;
+  })
+  line_taken before after byte old new (Err e) ready is answers none = answers
 
--- one byte more
-pub block_more : (before mid after : AskedFile) (block : List ℕ) (i d : ℕ) (old now new : OutputState) (all next : Bool)
-    → i < length block → IsKeptOpen before mid
-    → AreLinesAnswered before.form before.file.source.items before.file.head (before.rest.items ++ take i block) old now
-    mid.rest.items all
-    → IsBlockAnswered mid after (get_or block i d ∷ []) now new (Ok next)
-    → AreLinesAnswered before.form before.file.source.items before.file.head (before.rest.items ++ take (i + 1) block)
-    old new after.rest.items (all && next)
-block_more before mid after block i d old now new all next within kept lines these =
-    rw (take_more block i d within, ← append_assoc before.rest.items (take i block) (get_or block i d ∷ []))
-    (lines_then _ _ _ _ _ _ _ old now new all next kept.ready.unended lines
-    (rw (kept.form, kept.bytes, kept.head) at these))
+  -- one byte more
+  pub block_more : (before mid after : AskedFile S) (block : List ℕ) (i d : ℕ) (old now new : OutputState)
+      (all next : Bool) → i < length block → IsKeptOpen state before mid
+      → AreLinesAnswered before.form (file_of state before) (before.rest.items ++ take i block) old now mid.rest.items
+      all
+      → IsBlockAnswered state mid after (get_or block i d ∷ []) now new (Ok next)
+      → AreLinesAnswered before.form (file_of state before) (before.rest.items ++ take (i + 1) block) old new
+      after.rest.items (all && next)
+  block_more before mid after block i d old now new all next within kept lines these =
+      rw (take_more block i d within, ← append_assoc before.rest.items (take i block) (get_or block i d ∷ []))
+      (lines_then _ _ _ _ _ _ old now new all next kept.ready.unended lines (rw (kept.form, kept.file) at these))
 
--- ---- an input of questions
+  -- ---- an input of questions
 
--- the lines of what was read from an input so far
-pub record AreReadSoFar (before now : AskedFile) (had left : Option (List ℕ)) (old new : OutputState) (all : Bool)
-    : Type 0 where
-  pub text : List ℕ
-  pub read : Consumes had left text
-  pub lines : AreLinesAnswered before.form before.file.source.items before.file.head text old new now.rest.items all
+  -- the lines of what was read from an input so far
+  pub record AreReadSoFar (before now : AskedFile S) (had left : Option (List ℕ)) (old new : OutputState) (all : Bool)
+      : Type 0 where
+    pub text : List ℕ
+    pub read : Consumes had left text
+    pub lines : AreLinesAnswered before.form (file_of state before) text old new now.rest.items all
 
-pub nothing_read : (before : AskedFile) (had : Option (List ℕ)) (old : OutputState) → IsReady before
-    → before.rest.items ≡ [] → AreReadSoFar before before had had old old true
-nothing_read before had old ready none = record {
-  text = before.rest.items;
-  read = rw none (Consumes-nil had);
-  lines = no_line _ _ _ old before.rest.items ready.unended;
-}
+  pub nothing_read : (before : AskedFile S) (had : Option (List ℕ)) (old : OutputState) → IsReady state before
+      → before.rest.items ≡ [] → AreReadSoFar before before had had old old true
+  nothing_read before had old ready none = record {
+    text = before.rest.items;
+    read = rw none (Consumes-nil had);
+    lines = no_line _ _ old before.rest.items ready.unended;
+  }
 
--- what was written is flushed
-pub flushed_so_far : (before mid : AskedFile) (had left : Option (List ℕ)) (old now new : OutputState) (all : Bool)
-    → AreReadSoFar before mid had left old now all → Gets now new [] → AreReadSoFar before mid had left old new all
-flushed_so_far before mid had left old now new all so_far flushed = record {
-  text = so_far.text;
-  read = so_far.read;
-  lines = lines_flushed _ _ _ _ _ old now new all so_far.lines flushed;
-}
+  -- what was written is flushed
+  pub flushed_so_far : (before mid : AskedFile S) (had left : Option (List ℕ)) (old now new : OutputState) (all : Bool)
+      → AreReadSoFar before mid had left old now all → Gets now new [] → AreReadSoFar before mid had left old new all
+  flushed_so_far before mid had left old now new all so_far flushed = record {
+    text = so_far.text;
+    read = so_far.read;
+    lines = lines_flushed _ _ _ _ old now new all so_far.lines flushed;
+  }
 
--- the input has ended, and the last line is answered
-pub ends_so_far : (before mid : AskedFile) (had left end : Option (List ℕ)) (old now new : OutputState)
-    (all next : Bool) → IsKeptOpen before mid → AreReadSoFar before mid had left old now all → Consumes left end []
-    → IsAtEnd end
-    → AnswersAll mid.form mid.file.source.items mid.file.head (questions_of (mid.rest.items ∷ [])) now new (Ok next)
-    → AsksAll before.form before.file.source.items before.file.head had end old new (Ok (all && next))
-ends_so_far before mid had left end old now new all next kept so_far read is_end answers = (
-  so_far.text,
-  rw (append-nil so_far.text) at (Consumes-trans had left end so_far.text [] so_far.read read),
-  is_end,
-  last_line _ _ _ _ _ old now new all next so_far.lines (rw (kept.form, kept.bytes, kept.head) at answers),
-)
+  -- the input has ended, and the last line is answered
+  pub ends_so_far : (before mid : AskedFile S) (had left end : Option (List ℕ)) (old now new : OutputState)
+      (all next : Bool) → IsKeptOpen state before mid → AreReadSoFar before mid had left old now all
+      → Consumes left end [] → IsAtEnd end
+      → AnswersAll mid.form (file_of state mid) (questions_of (mid.rest.items ∷ [])) now new (Ok next)
+      → AsksAll before.form (file_of state before) had end old new (Ok (all && next))
+  ends_so_far before mid had left end old now new all next kept so_far read is_end answers = (
+    so_far.text,
+    rw (append-nil so_far.text) at (Consumes-trans had left end so_far.text [] so_far.read read),
+    is_end,
+    last_line _ _ _ _ old now new all next so_far.lines (rw (kept.form, kept.file) at answers),
+  )
 
--- a block more
-pub more_so_far : (before mid after : AskedFile) (had left end : Option (List ℕ)) (block : List ℕ)
-    (old now new : OutputState) (all next : Bool) → IsKeptOpen before mid → AreReadSoFar before mid had left old now all
-    → Consumes left end block → IsBlockAnswered mid after block now new (Ok next)
-    → AreReadSoFar before after had end old new (all && next)
-more_so_far before mid after had left end block old now new all next kept so_far read these = record {
-  text = so_far.text ++ block;
-  read = Consumes-trans had left end so_far.text block so_far.read read;
-  lines = lines_then _ _ _ so_far.text block _ _ old now new all next kept.ready.unended so_far.lines
-      (rw (kept.form, kept.bytes, kept.head) at these);
-}
+  -- a block more
+  pub more_so_far : (before mid after : AskedFile S) (had left end : Option (List ℕ)) (block : List ℕ)
+      (old now new : OutputState) (all next : Bool) → IsKeptOpen state before mid
+      → AreReadSoFar before mid had left old now all → Consumes left end block
+      → IsBlockAnswered state mid after block now new (Ok next)
+      → AreReadSoFar before after had end old new (all && next)
+  more_so_far before mid after had left end block old now new all next kept so_far read these = record {
+    text = so_far.text ++ block;
+    read = Consumes-trans had left end so_far.text block so_far.read read;
+    lines = lines_then _ _ so_far.text block _ _ old now new all next kept.ready.unended so_far.lines
+        (rw (kept.form, kept.file) at these);
+  }

@@ -1,4 +1,3 @@
 pub mod AnsweredLemmas
 pub mod DiffLemmas
-pub mod DoneLemmas
 pub mod ValidateLemmas

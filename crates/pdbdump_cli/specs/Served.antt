@@ -1,12 +1,14 @@
 -- What the program does with the file in an input, and how it ends.
-use Rattle.std.specs.Prelude.{◌≡◌, ℕ, Bool, true, false, List, Option, Result, Ok, Err, IfSome}
+use Rattle.std.specs.Prelude.{◌≡◌, ℕ, Bool, true, false, Result, Ok, Err}
 use Rattle.std.specs.Result.{result_and}
 use Rattle.std.specs.declared.io.ErrorKind.TheVariants as kinds
 use Rattle.std.specs.IoError.{error_kind}
 use Rattle.pdb_base.specs.declared.error.Error.{Error}
 use Rattle.pdb_base.specs.declared.error.Error.TheVariants.{IoError}
-use Rattle.pdb_cli.specs.Channels.{IsFaultReported, IsUnread}
+use Rattle.pdb_cli.specs.Channels.{IsFaultReported}
+use Rattle.pdb_msf.specs.Source.{State}
 use Rattle.pdb_output.specs.Output.{OutputState, Flushes, done_of}
+use Rattle.pdbdump_cli.specs.declared.input_file.InputFile.{InputFile}
 
 -- the reader of the output has closed it
 abbrev pub IsClosed : Error → Type 0
@@ -44,11 +46,8 @@ pub record IsEndedAs (answer : Result Bool Error) (written out' err err' : Outpu
   pub ends : IsEnded (done_of answer) written out' err err' ended
   pub is_status : status ≡ status_of answer ended
 
--- What the program did with the file in an input: it reported why the file can't be read, and wrote no output; or it
--- did with the file what is meant. If the bytes of the input are known, they are the file.
-pub data IsFileServed (does : List ℕ → Type 0) (had : Option (List ℕ)) (out out' err err' : OutputState) (status : ℕ)
-    : Type 0 where
-  unread : (fault : Error) → IsUnread fault → out' ≡ out → IsFaultReported fault err err' status
-      → IsFileServed does had out out' err err' status
-  read : (file : List ℕ) → IfSome had (λ bytes. file ≡ bytes) → does file
-      → IsFileServed does had out out' err err' status
+-- What the program did with a file: what is meant, or it reported why the file can't be opened, and wrote no output.
+abbrev pub IsServed : {S : Type 0} → (S → State) → (State → Type 0) → Result (InputFile S) Error → OutputState
+    → OutputState → OutputState → OutputState → ℕ → Type 0
+IsServed state does (Ok file) out out' err err' status = does (state file.source)
+IsServed state does (Err fault) out out' err err' status = (out' ≡ out) × IsFaultReported fault err err' status

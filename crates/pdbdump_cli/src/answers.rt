@@ -4,14 +4,15 @@ ghost use Rattle.std.specs.Prelude.{◌≡◌, ◌<◌, ◌≤◌, [], ◌∷◌
 ghost use Rattle.std.specs.Io.KnownBytes.{Consumes, IsAtEnd, Keeps};
 ghost use Rattle.pdb_cli.specs.Channels.{IsUnread};
 ghost use Rattle.pdb_base.specs.Memory.{FailsOnlyForMemory};
+ghost use Rattle.pdb_msf.specs.Source.{HasFailed};
 ghost use Rattle.pdbdump_cli.specs.Asked.{AnswersAll, AsksAll, IsAsked, IsBlockAnswered, IsKeptOpen, IsReady};
-ghost use Rattle.pdbdump_cli.specs.Asked.{IsReplied};
+ghost use Rattle.pdbdump_cli.specs.Asked.{IsReplied, file_of};
 ghost use Rattle.pdbdump_cli.specs.Questions.{query_in, questions_of};
 
 use crate::answer::{is_answer, write_answered};
 use crate::question::{is_line_end, query_in};
 use pdb_cli::MOST_READS;
-use pdb_container::{BigMSF, Error, OpenTables, Reply, Result, open_msf};
+use pdb_container::{BigMSF, OpenTables, Reply, Result, Source, open_msf};
 use pdb_output::Output;
 use pdbdump_rows::{Form, Line};
 use std::alloc::Global;
@@ -24,10 +25,10 @@ const BLOCK_SIZE: usize = 65_536;
 /// A file that stays open for questions, the tables that stay open between them, and what was read
 /// of a line that has not ended.
 #[derive(Drop)]
-pub struct AskedFile {
+pub struct AskedFile<S: Source> {
     alloc: Global,
     form: Form,
-    file: BigMSF<Vec<u8>>,
+    file: BigMSF<S>,
     tables: OpenTables,
     rest: Vec<u8>,
     line: Line,
@@ -55,14 +56,14 @@ fn read_block<R: Read>(input: &mut R, block: &mut [u8]) -> Result<usize>
     Err(io::Error::other("each read was interrupted").into())
 }
 
-impl AskedFile {
+impl<S: Source> AskedFile<S> {
     /// Returns the reply to the question of the line, or None if the line has no question.
     fn reply(&mut self) -> Result<Option<Reply>>
-        requires ready { IsReady self.old }
-        ensures reply { IfOk result (IsReplied self.old.file.source.items self.old.file.head
-            (query_in self.old.rest.items)) }
+        requires ready { IsReady S.state self.old }
+        ensures reply { IfOk result (IsReplied (HasFailed (S.state self.old.file.source) (S.state self.new.file.source))
+            (file_of S.state self.old) (query_in self.old.rest.items)) }
         ensures memory { FailsOnlyForMemory result }
-        ensures kept { IsKeptOpen self.old self.new }
+        ensures kept { IsKeptOpen S.state self.old self.new }
         ensures rest { self.new.rest ≡ self.old.rest }
     {
         match query_in(self.alloc, &self.rest)? {
@@ -74,10 +75,10 @@ impl AskedFile {
     /// Writes the line and the answer to its question, unless the line is empty. Returns whether
     /// the question is answered, if there is one.
     fn answer_line<W: Write>(&mut self, out: &mut Output<W>) -> Result<bool>
-        requires ready { IsReady self.old }
-        ensures answer { AnswersAll self.old.form self.old.file.source.items self.old.file.head
+        requires ready { IsReady S.state self.old }
+        ensures answer { AnswersAll self.old.form (file_of S.state self.old)
             (questions_of (self.old.rest.items ∷ [])) out.old out.new result }
-        ensures kept { OnOk result (IsKeptOpen self.old self.new) }
+        ensures kept { OnOk result (IsKeptOpen S.state self.old self.new) }
         ensures rest { OnOk result (self.new.rest.items ≡ []) }
     {
         if self.rest.is_empty() {
@@ -99,9 +100,9 @@ impl AskedFile {
     /// Adds a byte to the line, or answers the line if the byte ends it. Returns whether its
     /// question is answered, if there is one.
     fn take_byte<W: Write>(&mut self, byte: u8, out: &mut Output<W>) -> Result<bool>
-        requires ready { IsReady self.old }
-        ensures answers { IsBlockAnswered self.old self.new (byte ∷ []) out.old out.new result }
-        ensures kept { OnOk result (IsKeptOpen self.old self.new) }
+        requires ready { IsReady S.state self.old }
+        ensures answers { IsBlockAnswered S.state self.old self.new (byte ∷ []) out.old out.new result }
+        ensures kept { OnOk result (IsKeptOpen S.state self.old self.new) }
     {
         if is_line_end(byte) {
             return self.answer_line(out);
@@ -113,9 +114,9 @@ impl AskedFile {
     /// Answers the questions of the lines that end in a block of bytes, and keeps what follows
     /// them. Returns whether all are answered.
     fn answer_block<W: Write>(&mut self, block: &[u8], out: &mut Output<W>) -> Result<bool>
-        requires ready { IsReady self.old }
-        ensures answers { IsBlockAnswered self.old self.new block.now out.old out.new result }
-        ensures kept { OnOk result (IsKeptOpen self.old self.new) }
+        requires ready { IsReady S.state self.old }
+        ensures answers { IsBlockAnswered S.state self.old self.new block.now out.old out.new result }
+        ensures kept { OnOk result (IsKeptOpen S.state self.old self.new) }
     {
         let mut all = true;
         for byte in block {
@@ -132,10 +133,10 @@ impl AskedFile {
         block: &mut [u8],
         out: &mut Output<W>,
     ) -> Result<bool>
-        requires ready { IsReady self.old }
+        requires ready { IsReady S.state self.old }
         requires none { self.old.rest.items ≡ [] }
         requires room { 0 < length block.old }
-        ensures { AsksAll self.old.form self.old.file.source.items self.old.file.head
+        ensures { AsksAll self.old.form (file_of S.state self.old)
             (Q.remaining questions.old) (Q.remaining questions.new) out.old out.new result }
     {
         let mut all = true;
@@ -163,20 +164,17 @@ impl AskedFile {
 /// Fails as `open_msf` does for the file, before a question is read; with `IoError` if a read of
 /// the questions fails, behind the answers to those that were read, or if the writer fails; and
 /// with `OutOfMemory` if an allocation for the file, a question or an answer fails.
-pub fn ask<Q: Read, W: Write>(
+pub fn ask<S: Source + Drop, Q: Read, W: Write>(
     alloc: Global,
-    file: Vec<u8>,
+    file: S,
     questions: &mut Q,
     form: Form,
     out: &mut Output<W>,
 ) -> Result<bool>
-    ensures { IsAsked form file.items (Q.remaining questions.old) (Q.remaining questions.new)
+    ensures { IsAsked form (S.state file) (Q.remaining questions.old) (Q.remaining questions.new)
         out.old out.new result }
 {
-    let file = match open_msf(alloc, file) {
-        Ok(file) => file,
-        Err(fault) => return Err(fault),
-    };
+    let file = open_msf(alloc, file)?;
     let mut block = vec![in alloc; 0; BLOCK_SIZE]?;
     let mut asked = AskedFile {
         alloc,

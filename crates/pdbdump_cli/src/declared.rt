@@ -3,6 +3,7 @@
 ghost use Rattle.pdbdump_cli.specs.LaidOut.{AreLaidOut};
 
 use crate::command::Declarations;
+use crate::input_file::InputFile;
 use crate::laid_out::type_stream;
 use pdb_container::{Result, Source};
 use pdb_output::Output;
@@ -14,13 +15,13 @@ use std::io::Write;
 /// out.
 pub(crate) fn declare_in<S: Source + Drop, O: Write, E: Write>(
     alloc: Global,
-    source: S,
+    file: InputFile<S>,
     asked: &Declarations<'_>,
     out: &mut Output<O>,
     err: &mut Output<E>,
 ) -> Result<bool>
-    ensures { AreLaidOut (S.state source) out.old out.new err.old err.new result }
+    ensures { AreLaidOut (S.state file.source) out.old out.new err.old err.new result }
 {
-    let stream = type_stream(alloc, source)?;
+    let stream = type_stream(alloc, file.source)?;
     declare(alloc, stream, asked.names, &asked.options, out, err)
 }

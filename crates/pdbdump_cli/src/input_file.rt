@@ -1,14 +1,43 @@
 //! A file whose bytes are read as they are needed.
 
-ghost use Rattle.std.specs.Prelude.{◌≡◌, IfOk};
-ghost use Rattle.pdb_msf.specs.Source.{IsKept};
-ghost use Rattle.pdbdump_cli.specs.InputFile.{IsFront};
+ghost use Rattle.std.specs.Prelude.{◌≡◌, IfErr, IfOk, IfSome};
+ghost use Rattle.pdb_cli.specs.Channels.{IsUnread};
+ghost use Rattle.pdb_msf.specs.Source.{IsKept, in_memory};
+ghost use Rattle.pdbdump_cli.specs.InputFile.{IsFront, bytes_state};
 
+use pdb_cli::read_all;
 use pdb_container::{Error, Result, Source};
 use pdb_msf::{ReadView, SourceSlice};
 use std::alloc::Global;
 use std::io;
-use std::io::ErrorKind;
+use std::io::{ErrorKind, Read};
+
+/// The bytes of a file: in memory, or in a source that is read as they are needed.
+#[derive(Drop)]
+pub enum FileBytes<S> {
+    /// The file was read whole.
+    Memory(Vec<u8>),
+    /// The file is read as its bytes are needed.
+    Stored(S),
+}
+
+impl<S: Source + Drop> Source for FileBytes<S> {
+    ghost state = { bytes_state S.state };
+
+    fn view(&mut self, alloc: Global, slices: &[SourceSlice]) -> io::Result<ReadView> {
+        match self {
+            FileBytes::Memory(bytes) => bytes.view(alloc, slices),
+            FileBytes::Stored(source) => source.view(alloc, slices),
+        }
+    }
+
+    fn into_view(self, alloc: Global, slices: &[SourceSlice]) -> io::Result<ReadView> {
+        match self {
+            FileBytes::Memory(bytes) => bytes.into_view(alloc, slices),
+            FileBytes::Stored(source) => source.into_view(alloc, slices),
+        }
+    }
+}
 
 /// A file that is open: the source of its bytes, and its size.
 #[derive(Drop)]
@@ -37,14 +66,22 @@ fn first(size: u64) -> SourceSlice
     }
 }
 
-/// Returns a file in memory.
-pub fn in_memory(bytes: Vec<u8>) -> InputFile<Vec<u8>>
-    ensures { result.source ≡ bytes }
-{
-    let size = bytes.len() as u64;
-    InputFile {
-        source: bytes,
-        size,
+impl<S: Source + Drop> InputFile<FileBytes<S>> {
+    /// Reads the file in an input to its end.
+    ///
+    /// # Errors
+    /// Fails as `read_all` does.
+    pub fn read_whole<I: Read>(alloc: Global, input: &mut I) -> Result<Self>
+        ensures bytes { IfOk result (λ file. IfSome (I.remaining input.old) (λ bytes.
+            bytes_state S.state file.source ≡ in_memory bytes)) }
+        ensures unread { IfErr result IsUnread }
+    {
+        let bytes = read_all(alloc, input)?;
+        let size = bytes.len() as u64;
+        Ok(InputFile {
+            source: FileBytes::Memory(bytes),
+            size,
+        })
     }
 }
 

@@ -4,6 +4,7 @@ ghost use Rattle.pdbdump_cli.specs.LaidOut.{AreLaidOut, type_bytes};
 ghost use Rattle.pdbdump_tables.specs.Reading.{Reads};
 
 use crate::command::Layouts;
+use crate::input_file::InputFile;
 use pdb_base::Stream;
 use pdb_container::{PDB, Result, Source};
 use pdb_file::TYPE_STREAM;
@@ -26,14 +27,14 @@ pub(crate) fn type_stream<S: Source + Drop>(alloc: Global, source: S) -> Result<
 /// an error.
 pub(crate) fn show_in<S: Source + Drop, O: Write, E: Write>(
     alloc: Global,
-    source: S,
+    file: InputFile<S>,
     asked: &Layouts<'_>,
     form: Form,
     out: &mut Output<O>,
     err: &mut Output<E>,
 ) -> Result<bool>
-    ensures { AreLaidOut (S.state source) out.old out.new err.old err.new result }
+    ensures { AreLaidOut (S.state file.source) out.old out.new err.old err.new result }
 {
-    let stream = type_stream(alloc, source)?;
+    let stream = type_stream(alloc, file.source)?;
     show_layouts(alloc, stream, asked.names, &asked.options, form, out, err)
 }

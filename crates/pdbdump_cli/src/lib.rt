@@ -38,10 +38,10 @@ pub use command::{
 pub use declare_words::declarations_of;
 pub use diff_words::diff_of;
 pub use id_words::identify_of;
-pub use input_file::{InputFile, in_memory};
+pub use input_file::{FileBytes, InputFile};
 pub use layout_words::layouts_of;
 pub use listed::list;
 pub use process::program;
-pub use request::{serve, serve_opened};
+pub use request::serve;
 pub use validate_words::validate_of;
 pub use words::{any_is, call_of, extract_of, first_verb, plain_words, verb_named};

@@ -7,19 +7,19 @@ use crate::diff_words::diff_of;
 use crate::diffed::{refuse, serve_diff};
 use crate::help::{HELP, meaning_of, usage_of};
 use crate::id_words::{WordsApart, identify_of, words_apart};
-use crate::input_file::InputFile;
+use crate::input_file::{FileBytes, InputFile};
 use crate::laid_out::type_stream;
 use crate::layout_words::layouts_of;
-use crate::request::{serve, serve_opened};
+use crate::request::serve;
 use crate::validate_words::validate_of;
 use crate::words::{any_is, call_of, extract_of, first_verb, plain_words};
 use pdb_base::Stream;
-use pdb_cli::{Errors, read_all, tell, texts_of, words_of};
+use pdb_cli::{Errors, tell, texts_of, words_of};
 use pdb_container::{Error, FileSource, Result};
 use pdb_msf::SeekFile;
 use pdb_output::Output;
 use pdbdump_rows::Form;
-use std::io::{BufWriter, ErrorKind, Read, Seek, SeekFrom, Write};
+use std::io::{BufWriter, ErrorKind, Seek, SeekFrom};
 use std::rt::{Env, Files};
 use std::{env, fs, io};
 
@@ -28,6 +28,9 @@ const BUFFER_SIZE: usize = 65_536;
 
 /// The status of a call whose words ask nothing.
 const MISUSED: u8 = 2;
+
+/// A file that a process has opened.
+type ProcessFile<F> = InputFile<FileBytes<FileSource<SeekFile<F>>>>;
 
 /// Prints how the program is called, or how one command is.
 fn print_help<P: Print>(process: &P, words: &[&str]) -> Result<u8> {
@@ -77,6 +80,25 @@ fn told_size<F: Seek>(file: &mut F) -> Option<u64> {
     }
 }
 
+/// Opens the file at a path, or reads the one in standard input if the path is `-`.
+fn open_file<P: Files + Input + AllocGlobal>(
+    process: &P,
+    path: &str,
+) -> Result<ProcessFile<P::File>> {
+    let alloc = process.alloc();
+    if path == "-" {
+        return InputFile::read_whole(alloc, &mut process.reader());
+    }
+    let mut input = fs::open(process, path)?;
+    match told_size(&mut input) {
+        Some(size) => {
+            let source = FileBytes::Stored(FileSource::new(SeekFile::new(input))?);
+            Ok(InputFile { source, size })
+        }
+        None => InputFile::read_whole(alloc, &mut input),
+    }
+}
+
 /// Serves a request for the file at a path, or for the one in standard input if the path is `-`.
 fn serve_file<P: Files + Input + Print + Eprint + AllocGlobal>(
     process: &P,
@@ -88,22 +110,8 @@ fn serve_file<P: Files + Input + Print + Eprint + AllocGlobal>(
     let buffer = BufWriter::with_capacity(alloc, BUFFER_SIZE, io::writer(process))?;
     let mut out = Output::new(buffer);
     let mut err = Output::new(Errors { process });
-    if path == "-" {
-        let mut input = process.reader();
-        return Ok(serve(alloc, request, form, &mut input, &mut out, &mut err));
-    }
-    let mut input = match fs::open(process, path) {
-        Ok(input) => input,
-        Err(fault) => return Ok(tell(alloc, &Error::from(fault), &mut err)),
-    };
-    match told_size(&mut input) {
-        Some(size) => {
-            let source = FileSource::new(SeekFile::new(input))?;
-            let file = InputFile { source, size };
-            Ok(serve_opened(alloc, request, form, file, &mut out, &mut err))
-        }
-        None => Ok(serve(alloc, request, form, &mut input, &mut out, &mut err)),
-    }
+    let file = open_file(process, path);
+    Ok(serve(alloc, request, form, file, &mut out, &mut err))
 }
 
 /// Answers the questions on standard input about the file at a path.
@@ -117,17 +125,8 @@ fn answer_questions<P: Files + Input + Print + Eprint + AllocGlobal>(
     let mut out = Output::new(buffer);
     let mut err = Output::new(Errors { process });
     let mut questions = process.reader();
-    match fs::open(process, path) {
-        Ok(mut input) => Ok(serve_questions(
-            alloc,
-            form,
-            &mut input,
-            &mut questions,
-            &mut out,
-            &mut err,
-        )),
-        Err(fault) => Ok(tell(alloc, &Error::from(fault), &mut err)),
-    }
+    let file = open_file(process, path);
+    Ok(serve_questions(alloc, form, file, &mut questions, &mut out, &mut err))
 }
 
 /// Does what the words after `validate` ask: looks at each file, and returns the highest status.
@@ -163,15 +162,8 @@ fn call_layout<P: Files + Input + Print + Eprint + AllocGlobal>(
 /// Returns the stream of types of the file at a path, or of the one in standard input if the path is
 /// `-`.
 fn types_at<P: Files + Input + AllocGlobal>(process: &P, path: &str) -> Result<Stream> {
-    let alloc = process.alloc();
-    if path == "-" {
-        return type_stream(alloc, read_all(alloc, &mut process.reader())?);
-    }
-    let mut input = fs::open(process, path)?;
-    match told_size(&mut input) {
-        Some(_) => type_stream(alloc, FileSource::new(SeekFile::new(input))?),
-        None => type_stream(alloc, read_all(alloc, &mut input)?),
-    }
+    let file = open_file(process, path)?;
+    type_stream(process.alloc(), file.source)
 }
 
 /// Compares the types of two files.

@@ -1,30 +1,29 @@
 //! A request for one file, between the channels of the program.
 
-ghost use Rattle.pdb_msf.specs.Source.{in_memory};
 ghost use Rattle.pdbdump_cli.specs.Requests.{IsDone};
-ghost use Rattle.pdbdump_cli.specs.Served.{IsFileServed};
+ghost use Rattle.pdbdump_cli.specs.Served.{IsServed};
 
 use crate::command::Request;
 use crate::declared::declare_in;
 use crate::identified::serve_id;
-use crate::input_file::{InputFile, in_memory};
+use crate::input_file::InputFile;
 use crate::laid_out::show_in;
 use crate::listed::list;
 use crate::served::{end, end_as};
 use crate::validated::judge;
-use pdb_cli::{read_all, tell};
-use pdb_container::Source;
+use pdb_cli::tell;
+use pdb_container::{Result, Source};
 use pdb_output::Output;
 use pdbdump_rows::Form;
 use std::alloc::Global;
-use std::io::{Read, Write};
+use std::io::Write;
 
 /// Serves a request for a file that is open, of which it reads what it needs. Returns the status with
 /// which the program ends: 1 if the file is of another format than `id` reads, or not the expected
 /// one, if `validate` finds an error in it, or with `--strict` a warning, or if a layout or a type to
 /// declare wasn't found; or after a fault of the file or of a channel, which is written to the error
 /// channel, behind what was written before it, unless it is that the output was closed.
-pub fn serve_opened<S: Source + Drop, O: Write, E: Write>(
+fn serve_opened<S: Source + Drop, O: Write, E: Write>(
     alloc: Global,
     request: &Request<'_>,
     form: Form,
@@ -40,40 +39,32 @@ pub fn serve_opened<S: Source + Drop, O: Write, E: Write>(
             end(alloc, listed, out, err)
         }
         Request::Identify(asked) => serve_id(alloc, file, asked, form, out, err),
-        Request::Validate(options, path) => judge(
-            alloc,
-            *options,
-            form,
-            path,
-            file.source,
-            out,
-            err,
-        ),
+        Request::Validate(options, path) => judge(alloc, *options, form, path, file, out, err),
         Request::Layout(asked) => {
-            let shown = show_in(alloc, file.source, asked, form, out, err);
+            let shown = show_in(alloc, file, asked, form, out, err);
             end_as(alloc, shown, out, err)
         }
         Request::Declare(asked) => {
-            let declared = declare_in(alloc, file.source, asked, out, err);
+            let declared = declare_in(alloc, file, asked, out, err);
             end_as(alloc, declared, out, err)
         }
     }
 }
 
-/// Reads a file from the input and serves a request for it, as `serve_opened` does.
-pub fn serve<I: Read, O: Write, E: Write>(
+/// Serves a request for a file as `serve_opened` does, or reports why it can't be opened.
+pub fn serve<S: Source + Drop, O: Write, E: Write>(
     alloc: Global,
     request: &Request<'_>,
     form: Form,
-    input: &mut I,
+    opened: Result<InputFile<S>>,
     out: &mut Output<O>,
     err: &mut Output<E>,
 ) -> u8
-    ensures { IsFileServed (λ file. IsDone form request.now (in_memory file) out.old out.new err.old err.new result)
-        (I.remaining input.old) out.old out.new err.old err.new result }
+    ensures { IsServed S.state (λ file. IsDone form request.now file out.old out.new err.old err.new result)
+        opened out.old out.new err.old err.new result }
 {
-    match read_all(alloc, input) {
-        Ok(file) => serve_opened(alloc, request, form, in_memory(file), out, err),
-        Err(unread) => tell(alloc, &unread, err),
+    match opened {
+        Ok(file) => serve_opened(alloc, request, form, file, out, err),
+        Err(unopened) => tell(alloc, &unopened, err),
     }
 }

@@ -6,6 +6,7 @@ ghost use Rattle.pdbdump_cli.specs.Validated.{AreFindingsWritten, HasPassed, IsC
 
 use crate::command::ValidateOptions;
 use crate::finding_lines::{counts_of, validate_lines};
+use crate::input_file::InputFile;
 use crate::served::end;
 use pdb_cli::tell;
 use pdb_container::{Result, Source};
@@ -69,13 +70,13 @@ pub(crate) fn judge<S: Source + Drop, O: Write, E: Write>(
     options: ValidateOptions,
     form: Form,
     path: &str,
-    source: S,
+    file: InputFile<S>,
     out: &mut Output<O>,
     err: &mut Output<E>,
 ) -> u8
-    ensures { IsValidatedIn options form (S.state source) out.old out.new err.old err.new result }
+    ensures { IsValidatedIn options form (S.state file.source) out.old out.new err.old err.new result }
 {
-    match validate(alloc, source, options.extent) {
+    match validate(alloc, file.source, options.extent) {
         Ok(findings) => conclude(alloc, options, form, path, &findings, out, err),
         Err(fault) => tell(alloc, &fault, err),
     }

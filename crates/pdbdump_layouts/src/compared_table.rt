@@ -3,9 +3,9 @@
 use crate::allowance::Allowance;
 use crate::classes::records_of;
 use crate::defined::{Defined, defined_by};
-use crate::pairing::NameIndex;
 use crate::version::Version;
 use pdb_base::{Error, FallibleIterator, TypeIndex};
+use pdb_tpi::constants::{LF_ARGLIST, LF_FIELDLIST, LF_METHODLIST};
 use pdb_tpi::{OpenTable, Type};
 use pdb_types::Definitions;
 use std::alloc::{AllocError, Global};
@@ -28,12 +28,16 @@ pub struct ComparedTable<'t> {
     /// Those whose names are wanted, in the order of the table.
     pub(crate) wanted: Vec<TypeIndex>,
 
-    /// The same by their names.
-    names: NameIndex,
+    /// The hashes of the names by which these are paired with others.
+    pub(crate) hashes: Vec<u64>,
 }
 
-/// Returns the definition that an item is. An item that can't be read is none.
+/// Returns the definition that an item is. An item that can't be read is none, and nor is a list,
+/// which isn't read.
 fn defined_in<'t>(alloc: Global, item: &Type<'t>) -> Result<Option<Defined<'t>>, AllocError> {
+    if matches!(item.raw_kind(), LF_FIELDLIST | LF_ARGLIST | LF_METHODLIST) {
+        return Ok(None);
+    }
     match item.parse(alloc) {
         Ok(value) => Ok(defined_by(&value)),
         Err(Error::OutOfMemory) => Err(AllocError),
@@ -60,7 +64,7 @@ impl<'t> ComparedTable<'t> {
             bytes: 0,
             definitions,
             wanted: Vec::new(alloc),
-            names: NameIndex::new(alloc),
+            hashes: Vec::new(alloc),
         };
         let mut items = types.items().iter();
         for _ in 0..u64::MAX {
@@ -73,10 +77,9 @@ impl<'t> ComparedTable<'t> {
             };
             if defined.is_wanted(wanted) {
                 table.wanted.push(item.index())?;
-                table.names.push(defined.hash(), item.index().0 as usize)?;
+                table.hashes.push(defined.hash())?;
             }
         }
-        table.names.sort();
         Ok(table)
     }
 
@@ -126,30 +129,6 @@ impl<'t> ComparedTable<'t> {
             Ok(())
         } else {
             Err(Error::UnimplementedFeature(TOO_MANY))
-        }
-    }
-
-    /// Returns the definition in this table that stands for one of another: that of its name, and
-    /// where several have the name the i-th for the i-th.
-    ///
-    /// # Errors
-    /// Fails as `Version::at` does.
-    pub(crate) fn counterpart(
-        &self,
-        alloc: Global,
-        other: &ComparedTable<'t>,
-        version: &Version<'_, 't>,
-    ) -> Result<Option<Version<'_, 't>>, Error> {
-        let number = version.index.0 as usize;
-        let found = other
-            .names
-            .counterpart(version.defined.hash(), number, &self.names);
-        let Some(Ok(index)) = found.map(u32::try_from) else {
-            return Ok(None);
-        };
-        match self.version(alloc, TypeIndex(index))? {
-            Some(own) if own.defined.is_namesake(&version.defined) => Ok(Some(own)),
-            _ => Ok(None),
         }
     }
 }

@@ -9,6 +9,7 @@ use crate::allowance::Allowance;
 use crate::compared_table::ComparedTable;
 use crate::difference_json::difference_object;
 use crate::difference_text::difference_text;
+use crate::pairing::Pairing;
 use crate::part_change::{PartChange, part_changes};
 use crate::progress::{Progress, tell, write_layout};
 use crate::text_allowance::TextAllowance;
@@ -82,47 +83,85 @@ fn counts(comparison: Comparison, is_layout_only: bool) -> bool
     }
 }
 
-/// Returns what became of a definition, or None if nothing that counts did.
-fn change_of(
-    alloc: Global,
-    old: &ComparedTable<'_>,
-    new: &ComparedTable<'_>,
-    index: TypeIndex,
-    options: &DiffOptions,
-    records: &mut Allowance,
-    texts: &mut TextAllowance,
-) -> Result<Option<Vec<u8>>, Error> {
-    let Some(was) = old.version(alloc, index)? else {
-        return Ok(None);
-    };
-    let Some(is) = new.counterpart(alloc, old, &was)? else {
-        return Ok(Some(shown(alloc, Some(&was), None, &[], options.form, texts)?));
-    };
-    old.take_records(alloc, index, records)?;
-    new.take_records(alloc, is.index, records)?;
-    let comparison = compare(alloc, was.definitions, index, is.definitions, is.index)?;
-    if !counts(comparison, options.is_layout_only) {
-        return Ok(None);
-    }
-    let changes = part_changes(alloc, &was, &is, options.is_layout_only, texts)?;
-    Ok(Some(shown(alloc, Some(&was), Some(&is), &changes, options.form, texts)?))
+/// Two tables that are compared, and which of the definitions that are wanted of each stand for each
+/// other.
+#[derive(Drop)]
+struct Tables<'c, 't> {
+    old: &'c ComparedTable<'t>,
+    new: &'c ComparedTable<'t>,
+    pairing: Pairing,
 }
 
-/// Returns a definition that came, or None if it was there.
-fn arrival_of(
-    alloc: Global,
-    old: &ComparedTable<'_>,
-    new: &ComparedTable<'_>,
-    index: TypeIndex,
-    form: Form,
-    texts: &mut TextAllowance,
-) -> Result<Option<Vec<u8>>, Error> {
-    let Some(is) = new.version(alloc, index)? else {
-        return Ok(None);
-    };
-    match old.counterpart(alloc, new, &is)? {
-        Some(_) => Ok(None),
-        None => Ok(Some(shown(alloc, None, Some(&is), &[], form, texts)?)),
+impl<'c, 't> Tables<'c, 't> {
+    /// Returns the new definition that stands for an old one, which has this number among those that
+    /// are wanted.
+    ///
+    /// # Errors
+    /// Fails as `Version::at` does.
+    fn counterpart(
+        &mut self,
+        alloc: Global,
+        number: usize,
+        was: &Version<'_, 't>,
+    ) -> Result<Option<Version<'c, 't>>, Error> {
+        let Some(other) = self.pairing.second(number) else {
+            return Ok(None);
+        };
+        let Some(index) = self.new.wanted.get(other) else {
+            return Ok(None);
+        };
+        match self.new.version(alloc, *index)? {
+            Some(is) if is.defined.is_namesake(&was.defined) => Ok(Some(is)),
+            _ => {
+                self.pairing.part(other);
+                Ok(None)
+            }
+        }
+    }
+
+    /// Returns what became of an old definition, which has this number among those that are wanted,
+    /// or None if nothing that counts did.
+    fn change_of(
+        &mut self,
+        alloc: Global,
+        number: usize,
+        index: TypeIndex,
+        options: &DiffOptions,
+        records: &mut Allowance,
+        texts: &mut TextAllowance,
+    ) -> Result<Option<Vec<u8>>, Error> {
+        let Some(was) = self.old.version(alloc, index)? else {
+            return Ok(None);
+        };
+        let Some(is) = self.counterpart(alloc, number, &was)? else {
+            return Ok(Some(shown(alloc, Some(&was), None, &[], options.form, texts)?));
+        };
+        self.old.take_records(alloc, index, records)?;
+        self.new.take_records(alloc, is.index, records)?;
+        let comparison = compare(alloc, was.definitions, index, is.definitions, is.index)?;
+        if !counts(comparison, options.is_layout_only) {
+            return Ok(None);
+        }
+        let changes = part_changes(alloc, &was, &is, options.is_layout_only, texts)?;
+        Ok(Some(shown(alloc, Some(&was), Some(&is), &changes, options.form, texts)?))
+    }
+
+    /// Returns the new definition with this number among those that are wanted, if it came.
+    fn arrival_of(
+        &self,
+        alloc: Global,
+        number: usize,
+        index: TypeIndex,
+        form: Form,
+        texts: &mut TextAllowance,
+    ) -> Result<Option<Vec<u8>>, Error> {
+        if self.pairing.is_paired(number) {
+            return Ok(None);
+        }
+        match self.new.version(alloc, index)? {
+            Some(is) => Ok(Some(shown(alloc, None, Some(&is), &[], form, texts)?)),
+            None => Ok(None),
+        }
     }
 }
 
@@ -172,8 +211,7 @@ fn write_change<O: Write, E: Write>(
 /// Shows the definitions of the old table that went or changed.
 fn show_changes<O: Write, E: Write>(
     alloc: Global,
-    old: &ComparedTable<'_>,
-    new: &ComparedTable<'_>,
+    tables: &mut Tables<'_, '_>,
     options: &DiffOptions,
     progress: &mut Progress,
     out: &mut Output<O>,
@@ -182,16 +220,10 @@ fn show_changes<O: Write, E: Write>(
     ensures compares { OnOk result (Compares progress.old progress.new out.old out.new err.old err.new) }
     ensures stopped { IsStopped out.new result }
 {
-    for index in &old.wanted {
-        let change = change_of(
-            alloc,
-            old,
-            new,
-            *index,
-            options,
-            &mut progress.records,
-            &mut progress.texts,
-        );
+    let old = tables.old;
+    for (number, index) in old.wanted.iter().enumerate() {
+        let records = &mut progress.records;
+        let change = tables.change_of(alloc, number, *index, options, records, &mut progress.texts);
         let subject = Subject {
             path: old.path,
             index: *index,
@@ -207,8 +239,7 @@ fn show_changes<O: Write, E: Write>(
 /// Shows the definitions of the new table that came.
 fn show_arrivals<O: Write, E: Write>(
     alloc: Global,
-    old: &ComparedTable<'_>,
-    new: &ComparedTable<'_>,
+    tables: &Tables<'_, '_>,
     form: Form,
     progress: &mut Progress,
     out: &mut Output<O>,
@@ -217,10 +248,10 @@ fn show_arrivals<O: Write, E: Write>(
     ensures compares { OnOk result (Compares progress.old progress.new out.old out.new err.old err.new) }
     ensures stopped { IsStopped out.new result }
 {
-    for index in &new.wanted {
-        let change = arrival_of(alloc, old, new, *index, form, &mut progress.texts);
+    for (number, index) in tables.new.wanted.iter().enumerate() {
+        let change = tables.arrival_of(alloc, number, *index, form, &mut progress.texts);
         let subject = Subject {
-            path: new.path,
+            path: tables.new.path,
             index: *index,
         };
         write_change(alloc, subject, change, form, progress, out, err)?;
@@ -312,7 +343,12 @@ pub fn show_differences<O: Write, E: Write>(
 {
     let mut progress = Progress::new(old.bytes.saturating_add(new.bytes));
     tell_unknown(alloc, old, new, names, &mut progress, err)?;
-    show_changes(alloc, old, new, options, &mut progress, out, err)?;
-    show_arrivals(alloc, old, new, options.form, &mut progress, out, err)?;
+    let mut tables = Tables {
+        old,
+        new,
+        pairing: Pairing::of(alloc, &old.hashes, &new.hashes)?,
+    };
+    show_changes(alloc, &mut tables, options, &mut progress, out, err)?;
+    show_arrivals(alloc, &tables, options.form, &mut progress, out, err)?;
     Ok(outcome_of(progress))
 }

@@ -2,20 +2,24 @@
 //! have the name the first for the first, the second for the second, and so on.
 
 use std::alloc::{AllocError, Global};
+use std::cmp::Ordering;
 use std::hash::{DefaultHasher, Hasher};
 
 /// The hash of a name, and the number of a thing that has the name.
 #[derive(Clone, Copy)]
 struct NamedNumber {
     hash: u64,
-    number: usize,
+    number: u32,
 }
 
-/// The things of a list by the hashes of their names.
+/// Which of the things of two lists stand for each other.
 #[derive(Drop)]
-pub(crate) struct NameIndex {
-    /// Sorted by their hashes, and then by their numbers.
-    entries: Vec<NamedNumber>,
+pub(crate) struct Pairing {
+    /// The number in the second list of what stands for each thing of the first.
+    seconds: Vec<Option<u32>>,
+
+    /// Whether something in the first list stands for each thing of the second.
+    is_paired: Vec<bool>,
 }
 
 /// Returns the hash of a name of one of several kinds.
@@ -26,46 +30,77 @@ pub(crate) fn hash_of(kind: u8, name: &[u8]) -> u64 {
     hasher.finish()
 }
 
-impl NameIndex {
-    /// Returns an index of nothing.
-    pub(crate) fn new(alloc: Global) -> Self {
-        NameIndex {
-            entries: Vec::new(alloc),
-        }
+/// Returns the things of a list with these hashes, sorted by the hashes and then by their numbers.
+fn sorted(alloc: Global, hashes: &[u64]) -> Result<Vec<NamedNumber>, AllocError> {
+    let mut things = Vec::with_capacity(alloc, hashes.len())?;
+    for (number, hash) in hashes.iter().enumerate() {
+        let Ok(number) = u32::try_from(number) else {
+            break;
+        };
+        things.push(NamedNumber {
+            hash: *hash,
+            number,
+        })?;
     }
+    things.sort_unstable_by_key(|thing| (thing.hash, thing.number));
+    Ok(things)
+}
 
-    /// Adds a thing.
+impl Pairing {
+    /// Pairs the things of two lists by the hashes of their names.
     ///
     /// # Errors
     /// Fails if an allocation fails.
-    pub(crate) fn push(&mut self, hash: u64, number: usize) -> Result<(), AllocError> {
-        self.entries.push(NamedNumber { hash, number })?;
-        Ok(())
-    }
-
-    /// Sorts the index, so that things can be looked up.
-    pub(crate) fn sort(&mut self) {
-        self.entries
-            .sort_unstable_by_key(|entry| (entry.hash, entry.number));
-    }
-
-    /// Returns how many entries have a lower hash, or this hash and a lower number.
-    fn count_before(&self, hash: u64, number: usize) -> usize {
-        self.entries
-            .partition_point(|entry| (entry.hash, entry.number) < (hash, number))
-    }
-
-    /// Returns the number of the thing in another index that stands for the one with this hash and
-    /// this number: the i-th of its hash for the i-th.
-    pub(crate) fn counterpart(&self, hash: u64, number: usize, other: &NameIndex) -> Option<usize> {
-        let first = self.count_before(hash, 0);
-        let before = self.count_before(hash, number).saturating_sub(first);
-        let place = other.count_before(hash, 0).saturating_add(before);
-        let entry = other.entries.get(place)?;
-        if entry.hash == hash {
-            Some(entry.number)
-        } else {
-            None
+    pub(crate) fn of(alloc: Global, firsts: &[u64], seconds: &[u64]) -> Result<Self, AllocError> {
+        let mut pairing = Pairing {
+            seconds: vec![in alloc; None; firsts.len()]?,
+            is_paired: vec![in alloc; false; seconds.len()]?,
+        };
+        let firsts = sorted(alloc, firsts)?;
+        let seconds = sorted(alloc, seconds)?;
+        let (mut at, mut other_at) = (0usize, 0usize);
+        for _ in 0..firsts.len().saturating_add(seconds.len()) {
+            let (Some(one), Some(other)) = (firsts.get(at), seconds.get(other_at)) else {
+                break;
+            };
+            match one.hash.cmp(&other.hash) {
+                Ordering::Less => at += 1,
+                Ordering::Greater => other_at += 1,
+                Ordering::Equal => {
+                    pairing.pair(one.number, other.number);
+                    at += 1;
+                    other_at += 1;
+                }
+            }
         }
+        Ok(pairing)
+    }
+
+    /// Has two things stand for each other.
+    fn pair(&mut self, first: u32, second: u32) {
+        if let Some(found) = self.seconds.get_mut(first as usize) {
+            *found = Some(second);
+        }
+        if let Some(is_paired) = self.is_paired.get_mut(second as usize) {
+            *is_paired = true;
+        }
+    }
+
+    /// Has nothing stand for a thing of the second list.
+    pub(crate) fn part(&mut self, second: usize) {
+        if let Some(is_paired) = self.is_paired.get_mut(second) {
+            *is_paired = false;
+        }
+    }
+
+    /// Returns the number in the second list of what stands for a thing of the first.
+    pub(crate) fn second(&self, first: usize) -> Option<usize> {
+        let second = *self.seconds.get(first)?;
+        second.map(|second| second as usize)
+    }
+
+    /// Returns whether something in the first list stands for a thing of the second.
+    pub(crate) fn is_paired(&self, second: usize) -> bool {
+        self.is_paired.get(second).copied().unwrap_or(false)
     }
 }

@@ -1,6 +1,6 @@
 //! The parts of a definition that came, went or changed.
 
-use crate::pairing::NameIndex;
+use crate::pairing::Pairing;
 use crate::part::{Enumerator, Part, hash_of_part, parts_of};
 use crate::text_allowance::TextAllowance;
 use crate::version::Version;
@@ -118,39 +118,18 @@ fn are_same(
     }
 }
 
-/// The parts of a definition, and by what each is paired with another.
-#[derive(Drop)]
-struct IndexedParts<'t> {
-    parts: Vec<Part<'t>>,
-    hashes: Vec<u64>,
-    index: NameIndex,
-}
-
-impl<'t> IndexedParts<'t> {
-    /// Returns the parts of a definition.
-    fn of(alloc: Global, version: &Version<'_, 't>, texts: &mut TextAllowance) -> Result<Self> {
-        let parts = parts_of(alloc, version.definitions, version.index, &version.defined)?;
-        let mut hashes = Vec::new(alloc);
-        let mut index = NameIndex::new(alloc);
-        for (number, part) in parts.iter().enumerate() {
-            let hash = hash_of_part(alloc, version.definitions, part, texts)?;
-            hashes.push(hash)?;
-            index.push(hash, number)?;
-        }
-        index.sort();
-        Ok(IndexedParts {
-            parts,
-            hashes,
-            index,
-        })
+/// Returns the hashes by which the parts of a definition are paired with others.
+fn hashes_of(
+    alloc: Global,
+    version: &Version<'_, '_>,
+    parts: &[Part<'_>],
+    texts: &mut TextAllowance,
+) -> Result<Vec<u64>> {
+    let mut hashes = Vec::with_capacity(alloc, parts.len())?;
+    for part in parts {
+        hashes.push(hash_of_part(alloc, version.definitions, part, texts)?)?;
     }
-
-    /// Returns the part of another definition that stands for the part of a number.
-    fn counterpart(&self, number: usize, other: &IndexedParts<'t>) -> Option<Part<'t>> {
-        let hash = self.hashes.get(number)?;
-        let found = self.index.counterpart(*hash, number, &other.index)?;
-        other.parts.get(found).copied()
-    }
+    Ok(hashes)
 }
 
 /// Returns the parts that differ between two definitions: those that went or changed in the order of
@@ -165,24 +144,29 @@ pub(crate) fn part_changes<'t>(
     is_layout_only: bool,
     texts: &mut TextAllowance,
 ) -> Result<Vec<PartChange<'t>>> {
-    let old_parts = IndexedParts::of(alloc, old, texts)?;
-    let new_parts = IndexedParts::of(alloc, new, texts)?;
+    let old_parts = parts_of(alloc, old.definitions, old.index, &old.defined)?;
+    let new_parts = parts_of(alloc, new.definitions, new.index, &new.defined)?;
+    let old_hashes = hashes_of(alloc, old, &old_parts, texts)?;
+    let new_hashes = hashes_of(alloc, new, &new_parts, texts)?;
+    let pairing = Pairing::of(alloc, &old_hashes, &new_hashes)?;
     let mut changes = Vec::new(alloc);
-    for (number, part) in old_parts.parts.iter().enumerate() {
-        let other = old_parts.counterpart(number, &new_parts);
-        let is_same = match &other {
+    for (number, part) in old_parts.iter().enumerate() {
+        let other = pairing
+            .second(number)
+            .and_then(|other| new_parts.get(other));
+        let is_same = match other {
             Some(other) => are_same(alloc, old, part, new, other, is_layout_only, texts)?,
             None => false,
         };
         if !is_same {
             changes.push(PartChange {
                 old: Some(*part),
-                new: other,
+                new: other.copied(),
             })?;
         }
     }
-    for (number, part) in new_parts.parts.iter().enumerate() {
-        if new_parts.counterpart(number, &old_parts).is_none() {
+    for (number, part) in new_parts.iter().enumerate() {
+        if !pairing.is_paired(number) {
             changes.push(PartChange {
                 old: None,
                 new: Some(*part),

@@ -3,11 +3,20 @@
 use pdb_container::Result;
 use pdb_fixtures::{s1, s1_with, with_bytes};
 use pdb_output::Output;
-use pdbdump_cli::{Call, Command, Task, any_is, call_of, in_memory, list, plain_words};
+use pdbdump_cli::{Call, Command, InputFile, Task, any_is, call_of, list, plain_words};
 use pdbdump_rows::Form;
 use std::alloc::Global;
 use std::io::Cursor;
 use std::test::Fail;
+
+/// Returns a file in memory.
+fn in_memory(bytes: Vec<u8>) -> InputFile<Vec<u8>> {
+    let size = bytes.len() as u64;
+    InputFile {
+        source: bytes,
+        size,
+    }
+}
 
 /// A case: the words behind the file, the bytes of stream 3, what is listed, and the text of the
 /// error.

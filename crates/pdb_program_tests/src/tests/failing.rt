@@ -5,7 +5,8 @@ use super::uses::build_file;
 use pdb_base::Result;
 use pdb_output::Output;
 use pdbdump_cli::{
-    Command, Request, extract_of, identify_of, layouts_of, serve, serve_questions, validate_of,
+    Command, FileBytes, InputFile, Request, extract_of, identify_of, layouts_of, serve,
+    serve_questions, validate_of,
 };
 use pdbdump_rows::Form;
 use std::alloc::Global;
@@ -94,6 +95,14 @@ enum Served {
 /// The status of no program, for words that it doesn't take.
 const MISUSED: u8 = 9;
 
+/// Returns the file in an input, which is read whole.
+pub(super) fn whole<I: Read>(
+    alloc: Global,
+    input: &mut I,
+) -> Result<InputFile<FileBytes<Vec<u8>>>> {
+    InputFile::read_whole(alloc, input)
+}
+
 /// Runs a program, and returns its status.
 fn run(
     alloc: Global,
@@ -102,41 +111,37 @@ fn run(
     out: &mut Output<Failing>,
     err: &mut Output<Failing>,
 ) -> Result<u8> {
-    match served {
+    let (request, form) = match served {
         Served::Query => {
             let words = arguments(alloc, &Ok(&["stream", "1"]))?;
-            Ok(pdb_cli::serve(alloc, words, input, out, err))
-        }
-        Served::Records(form) => {
-            let request = Request::List(Command::Omap { stream: Some(7) });
-            Ok(serve(alloc, &request, form, input, out, err))
+            return Ok(pdb_cli::serve(alloc, words, input, out, err));
         }
         Served::Answers(form) => {
             let mut questions = b"stream 3\nstream 1 2\n".as_slice();
-            Ok(serve_questions(alloc, form, input, &mut questions, out, err))
+            let file = whole(alloc, input);
+            return Ok(serve_questions(alloc, form, file, &mut questions, out, err));
         }
-        Served::Key(form) => match identify_of(&["a.pdb"]) {
-            Some(asked) => Ok(serve(alloc, &Request::Identify(asked), form, input, out, err)),
-            None => Ok(MISUSED),
-        },
-        Served::Stream => match extract_of(&["a.pdb", "1"]) {
-            Some(asked) => {
-                let request = Request::List(Command::Extract(asked));
-                Ok(serve(alloc, &request, Form::Text, input, out, err))
-            }
-            None => Ok(MISUSED),
-        },
-        Served::Findings(form) => match validate_of(alloc, &["a.pdb"])? {
-            Some(asked) => {
-                let request = Request::Validate(asked.options, "a.pdb");
-                Ok(serve(alloc, &request, form, input, out, err))
-            }
-            None => Ok(MISUSED),
-        },
-        Served::Layout(form) => match layouts_of(&["a.pdb", "S"]) {
-            Some(asked) => Ok(serve(alloc, &Request::Layout(asked), form, input, out, err)),
-            None => Ok(MISUSED),
-        },
+        Served::Records(form) => (Some(Request::List(Command::Omap { stream: Some(7) })), form),
+        Served::Key(form) => (identify_of(&["a.pdb"]).map(Request::Identify), form),
+        Served::Stream => {
+            let asked = extract_of(&["a.pdb", "1"]);
+            (
+                asked.map(|asked| Request::List(Command::Extract(asked))),
+                Form::Text,
+            )
+        }
+        Served::Findings(form) => {
+            let asked = validate_of(alloc, &["a.pdb"])?;
+            (
+                asked.map(|asked| Request::Validate(asked.options, "a.pdb")),
+                form,
+            )
+        }
+        Served::Layout(form) => (layouts_of(&["a.pdb", "S"]).map(Request::Layout), form),
+    };
+    match request {
+        Some(request) => Ok(serve(alloc, &request, form, whole(alloc, input), out, err)),
+        None => Ok(MISUSED),
     }
 }
 

@@ -1,5 +1,6 @@
 //! What `id` and `extract` write of small files that are made by hand.
 
+use super::failing::whole;
 use pdb_container::Result;
 use pdb_fixtures::file_of;
 use pdb_output::Output;
@@ -113,7 +114,8 @@ fn serve_file(
     let mut input = Cursor::new(file);
     let mut out = Output::new(Vec::new(alloc));
     let mut err = Output::new(Vec::new(alloc));
-    let status = serve(alloc, request, Form::Text, &mut input, &mut out, &mut err);
+    let file = whole(alloc, &mut input);
+    let status = serve(alloc, request, Form::Text, file, &mut out, &mut err);
     let is_written = out.into_inner().as_slice() == written;
     (
         status,

@@ -5,7 +5,7 @@ use Rattle.pdbdump_cli.proofs.answers.AskedFile.answer_all.Given as goal
 
 abbrev pub invariant-loop : goal.invariant-loop
 invariant-loop g l = record {
-  kept : IsKeptOpen l.fn.self l.self;
-  so_far : AreReadSoFar l.fn.self l.self (g.Q.Read.remaining l.fn.questions) (g.Q.Read.remaining l.questions)
+  kept : IsKeptOpen g.S.Source.state l.fn.self l.self;
+  so_far : AreReadSoFar g.S.Source.state l.fn.self l.self (g.Q.Read.remaining l.fn.questions) (g.Q.Read.remaining l.questions)
       l.fn.out l.out l.all;
 }
