@@ -32,6 +32,7 @@ PACKAGES = {
     "c++": "g++",
     "objcopy": "binutils",
     "pkg-config": "pkg-config",
+    "strace": "strace",
     "valgrind": "valgrind",
     "cargo": "cargo",
     "mypy": "mypy",
