@@ -1,26 +1,27 @@
 -- What the program does for a request, and how it ends.
-use Rattle.std.specs.Prelude.{ℕ, Result}
+use Rattle.std.specs.Prelude.{ℕ, Bool, Result}
 use Rattle.std.specs.Option.{option_map}
 use Rattle.pdb_base.specs.declared.error.Error.{Error}
 use Rattle.pdb_msf.specs.Source.{State}
-use Rattle.pdb_output.specs.Output.{OutputState}
+use Rattle.pdb_output.specs.Output.{OutputState, done_of}
 use Rattle.pdbdump_rows.specs.declared.form.Form.{Form}
 use Rattle.pdbdump_cli.specs.Identified.{IsIdDone}
 use Rattle.pdbdump_cli.specs.LaidOut.{IsLayoutDone}
 use Rattle.pdbdump_cli.specs.Listed.{Does}
-use Rattle.pdbdump_cli.specs.Served.{IsEnded}
+use Rattle.pdbdump_cli.specs.Served.{IsEndedAs}
 use Rattle.pdbdump_cli.specs.Validated.{IsValidatedIn}
 use Rattle.pdbdump_cli.specs.declared.command.Command.{Command}
 use Rattle.pdbdump_cli.specs.declared.command.Request.{Request}
 use Rattle.pdbdump_cli.specs.declared.command.Request.TheVariants as requests
 
--- What a command writes about a file was written, or cut short; the output was flushed, and the program ended.
+-- What a command writes about a file was written, or cut short; the output was flushed, and the program ended, with
+-- status 1 if some part could not be read.
 pub record IsCommandDone (form : Form) (command : Command) (file : State) (out out' err err' : OutputState)
     (status : ℕ) : Type 0 where
   pub written : OutputState
-  pub result : Result (Unit {0}) Error
-  pub does : Does form command file out written result
-  pub ends : IsEnded result written out' err err' status
+  pub result : Result Bool Error
+  pub does : Does form command file out written (done_of result)
+  pub ends : IsEndedAs result written out' err err' status
 
 -- what is done for a request with a file
 abbrev pub IsDone : Form → Request → State → OutputState → OutputState → OutputState → OutputState → ℕ → Type 0

@@ -3,6 +3,7 @@
 ghost use Rattle.std.specs.Prelude.{◌≡◌, None, unwrap_or};
 ghost use Rattle.pdb_file.specs.File.{id_stream, type_stream};
 ghost use Rattle.pdb_msf.specs.File.{stream_of};
+ghost use Rattle.pdb_output.specs.Output.{done_of};
 ghost use Rattle.pdbdump_cli.specs.Listed.{AreIds, AreTypes, Does, DoesIn};
 ghost use Rattle.pdbdump_tables.specs.Reading.{Reads, WritesRead};
 
@@ -72,7 +73,18 @@ fn list_ids<S: Source + Drop, W: Write>(
     }
 }
 
-/// Writes what a command lists of a file of this size that was opened.
+/// Returns that all was listed, unless a fault ended the listing.
+fn all_if_listed(listed: Result<()>) -> Result<bool>
+    ensures { done_of result ≡ listed }
+{
+    match listed {
+        Ok(()) => Ok(true),
+        Err(fault) => Err(fault),
+    }
+}
+
+/// Writes what a command lists of a file of this size that was opened. Returns whether each part
+/// could be read.
 fn list_opened<S: Source + Drop, W: Write>(
     alloc: Global,
     file: PDB<S>,
@@ -80,11 +92,11 @@ fn list_opened<S: Source + Drop, W: Write>(
     command: Command<'_>,
     form: Form,
     out: &mut Output<W>,
-) -> Result<()>
-    ensures { DoesIn form command.entry (S.state file.source) file.head out.old out.new result }
+) -> Result<bool>
+    ensures { DoesIn form command.entry (S.state file.source) file.head out.old out.new (done_of result) }
 {
-    match command {
-        Command::Summary => list_summary(alloc, file, size, form, out),
+    all_if_listed(match command {
+        Command::Summary => return list_summary(alloc, file, size, form, out),
         Command::Types { stream, index } => {
             list_types(alloc, file, types_number(stream), index, form, out)
         }
@@ -98,10 +110,12 @@ fn list_opened<S: Source + Drop, W: Write>(
         Command::FramesIn { old, new } => list_frames_in(alloc, file, old, new, form, out),
         Command::Map { address, streams } => list_map(alloc, file, address, streams, form, out),
         Command::Extract(asked) => extract_opened(alloc, file, &asked, out),
-    }
+    })
 }
 
-/// Writes what a command lists of a file: a line for each record, or the bytes of a stream.
+/// Writes what a command lists of a file: a line for each record, or the bytes of a stream. Returns
+/// whether each part that it lists could be read; of one that can't, a summary has a line with the
+/// error.
 ///
 /// # Errors
 /// Fails with the errors of `PDB::open`, and then with those of the command, after the lines up to
@@ -113,8 +127,8 @@ pub fn list<S: Source + Drop, W: Write>(
     command: Command<'_>,
     form: Form,
     out: &mut Output<W>,
-) -> Result<()>
-    ensures { Does form command.entry (S.state file.source) out.old out.new result }
+) -> Result<bool>
+    ensures { Does form command.entry (S.state file.source) out.old out.new (done_of result) }
 {
     let InputFile { source, size } = file;
     let file = PDB::open(alloc, source)?;

@@ -9,7 +9,7 @@ use crate::identified::serve_id;
 use crate::input_file::InputFile;
 use crate::laid_out::show_in;
 use crate::listed::list;
-use crate::served::{end, end_as};
+use crate::served::end_as;
 use crate::validated::judge;
 use pdb_cli::tell;
 use pdb_container::{Result, Source};
@@ -36,7 +36,7 @@ fn serve_opened<S: Source + Drop, O: Write, E: Write>(
     match request {
         Request::List(command) => {
             let listed = list(alloc, file, *command, form, out);
-            end(alloc, listed, out, err)
+            end_as(alloc, listed, out, err)
         }
         Request::Identify(asked) => serve_id(alloc, file, asked, form, out, err),
         Request::Validate(options, path) => judge(alloc, *options, form, path, file, out, err),

@@ -2,7 +2,7 @@
 
 #![tactic(auto, using(pdbdump_rows::proofs::lemmas::Line::adding, pdbdump_rows::proofs::lemmas::Rows::listing))]
 
-ghost use Rattle.std.specs.Prelude.{[]};
+ghost use Rattle.std.specs.Prelude.{◌≡◌, [], false};
 ghost use Rattle.pdbdump_rows.specs.Line.{ShowsRow};
 ghost use Rattle.pdbdump_rows.specs.Rows.{WritesLines};
 
@@ -48,16 +48,19 @@ fn show_refused(alloc: Global, line: &mut Line, part: Part, error: &Error) -> Li
     show_error(alloc, line, error)
 }
 
-/// Writes which part has an error, and which error.
+/// Writes which part has an error, and which error, and notes that not all parts are whole.
 pub fn write_refused<W: Write>(
     alloc: Global,
     part: Part,
     error: &Error,
     form: Form,
     out: &mut Output<W>,
+    is_whole: &mut bool,
 ) -> Result<()>
-    ensures { WritesLines form out.old out.new result }
+    ensures lines { WritesLines form out.old out.new result }
+    ensures noted { is_whole.new ≡ false }
 {
+    *is_whole = false;
     let mut line = Line::new(alloc);
     line.begin(form);
     let added = show_refused(alloc, &mut line, part, error);

@@ -32,6 +32,8 @@ pub struct Known<'n> {
     pub headers: Headers,
     /// The names of the streams.
     pub names: ShownNames<'n>,
+    /// Whether each part so far could be read.
+    pub is_whole: bool,
 }
 
 /// Reads the stream with this number as `BigMSF::into_stream` does: it consumes the file. If that is
@@ -126,7 +128,10 @@ fn write_stream<S: Source, W: Write>(
         Ok(size) => write_size(alloc, file.page_size(), number, size, known, form, out),
         Err(Error::OutOfMemory) => Err(Error::OutOfMemory),
         Err(Error::StreamNotFound(_)) => Ok(()),
-        Err(error) => write_refused(alloc, Part::Stream(number), &error, form, out),
+        Err(error) => {
+            let part = Part::Stream(number);
+            write_refused(alloc, part, &error, form, out, &mut known.is_whole)
+        }
     }
 }
 

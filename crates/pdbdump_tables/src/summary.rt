@@ -55,6 +55,7 @@ fn known_roles<S: Source, W: Write>(
     file: &mut PDB<S>,
     form: Form,
     out: &mut Output<W>,
+    is_whole: &mut bool,
 ) -> Result<DBIExtraStreams>
     ensures { WritesLines form out.old out.new (done_of result) }
 {
@@ -62,7 +63,7 @@ fn known_roles<S: Source, W: Write>(
         Ok(roles) => Ok(roles),
         Err(Error::OutOfMemory) => Err(Error::OutOfMemory),
         Err(error) => {
-            write_refused(alloc, Part::Roles, &error, form, out)?;
+            write_refused(alloc, Part::Roles, &error, form, out, is_whole)?;
             Ok(DBIExtraStreams::default())
         }
     }
@@ -74,6 +75,7 @@ fn known_information<S: Source, W: Write>(
     file: &mut PDB<S>,
     form: Form,
     out: &mut Output<W>,
+    is_whole: &mut bool,
 ) -> Result<Option<PDBInformation>>
     ensures { WritesLines form out.old out.new (done_of result) }
 {
@@ -81,7 +83,7 @@ fn known_information<S: Source, W: Write>(
         Ok(information) => Ok(Some(information)),
         Err(Error::OutOfMemory) => Err(Error::OutOfMemory),
         Err(error) => {
-            write_refused(alloc, Part::Names, &error, form, out)?;
+            write_refused(alloc, Part::Names, &error, form, out, is_whole)?;
             Ok(None)
         }
     }
@@ -96,6 +98,7 @@ fn known_names<'i, W: Write>(
     count: u32,
     form: Form,
     out: &mut Output<W>,
+    is_whole: &mut bool,
 ) -> Result<ShownNames<'i>>
     ensures { WritesLines form out.old out.new (done_of result) }
 {
@@ -106,7 +109,7 @@ fn known_names<'i, W: Write>(
         Ok(names) => Ok(ShownNames::new(alloc, names.as_slice(), count, information.names_size)?),
         Err(Error::OutOfMemory) => Err(Error::OutOfMemory),
         Err(error) => {
-            write_refused(alloc, Part::Names, &error, form, out)?;
+            write_refused(alloc, Part::Names, &error, form, out, is_whole)?;
             Ok(ShownNames::new(alloc, &[], count, 0)?)
         }
     }
@@ -119,48 +122,53 @@ fn write_tables<S: Source + Drop, W: Write>(
     mut file: PDB<S>,
     form: Form,
     out: &mut Output<W>,
+    is_whole: &mut bool,
 ) -> Result<()>
     ensures { WritesLines form out.old out.new result }
 {
     let ids = walk_table(alloc, &mut file, ID_STREAM);
     let types = walk_last_table(alloc, file, TYPE_STREAM);
-    write_table(alloc, TYPE_STREAM, &types, form, out)?;
-    write_table(alloc, ID_STREAM, &ids, form, out)
+    write_table(alloc, TYPE_STREAM, &types, form, out, is_whole)?;
+    write_table(alloc, ID_STREAM, &ids, form, out, is_whole)
 }
 
 /// Writes the parts of a file whose directory is read: its streams, of which the first `count` are
-/// shown, and its tables.
+/// shown, and its tables. Returns whether each could be read.
 fn write_read_parts<S: Source + Drop, W: Write>(
     alloc: Global,
     mut file: PDB<S>,
     count: u32,
     form: Form,
     out: &mut Output<W>,
-) -> Result<()>
-    ensures { WritesLines form out.old out.new result }
+) -> Result<bool>
+    ensures { WritesLines form out.old out.new (done_of result) }
 {
+    let mut is_whole = true;
     let headers = headers_of(alloc, &mut file)?;
-    let roles = known_roles(alloc, &mut file, form, out)?;
-    let information = known_information(alloc, &mut file, form, out)?;
-    let names = known_names(alloc, information.as_ref(), count, form, out)?;
+    let roles = known_roles(alloc, &mut file, form, out, &mut is_whole)?;
+    let information = known_information(alloc, &mut file, form, out, &mut is_whole)?;
+    let names = known_names(alloc, information.as_ref(), count, form, out, &mut is_whole)?;
     let mut known = Known {
         roles,
         headers,
         names,
+        is_whole,
     };
     let mut streams = file.into_msf();
     write_streams(alloc, &mut streams, count, &mut known, form, out)?;
-    write_tables(alloc, PDB::from(streams), form, out)
+    write_tables(alloc, PDB::from(streams), form, out, &mut known.is_whole)?;
+    Ok(known.is_whole)
 }
 
-/// Writes all parts of a file, or the error of its directory.
+/// Writes all parts of a file, or the error of its directory. Returns whether each part could be
+/// read.
 fn write_parts<S: Source + Drop, W: Write>(
     alloc: Global,
     file: PDB<S>,
     form: Form,
     out: &mut Output<W>,
-) -> Result<()>
-    ensures { WritesLines form out.old out.new result }
+) -> Result<bool>
+    ensures { WritesLines form out.old out.new (done_of result) }
 {
     let mut streams = file.into_msf();
     match streams.stream_count(alloc) {
@@ -169,14 +177,19 @@ fn write_parts<S: Source + Drop, W: Write>(
             write_read_parts(alloc, PDB::from(streams), count, form, out)
         }
         Err(Error::OutOfMemory) => Err(Error::OutOfMemory),
-        Err(error) => write_refused(alloc, Part::Directory, &error, form, out),
+        Err(error) => {
+            let mut is_whole = true;
+            write_refused(alloc, Part::Directory, &error, form, out, &mut is_whole)?;
+            Ok(is_whole)
+        }
     }
 }
 
 /// Lists what a file of this size is made of: its pages, a line for each stream, and how many records
 /// of each kind the tables of types and ids have. A part that has an error has a line with the error,
 /// among those of the others. The names of streams are shown with no more bytes than they take in
-/// stream 1: a name for which fewer are left is cut, and its line says so.
+/// stream 1: a name for which fewer are left is cut, and its line says so. Returns whether each part
+/// could be read.
 ///
 /// # Errors
 /// Fails with `IoError` if the writer fails, and with `OutOfMemory` if an allocation fails.
@@ -186,8 +199,8 @@ pub fn list_summary<S: Source + Drop, W: Write>(
     size: u64,
     form: Form,
     out: &mut Output<W>,
-) -> Result<()>
-    ensures { WritesLines form out.old out.new result }
+) -> Result<bool>
+    ensures { WritesLines form out.old out.new (done_of result) }
 {
     let streams = file.msf();
     write_pages(

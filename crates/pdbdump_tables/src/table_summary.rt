@@ -91,11 +91,12 @@ fn write_stop<W: Write>(
     fault: &Option<Error>,
     form: Form,
     out: &mut Output<W>,
+    is_whole: &mut bool,
 ) -> Result<()>
     ensures { WritesLines form out.old out.new result }
 {
     match fault {
-        Some(fault) => write_refused(alloc, Part::Table(number), fault, form, out),
+        Some(fault) => write_refused(alloc, Part::Table(number), fault, form, out, is_whole),
         None => Ok(()),
     }
 }
@@ -107,11 +108,12 @@ fn write_rest<W: Write>(
     walked: &Walked,
     form: Form,
     out: &mut Output<W>,
+    is_whole: &mut bool,
 ) -> Result<()>
     ensures { WritesLines form out.old out.new result }
 {
     write_kinds(alloc, number, &walked.kinds, form, out)?;
-    write_stop(alloc, number, &walked.fault, form, out)
+    write_stop(alloc, number, &walked.fault, form, out, is_whole)
 }
 
 /// Writes a table that was walked over: its line, the kinds of its records, and the fault at which
@@ -122,11 +124,12 @@ fn write_walked<W: Write>(
     walked: &Walked,
     form: Form,
     out: &mut Output<W>,
+    is_whole: &mut bool,
 ) -> Result<()>
     ensures { WritesLines form out.old out.new result }
 {
     write_head(alloc, number, walked, form, out)?;
-    write_rest(alloc, number, walked, form, out)
+    write_rest(alloc, number, walked, form, out, is_whole)
 }
 
 /// Walks over the table in a stream.
@@ -160,7 +163,7 @@ pub fn walk_last_table<S: Source + Drop>(
 }
 
 /// Writes the result of a walk over the table in the stream with this number: its lines, or its
-/// error.
+/// error, after which not all is whole.
 ///
 /// # Errors
 /// Fails with `IoError` if the writer fails, and with `OutOfMemory` if the walk did or if an
@@ -171,12 +174,13 @@ pub fn write_table<W: Write>(
     walked: &Result<Walked>,
     form: Form,
     out: &mut Output<W>,
+    is_whole: &mut bool,
 ) -> Result<()>
     ensures { WritesLines form out.old out.new result }
 {
     match walked {
-        Ok(walked) => write_walked(alloc, number, walked, form, out),
+        Ok(walked) => write_walked(alloc, number, walked, form, out, is_whole),
         Err(Error::OutOfMemory) => Err(Error::OutOfMemory),
-        Err(error) => write_refused(alloc, Part::Table(number), error, form, out),
+        Err(error) => write_refused(alloc, Part::Table(number), error, form, out, is_whole),
     }
 }

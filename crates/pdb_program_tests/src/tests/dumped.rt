@@ -133,9 +133,9 @@ fn form_of(words: &[&str]) -> Form {
 }
 
 /// Whether nothing fails, where the text is empty, or the error has this text.
-fn is_told(alloc: Global, answer: Result<()>, refusal: &str) -> Result<bool> {
+fn is_told(alloc: Global, answer: Result<bool>, refusal: &str) -> Result<bool> {
     match answer {
-        Ok(()) => Ok(refusal.is_empty()),
+        Ok(_) => Ok(refusal.is_empty()),
         Err(error) => Ok(error.to_string(alloc)?.as_str() == refusal),
     }
 }
@@ -180,14 +180,14 @@ const NO_DIRECTORY: &str =
 fn is_directory_told(alloc: Global) -> Result<bool> {
     let file = with_bytes(s1(alloc)?, &[(PAGE_OF_DIRECTORY, 9)]);
     let mut out = Output::new(Vec::new(alloc));
-    list(
+    let is_whole = list(
         alloc,
         in_memory(file),
         Command::Summary,
         Form::Text,
         &mut out,
     )?;
-    Ok(out.into_inner().as_slice() == NO_DIRECTORY.as_bytes())
+    Ok(!is_whole && out.into_inner().as_slice() == NO_DIRECTORY.as_bytes())
 }
 
 /// Whether a writer has got the prefix of a line that it has room for, and the listing fails; or

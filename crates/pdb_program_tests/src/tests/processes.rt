@@ -396,8 +396,8 @@ fn unwritten_outputs(rt: HostRuntime) -> Result<(), Fail> {
 /// Commands, with the path of a file among their words, and the status of each for the file that is
 /// built.
 const COMMANDS: &[(&[&str], u8)] = &[
-    (&["pdbdump", "a.pdb"], 0),
-    (&["pdbdump", "summary", "a.pdb"], 0),
+    (&["pdbdump", "a.pdb"], 1),
+    (&["pdbdump", "summary", "a.pdb"], 1),
     (&["pdbdump", "types", "a.pdb"], 0),
     (&["pdbdump", "ids", "--stream", "2", "a.pdb"], 0),
     (&["pdbdump", "names", "a.pdb"], 0),

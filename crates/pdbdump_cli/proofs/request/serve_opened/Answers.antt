@@ -5,7 +5,7 @@ returns-in-List g c = rw c.in-List.is (record {
   written = c.list-listed.new.out;
   result = c.list-listed.result;
   does = c.list-listed.ensures;
-  ends = c.end.ensures;
+  ends = c.end_as.ensures;
 })
 
 pub returns-in-Identify : goal.returns-in-Identify
@@ -17,7 +17,7 @@ returns-in-Layout g c = rw c.in-Layout.is (record {
   told = c.show_in-shown.new.err;
   answer = c.show_in-shown.result;
   shown = c.show_in-shown.ensures;
-  ends = c.end_as.ensures;
+  ends = c.end_as-in-Layout.ensures;
 })
 
 pub returns-in-Declare : goal.returns-in-Declare

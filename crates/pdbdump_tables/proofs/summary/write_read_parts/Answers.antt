@@ -19,9 +19,17 @@ returns-in_err-write_streams g c =
     rw (passed_on _ _ c.from_residual-in_err-write_streams.ensures.1)
     (lines_more _ _ _ _ _ c.in_err-write_streams.ensures named)
 
+pub returns-in_err-write_tables : goal.returns-in_err-write_tables
+returns-in_err-write_tables g c =
+    let before = lines_more _ _ _ _ _ c.in_ok-information.ensures c.in_ok-roles.ensures in
+    let named = lines_more _ _ _ _ _ c.in_ok-names.ensures before in
+    let streams = lines_more _ _ _ _ _ c.in_ok-write_streams.ensures named in
+    rw (passed_on _ _ c.from_residual-in_err-write_tables.ensures.1)
+    (lines_more _ _ _ _ _ c.in_err-write_tables.ensures streams)
+
 pub returns : goal.returns
 returns g c =
     let before = lines_more _ _ _ _ _ c.in_ok-information.ensures c.in_ok-roles.ensures in
     let named = lines_more _ _ _ _ _ c.in_ok-names.ensures before in
     let streams = lines_more _ _ _ _ _ c.in_ok-write_streams.ensures named in
-    lines_more _ _ _ _ _ c.write_tables.ensures streams
+    lines_more _ _ _ _ _ c.in_ok-write_tables.ensures streams
