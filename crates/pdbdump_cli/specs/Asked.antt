@@ -97,7 +97,8 @@ pub record AreLinesAnswered (form : Form) (file : OpenedFile) (text : List ℕ) 
 abbrev pub file_of : {S : Type 0} → (S → State) → AskedFile S → OpenedFile
 file_of state asked = opened_file (state asked.file.source) asked.file.head
 
--- The open tables are those of the file, if its bytes are fixed, and what was read of a line has no end of a line in it.
+-- The open tables are those of the file, if its bytes are fixed, and what was read of a line has no end of a line in
+-- it.
 pub record IsReady {S : Type 0} (state : S → State) (asked : AskedFile S) : Type 0 where
   pub tables : IsFixed (state asked.file.source)
       → AreOf (stream_of (state asked.file.source).bytes asked.file.head) asked.tables
