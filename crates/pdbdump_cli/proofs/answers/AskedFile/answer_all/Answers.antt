@@ -14,7 +14,8 @@ returns-then-count-eq0 g c =
     let flushed = flushed_so_far g.S.Source.state c.args.self.now c.loop.self _ _ c.args.out.now c.loop.out
     c.flush.new.self c.loop.all c.loop.invariant.so_far c.in_ok-flush.ensures.bytes.0 in
     ends_so_far g.S.Source.state c.args.self.now c.loop.self _ _ _ c.args.out.now c.flush.new.self
-    c.answer_line.new.out c.loop.all _ c.loop.invariant.kept flushed (rw c.if-count-eq0.true at c.in_ok-count.ensures.bytes.0)
+    c.answer_line.new.out c.loop.all _ c.loop.invariant.kept flushed
+    (rw c.if-count-eq0.true at c.in_ok-count.ensures.bytes.0)
     (c.in_ok-count.ensures.bytes.2 c.if-count-eq0.true) c.in_ok-all.ensures.answer
 
 pub loop-preserved : goal.loop-preserved
@@ -24,6 +25,7 @@ loop-preserved g c =
     record {
       kept = stays g.S.Source.state _ _ _ c.loop.invariant.kept c.in_ok-all-2.ensures.kept;
       so_far = more_so_far g.S.Source.state c.args.self.now c.loop.self c.answer_block.new.self _ _ _ _
-          c.args.out.now c.flush.new.self c.answer_block.new.out c.loop.all _ c.loop.invariant.kept flushed c.in_ok-count.ensures.bytes.0
+          c.args.out.now c.flush.new.self c.answer_block.new.out c.loop.all _ c.loop.invariant.kept flushed
+          c.in_ok-count.ensures.bytes.0
           c.in_ok-all-2.ensures.answers;
     }

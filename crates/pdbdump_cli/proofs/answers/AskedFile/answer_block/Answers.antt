@@ -13,5 +13,6 @@ pub loop-byte-preserved : goal.loop-byte-preserved
 loop-byte-preserved g c = record {
   kept = stays g.S.Source.state _ _ _ c.loop-byte.invariant.kept c.in_ok-all.ensures.kept;
   lines = block_more g.S.Source.state _ c.loop-byte.self c.take_byte.new.self _ c.loop-byte.byte-index _ _ _ _
-      c.loop-byte.all _ c.loop-byte-test.true c.loop-byte.invariant.kept c.loop-byte.invariant.lines c.in_ok-all.ensures.answers;
+      c.loop-byte.all _ c.loop-byte-test.true c.loop-byte.invariant.kept c.loop-byte.invariant.lines
+      c.in_ok-all.ensures.answers;
 }

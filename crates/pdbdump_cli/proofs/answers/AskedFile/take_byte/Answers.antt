@@ -5,7 +5,8 @@ use Rattle.pdbdump_cli.proofs.answers.AskedFile.take_byte.Goals as goal
 pub returns-then-is_line_end-clause-answers : goal.returns-then-is_line_end-clause-answers
 returns-then-is_line_end-clause-answers g c =
     line_taken g.S.Source.state c.args.self.now c.answer_line.new.self c.args.byte _ _ c.answer_line.result
-    c.requires.ready (sym c.is_line_end.ensures ∙ c.if-is_line_end.true) c.answer_line.ensures.answer c.answer_line.ensures.rest
+    c.requires.ready (sym c.is_line_end.ensures ∙ c.if-is_line_end.true) c.answer_line.ensures.answer
+    c.answer_line.ensures.rest
 
 pub returns-clause-answers : goal.returns-clause-answers
 returns-clause-answers g c =
