@@ -1,5 +1,6 @@
 use Rattle.std.proofs.Common.{inr, refl}
 use Rattle.pdb_base.proofs.lemmas.Refused.{passed_on}
+use Rattle.pdb_base.specs.declared.error.Error.TheVariants.{OutOfMemory}
 use Rattle.pdbdump_layouts.specs.Compared.{IsCompared}
 use Rattle.pdbdump_layouts.proofs.ComparedLemmas.{compared_then, finished, told_only}
 use Rattle.pdbdump_layouts.proofs.differences.show_differences.Goals as goal
@@ -7,6 +8,10 @@ use Rattle.pdbdump_layouts.proofs.differences.show_differences.Goals as goal
 pub returns-in_err-tell_unknown : goal.returns-in_err-tell_unknown
 returns-in_err-tell_unknown g c = rw (passed_on _ _ c.from_residual.ensures.1)
     (IsCompared.stopped _ (inr c.in_err-tell_unknown.ensures.memory))
+
+pub returns-in_err-of : goal.returns-in_err-of
+returns-in_err-of g c =
+    rw (passed_on _ _ c.from_residual-in_err-of.ensures.1) (IsCompared.stopped OutOfMemory (inr refl))
 
 pub returns-in_err-show_changes : goal.returns-in_err-show_changes
 returns-in_err-show_changes g c = rw (passed_on _ _ c.from_residual-in_err-show_changes.ensures.1)
