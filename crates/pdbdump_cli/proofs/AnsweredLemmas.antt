@@ -1,7 +1,7 @@
 -- Questions that are answered as their lines are read.
 use Rattle.std.proofs.Common.{◌≡◌, ℕ, ◌<◌, ◌&&◌, List, [], ◌∷◌, ◌++◌, length, get_or, Bool, true, false, cond}
 use Rattle.std.proofs.Common.{Option, Some, None, Result, Ok, Err, refl, sym, ap, ◌∙◌, arith, append_assoc, append-nil}
-use Rattle.std.proofs.Common.{map}
+use Rattle.std.proofs.Common.{map, subst}
 use Rattle.std.proofs.lemmas.Bool.{false≢true}
 use Rattle.std.proofs.lemmas.List.{map-append, take_more}
 use Rattle.std.proofs.lemmas.List.Elements.{All-append, All-cons, All-nil, filter-append}
@@ -282,7 +282,9 @@ module _ {S : Type 0} (state : S → State) where
     so_far.text,
     rw (append-nil so_far.text) at (Consumes-trans had left end so_far.text [] so_far.read read),
     is_end,
-    last_line _ _ _ _ old now new all next so_far.lines (rw (kept.form, kept.file) at answers),
+    last_line _ _ _ _ old now new all next so_far.lines
+        (subst (λ (file : OpenedFile). AnswersAll before.form file (questions_of (mid.rest.items ∷ [])) now new (Ok next))
+        kept.file (rw kept.form at answers)),
   )
 
   -- a block more
