@@ -83,20 +83,18 @@ fn all_if_listed(listed: Result<()>) -> Result<bool>
     }
 }
 
-/// Writes what a command lists of a file of this size that was opened. Returns whether each part
-/// could be read.
-fn list_opened<S: Source + Drop, W: Write>(
+/// Writes the part of a file that a command lists. A summary has no such part.
+fn list_part<S: Source + Drop, W: Write>(
     alloc: Global,
     file: PDB<S>,
-    size: u64,
     command: Command<'_>,
     form: Form,
     out: &mut Output<W>,
-) -> Result<bool>
-    ensures { DoesIn form command.entry (S.state file.source) file.head out.old out.new (done_of result) }
+) -> Result<()>
+    ensures { DoesIn form command.entry (S.state file.source) file.head out.old out.new result }
 {
-    all_if_listed(match command {
-        Command::Summary => return list_summary(alloc, file, size, form, out),
+    match command {
+        Command::Summary => Ok(()),
         Command::Types { stream, index } => {
             list_types(alloc, file, types_number(stream), index, form, out)
         }
@@ -110,7 +108,25 @@ fn list_opened<S: Source + Drop, W: Write>(
         Command::FramesIn { old, new } => list_frames_in(alloc, file, old, new, form, out),
         Command::Map { address, streams } => list_map(alloc, file, address, streams, form, out),
         Command::Extract(asked) => extract_opened(alloc, file, &asked, out),
-    })
+    }
+}
+
+/// Writes what a command lists of a file of this size that was opened. Returns whether each part
+/// could be read.
+fn list_opened<S: Source + Drop, W: Write>(
+    alloc: Global,
+    file: PDB<S>,
+    size: u64,
+    command: Command<'_>,
+    form: Form,
+    out: &mut Output<W>,
+) -> Result<bool>
+    ensures { DoesIn form command.entry (S.state file.source) file.head out.old out.new (done_of result) }
+{
+    match command {
+        Command::Summary => list_summary(alloc, file, size, form, out),
+        other => all_if_listed(list_part(alloc, file, other, form, out)),
+    }
 }
 
 /// Writes what a command lists of a file: a line for each record, or the bytes of a stream. Returns
