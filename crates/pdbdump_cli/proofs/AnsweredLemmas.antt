@@ -283,7 +283,8 @@ module _ {S : Type 0} (state : S → State) where
     rw (append-nil so_far.text) at (Consumes-trans had left end so_far.text [] so_far.read read),
     is_end,
     last_line _ _ _ _ old now new all next so_far.lines
-        (subst (λ (file : OpenedFile). AnswersAll before.form file (questions_of (mid.rest.items ∷ [])) now new (Ok next))
+        (subst
+        (λ (file : OpenedFile). AnswersAll before.form file (questions_of (mid.rest.items ∷ [])) now new (Ok next))
         kept.file (rw kept.form at answers)),
   )
 

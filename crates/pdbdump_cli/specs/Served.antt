@@ -47,7 +47,7 @@ pub record IsEndedAs (answer : Result Bool Error) (written out' err err' : Outpu
   pub is_status : status ≡ status_of answer ended
 
 -- What the program did with a file: what is meant, or it reported why the file can't be opened, and wrote no output.
-abbrev pub IsServed : {S : Type 0} → (S → State) → (State → Type 0) → Result (InputFile S) Error → OutputState
+abbrev pub IsFileServed : {S : Type 0} → (S → State) → (State → Type 0) → Result (InputFile S) Error → OutputState
     → OutputState → OutputState → OutputState → ℕ → Type 0
-IsServed state does (Ok file) out out' err err' status = does (state file.source)
-IsServed state does (Err fault) out out' err err' status = (out' ≡ out) × IsFaultReported fault err err' status
+IsFileServed state does (Ok file) out out' err err' status = does (state file.source)
+IsFileServed state does (Err fault) out out' err err' status = (out' ≡ out) × IsFaultReported fault err err' status

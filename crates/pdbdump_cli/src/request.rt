@@ -1,7 +1,7 @@
 //! A request for one file, between the channels of the program.
 
 ghost use Rattle.pdbdump_cli.specs.Requests.{IsDone};
-ghost use Rattle.pdbdump_cli.specs.Served.{IsServed};
+ghost use Rattle.pdbdump_cli.specs.Served.{IsFileServed};
 
 use crate::command::Request;
 use crate::declared::declare_in;
@@ -60,7 +60,7 @@ pub fn serve<S: Source + Drop, O: Write, E: Write>(
     out: &mut Output<O>,
     err: &mut Output<E>,
 ) -> u8
-    ensures { IsServed S.state (λ file. IsDone form request.now file out.old out.new err.old err.new result)
+    ensures { IsFileServed S.state (λ file. IsDone form request.now file out.old out.new err.old err.new result)
         opened out.old out.new err.old err.new result }
 {
     match opened {
