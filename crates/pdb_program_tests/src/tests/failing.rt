@@ -4,9 +4,7 @@ use super::channels::arguments;
 use super::uses::build_file;
 use pdb_base::Result;
 use pdb_output::Output;
-use pdbdump_cli::{
-    Command, Request, extract_of, identify_of, layouts_of, serve, serve_questions, validate_of,
-};
+use pdbdump_cli::{parse, request_of, serve, serve_questions};
 use pdbdump_rows::Form;
 use std::alloc::Global;
 use std::io;
@@ -94,6 +92,27 @@ enum Served {
 /// The status of no program, for words that it doesn't take.
 const MISUSED: u8 = 9;
 
+/// Serves a call of `pdbdump`, and returns its status.
+fn serve_call(
+    alloc: Global,
+    words: &[&str],
+    form: Form,
+    input: &mut Failing,
+    out: &mut Output<Failing>,
+    err: &mut Output<Failing>,
+) -> u8 {
+    let Ok(matches) = parse(alloc, words) else {
+        return MISUSED;
+    };
+    match matches.subcommand() {
+        Some((name, matches)) => {
+            let request = request_of(name, matches, "a.pdb");
+            serve(alloc, &request, form, input, out, err)
+        }
+        None => MISUSED,
+    }
+}
+
 /// Runs a program, and returns its status.
 fn run(
     alloc: Global,
@@ -102,42 +121,22 @@ fn run(
     out: &mut Output<Failing>,
     err: &mut Output<Failing>,
 ) -> Result<u8> {
-    match served {
+    let (words, form): (&[&str], Form) = match served {
         Served::Query => {
             let words = arguments(alloc, &Ok(&["stream", "1"]))?;
-            Ok(pdb_cli::serve(alloc, words, input, out, err))
-        }
-        Served::Records(form) => {
-            let request = Request::List(Command::Omap { stream: Some(7) });
-            Ok(serve(alloc, &request, form, input, out, err))
+            return Ok(pdb_cli::serve(alloc, words, input, out, err));
         }
         Served::Answers(form) => {
             let mut questions = b"stream 3\nstream 1 2\n".as_slice();
-            Ok(serve_questions(alloc, form, input, &mut questions, out, err))
+            return Ok(serve_questions(alloc, form, input, &mut questions, out, err));
         }
-        Served::Key(form) => match identify_of(&["a.pdb"]) {
-            Some(asked) => Ok(serve(alloc, &Request::Identify(asked), form, input, out, err)),
-            None => Ok(MISUSED),
-        },
-        Served::Stream => match extract_of(&["a.pdb", "1"]) {
-            Some(asked) => {
-                let request = Request::List(Command::Extract(asked));
-                Ok(serve(alloc, &request, Form::Text, input, out, err))
-            }
-            None => Ok(MISUSED),
-        },
-        Served::Findings(form) => match validate_of(alloc, &["a.pdb"])? {
-            Some(asked) => {
-                let request = Request::Validate(asked.options, "a.pdb");
-                Ok(serve(alloc, &request, form, input, out, err))
-            }
-            None => Ok(MISUSED),
-        },
-        Served::Layout(form) => match layouts_of(&["a.pdb", "S"]) {
-            Some(asked) => Ok(serve(alloc, &Request::Layout(asked), form, input, out, err)),
-            None => Ok(MISUSED),
-        },
-    }
+        Served::Records(form) => (&["omap", "--stream", "7", "a.pdb"], form),
+        Served::Key(form) => (&["id", "a.pdb"], form),
+        Served::Stream => (&["extract", "a.pdb", "1"], Form::Text),
+        Served::Findings(form) => (&["validate", "a.pdb"], form),
+        Served::Layout(form) => (&["layout", "a.pdb", "S"], form),
+    };
+    Ok(serve_call(alloc, words, form, input, out, err))
 }
 
 const IO_ERROR: &[u8] = b"IO error while reading PDB: ";

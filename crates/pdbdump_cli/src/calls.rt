@@ -1,0 +1,277 @@
+//! Calls: what the arguments of the program request.
+
+use crate::command::{
+    Command, Declarations, Diff, Extract, Identify, Layouts, Request, ValidateOptions,
+};
+use crate::commands::{COMMANDS, Description, Value};
+use clap::ArgMatches;
+use pdb_cli::number;
+use pdb_consistency::Extent;
+use pdbdump_declarations::{Language, Options as DeclareOptions};
+use pdbdump_layouts::{Options, Order, Style};
+use pdbdump_rows::Form;
+use pdbdump_tables::{KeyStyle, MapStreams};
+use std::alloc::{AllocError, Global};
+use std::path::Path;
+
+/// Why a call requests nothing, though its arguments are those of the command.
+#[derive(Clone, Copy)]
+pub enum Misuse<'w> {
+    /// An argument is no number.
+    NoNumber {
+        /// The text that was given.
+        text: &'w str,
+        /// The name of its option, if it belongs to one.
+        option: Option<&'static str>,
+        /// What help calls it.
+        name: &'static str,
+    },
+    /// Two inputs would be read from standard input.
+    InputTwice,
+}
+
+/// Returns the description of a command.
+fn description_of(name: &str) -> Option<&'static Description> {
+    COMMANDS.iter().find(|command| command.name == name)
+}
+
+/// Returns arguments that begin with the name of a command: if there is only a path, that of its
+/// summary.
+pub fn with_command<'w>(alloc: Global, words: &[&'w str]) -> Result<Vec<&'w str>, AllocError> {
+    let mut all = Vec::with_capacity(alloc, words.len().saturating_add(1))?;
+    let mut operands = words
+        .iter()
+        .filter(|word| **word == "-" || !word.starts_with('-'));
+    if let (Some(first), None) = (operands.next(), operands.next()) {
+        if *first != "help" && description_of(first).is_none() {
+            all.push("summary")?;
+        }
+    }
+    for word in words {
+        all.push(*word)?;
+    }
+    Ok(all)
+}
+
+/// Returns the number that an argument has, if it is given.
+fn number_of(matches: &ArgMatches<'_>, id: &str) -> Option<u32> {
+    match matches.get_str(id) {
+        Some(text) => number(text),
+        None => None,
+    }
+}
+
+/// Returns the texts of an operand.
+fn texts_of<'m, 'w>(matches: &'m ArgMatches<'w>, id: &str) -> &'m [&'w str] {
+    matches.get_strs(id).unwrap_or(&[])
+}
+
+/// Returns the text of an operand that is required.
+fn text_of<'w>(matches: &ArgMatches<'w>, id: &str) -> &'w str {
+    matches.get_str(id).unwrap_or("")
+}
+
+/// Returns an argument that is no number though it has to be one.
+fn wrong_number<'w>(described: &Description, matches: &ArgMatches<'w>) -> Option<Misuse<'w>> {
+    for flag in described.flags {
+        if let (Value::Number(name), Some(text)) = (flag.value, matches.get_str(flag.name)) {
+            if number(text).is_none() {
+                return Some(Misuse::NoNumber {
+                    text,
+                    option: Some(flag.name),
+                    name,
+                });
+            }
+        }
+    }
+    match matches.get_str("RVA") {
+        Some(text) if number(text).is_none() => Some(Misuse::NoNumber {
+            text,
+            option: None,
+            name: "RVA",
+        }),
+        _ => None,
+    }
+}
+
+/// Returns the form of the output that a call requests.
+pub fn form_of(matches: &ArgMatches<'_>) -> Form {
+    if matches.get_flag("json") {
+        Form::Json
+    } else {
+        Form::Text
+    }
+}
+
+/// Returns what `frames` lists.
+fn frames(matches: &ArgMatches<'_>) -> Command<'static> {
+    match (number_of(matches, "old"), number_of(matches, "new")) {
+        (None, None) => Command::Frames,
+        (old, new) => Command::FramesIn { old, new },
+    }
+}
+
+/// Returns what `map` translates.
+fn map<'w>(matches: &ArgMatches<'w>) -> Command<'w> {
+    Command::Map {
+        address: number_of(matches, "RVA").unwrap_or(0),
+        streams: MapStreams {
+            sections: number_of(matches, "sections"),
+            transformed: number_of(matches, "transformed"),
+            to_original: number_of(matches, "to"),
+            to_transformed: number_of(matches, "from"),
+        },
+    }
+}
+
+/// Returns what `extract` writes.
+fn extract<'w>(matches: &ArgMatches<'w>) -> Command<'w> {
+    Command::Extract(Extract {
+        stream: text_of(matches, "STREAM"),
+        skip: number_of(matches, "skip").unwrap_or(0),
+        limit: number_of(matches, "take"),
+    })
+}
+
+/// Returns what a command lists.
+fn listing<'w>(name: &str, matches: &ArgMatches<'w>) -> Command<'w> {
+    let stream = number_of(matches, "stream");
+    let index = number_of(matches, "index");
+    match name {
+        "types" => Command::Types { stream, index },
+        "ids" => Command::Ids { stream, index },
+        "names" => Command::Names { stream },
+        "sections" => Command::Sections { stream },
+        "omap" => Command::Omap { stream },
+        "frames" => frames(matches),
+        "map" => map(matches),
+        "extract" => extract(matches),
+        _ => Command::Summary,
+    }
+}
+
+/// Returns the last part of a path.
+fn file_name(path: &str) -> &str {
+    Path::new(path).file_name().unwrap_or(path)
+}
+
+/// Returns what `id` shows of the file at a path.
+fn identify<'w>(matches: &ArgMatches<'w>, path: &'w str) -> Identify<'w> {
+    let style = match matches.get_str("format") {
+        Some("ssqp") => KeyStyle::Ssqp,
+        Some("breakpad") => KeyStyle::Breakpad,
+        Some("guid") => KeyStyle::Guid,
+        _ => KeyStyle::Key,
+    };
+    Identify {
+        style,
+        name: matches.get_str("name").unwrap_or(file_name(path)),
+        expected: matches.get_str("expect"),
+    }
+}
+
+/// Returns how `validate` checks files.
+fn validate_options(matches: &ArgMatches<'_>) -> ValidateOptions {
+    ValidateOptions {
+        extent: if matches.get_flag("all") {
+            Extent::All
+        } else {
+            Extent::First
+        },
+        is_strict: matches.get_flag("strict"),
+        is_quiet: matches.get_flag("quiet"),
+    }
+}
+
+/// Returns what `layout` shows.
+fn layouts<'w>(matches: &'w ArgMatches<'w>) -> Layouts<'w> {
+    let style = match matches.get_str("style") {
+        Some("dt") => Style::Dt,
+        _ => Style::C,
+    };
+    let order = match matches.get_str("sort") {
+        Some("size") => Some(Order::Size),
+        Some("holes") => Some(Order::Holes),
+        Some("name") => Some(Order::Name),
+        _ => None,
+    };
+    Layouts {
+        names: texts_of(matches, "NAME"),
+        options: Options {
+            style,
+            order,
+            has_holes: matches.get_flag("holes"),
+            depth: number_of(matches, "expand").unwrap_or(0),
+            all: matches.get_flag("all"),
+        },
+    }
+}
+
+/// Returns what `declare` writes.
+fn declarations<'w>(matches: &'w ArgMatches<'w>) -> Declarations<'w> {
+    Declarations {
+        names: texts_of(matches, "NAME"),
+        options: DeclareOptions {
+            language: if matches.get_flag("c") {
+                Language::C
+            } else {
+                Language::Cpp
+            },
+            all: matches.get_flag("all"),
+        },
+    }
+}
+
+/// Returns the paths of the files that a call is about.
+pub fn paths_of<'m, 'w>(matches: &'m ArgMatches<'w>) -> &'m [&'w str] {
+    texts_of(matches, "FILE")
+}
+
+/// Returns what `diff` compares.
+pub fn diff_of<'w>(matches: &'w ArgMatches<'w>) -> Diff<'w> {
+    Diff {
+        old: text_of(matches, "OLD"),
+        new: text_of(matches, "NEW"),
+        names: texts_of(matches, "NAME"),
+        is_layout_only: matches.get_flag("layout-only"),
+    }
+}
+
+/// Returns what a command requests of the file at a path.
+pub fn request_of<'w>(name: &str, matches: &'w ArgMatches<'w>, path: &'w str) -> Request<'w> {
+    match name {
+        "id" => Request::Identify(identify(matches, path)),
+        "validate" => Request::Validate(validate_options(matches), path),
+        "layout" => Request::Layout(layouts(matches)),
+        "declare" => Request::Declare(declarations(matches)),
+        name => Request::List(listing(name, matches)),
+    }
+}
+
+/// Returns how many inputs of a call are standard input.
+fn standard_inputs(name: &str, matches: &ArgMatches<'_>) -> usize {
+    let questions: usize = if name == "ask" { 1 } else { 0 };
+    let mut count = questions;
+    for id in ["FILE", "OLD", "NEW"] {
+        let paths = texts_of(matches, id).iter().filter(|path| **path == "-");
+        count = count.saturating_add(paths.count());
+    }
+    count
+}
+
+/// Checks what the description of a command doesn't say of its arguments.
+///
+/// # Errors
+/// Fails with `NoNumber` if an argument that has to be a number isn't one, and with `InputTwice` if
+/// two inputs would be read from standard input.
+pub fn check_call<'w>(name: &str, matches: &ArgMatches<'w>) -> Result<(), Misuse<'w>> {
+    if let Some(described) = description_of(name) {
+        if let Some(misuse) = wrong_number(described, matches) {
+            return Err(misuse);
+        }
+    }
+    if standard_inputs(name, matches) > 1 {
+        return Err(Misuse::InputTwice);
+    }
+    Ok(())
+}
