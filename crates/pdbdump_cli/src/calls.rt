@@ -61,11 +61,6 @@ fn number_of(matches: &ArgMatches<'_>, id: &str) -> Option<u32> {
     }
 }
 
-/// Returns the texts of an operand.
-fn texts_of<'m, 'w>(matches: &'m ArgMatches<'w>, id: &str) -> &'m [&'w str] {
-    matches.get_strs(id).unwrap_or(&[])
-}
-
 /// Returns the text of an operand that is required.
 fn text_of<'w>(matches: &ArgMatches<'w>, id: &str) -> &'w str {
     matches.get_str(id).unwrap_or("")
@@ -104,7 +99,7 @@ pub fn form_of(matches: &ArgMatches<'_>) -> Form {
 }
 
 /// Returns what `frames` lists.
-fn frames(matches: &ArgMatches<'_>) -> Command<'static> {
+fn frames<'w>(matches: &ArgMatches<'w>) -> Command<'w> {
     match (number_of(matches, "old"), number_of(matches, "new")) {
         (None, None) => Command::Frames,
         (old, new) => Command::FramesIn { old, new },
@@ -133,21 +128,29 @@ fn extract<'w>(matches: &ArgMatches<'w>) -> Command<'w> {
     })
 }
 
-/// Returns what a command lists.
-fn listing<'w>(name: &str, matches: &ArgMatches<'w>) -> Command<'w> {
-    let stream = number_of(matches, "stream");
-    let index = number_of(matches, "index");
+/// Returns what a command lists of a table, or of the whole file.
+fn table<'w>(name: &str, stream: Option<u32>, index: Option<u32>) -> Command<'w> {
     match name {
         "types" => Command::Types { stream, index },
         "ids" => Command::Ids { stream, index },
         "names" => Command::Names { stream },
         "sections" => Command::Sections { stream },
         "omap" => Command::Omap { stream },
-        "frames" => frames(matches),
-        "map" => map(matches),
-        "extract" => extract(matches),
         _ => Command::Summary,
     }
+}
+
+/// Returns what a command lists.
+fn listing<'w>(name: &str, matches: &ArgMatches<'w>) -> Command<'w> {
+    match name {
+        "frames" => return frames(matches),
+        "map" => return map(matches),
+        "extract" => return extract(matches),
+        _ => {}
+    }
+    let stream = number_of(matches, "stream");
+    let index = number_of(matches, "index");
+    table(name, stream, index)
 }
 
 /// Returns the last part of a path.
@@ -184,7 +187,7 @@ fn validate_options(matches: &ArgMatches<'_>) -> ValidateOptions {
 }
 
 /// Returns what `layout` shows.
-fn layouts<'w>(matches: &'w ArgMatches<'w>) -> Layouts<'w> {
+fn layouts<'m, 'w>(matches: &ArgMatches<'w>, names: &'m [&'w str]) -> Layouts<'m, 'w> {
     let style = match matches.get_str("style") {
         Some("dt") => Style::Dt,
         _ => Style::C,
@@ -196,7 +199,7 @@ fn layouts<'w>(matches: &'w ArgMatches<'w>) -> Layouts<'w> {
         _ => None,
     };
     Layouts {
-        names: texts_of(matches, "NAME"),
+        names,
         options: Options {
             style,
             order,
@@ -208,9 +211,9 @@ fn layouts<'w>(matches: &'w ArgMatches<'w>) -> Layouts<'w> {
 }
 
 /// Returns what `declare` writes.
-fn declarations<'w>(matches: &'w ArgMatches<'w>) -> Declarations<'w> {
+fn declarations<'m, 'w>(matches: &ArgMatches<'w>, names: &'m [&'w str]) -> Declarations<'m, 'w> {
     Declarations {
-        names: texts_of(matches, "NAME"),
+        names,
         options: DeclareOptions {
             language: if matches.get_flag("c") {
                 Language::C
@@ -222,28 +225,28 @@ fn declarations<'w>(matches: &'w ArgMatches<'w>) -> Declarations<'w> {
     }
 }
 
-/// Returns the paths of the files that a call is about.
-pub fn paths_of<'m, 'w>(matches: &'m ArgMatches<'w>) -> &'m [&'w str] {
-    texts_of(matches, "FILE")
-}
-
-/// Returns what `diff` compares.
-pub fn diff_of<'w>(matches: &'w ArgMatches<'w>) -> Diff<'w> {
+/// Returns what `diff` compares of types with these names.
+pub fn diff_of<'m, 'w>(matches: &ArgMatches<'w>, names: &'m [&'w str]) -> Diff<'m, 'w> {
     Diff {
         old: text_of(matches, "OLD"),
         new: text_of(matches, "NEW"),
-        names: texts_of(matches, "NAME"),
+        names,
         is_layout_only: matches.get_flag("layout-only"),
     }
 }
 
-/// Returns what a command requests of the file at a path.
-pub fn request_of<'w>(name: &str, matches: &'w ArgMatches<'w>, path: &'w str) -> Request<'w> {
+/// Returns what a command requests of the file at a path, and of the types with these names.
+pub fn request_of<'m, 'w>(
+    name: &str,
+    matches: &ArgMatches<'w>,
+    path: &'w str,
+    names: &'m [&'w str],
+) -> Request<'m, 'w> {
     match name {
         "id" => Request::Identify(identify(matches, path)),
         "validate" => Request::Validate(validate_options(matches), path),
-        "layout" => Request::Layout(layouts(matches)),
-        "declare" => Request::Declare(declarations(matches)),
+        "layout" => Request::Layout(layouts(matches, names)),
+        "declare" => Request::Declare(declarations(matches, names)),
         name => Request::List(listing(name, matches)),
     }
 }
@@ -253,8 +256,9 @@ fn standard_inputs(name: &str, matches: &ArgMatches<'_>) -> usize {
     let questions: usize = if name == "ask" { 1 } else { 0 };
     let mut count = questions;
     for id in ["FILE", "OLD", "NEW"] {
-        let paths = texts_of(matches, id).iter().filter(|path| **path == "-");
-        count = count.saturating_add(paths.count());
+        let paths = matches.get_strs(id).unwrap_or(&[]);
+        let inputs = paths.iter().filter(|path| **path == "-");
+        count = count.saturating_add(inputs.count());
     }
     count
 }

@@ -94,38 +94,38 @@ pub struct ValidateOptions {
 
 /// The arguments of `layout`, which shows the layouts of classes of a file.
 #[derive(Clone, Copy)]
-pub struct Layouts<'w> {
+pub struct Layouts<'m, 'w> {
     /// The names of classes and the paths of members.
-    pub names: &'w [&'w str],
+    pub names: &'m [&'w str],
     /// Which layouts are shown, and how.
     pub options: Options,
 }
 
 /// The arguments of `diff`, which compares the types of two files.
 #[derive(Clone, Copy)]
-pub struct Diff<'w> {
+pub struct Diff<'m, 'w> {
     /// The path of the old file, or `-` for standard input.
     pub old: &'w str,
     /// The path of the new file, or `-` for standard input.
     pub new: &'w str,
     /// The names of types, in which `*` and `?` are allowed, or none for all types.
-    pub names: &'w [&'w str],
+    pub names: &'m [&'w str],
     /// Whether only sizes, offsets, bits and names are compared.
     pub is_layout_only: bool,
 }
 
 /// The arguments of `declare`, which writes a header of types of a file.
 #[derive(Clone, Copy)]
-pub struct Declarations<'w> {
+pub struct Declarations<'m, 'w> {
     /// The names of types.
-    pub names: &'w [&'w str],
+    pub names: &'m [&'w str],
     /// What is declared, and in which language.
     pub options: DeclareOptions,
 }
 
 /// A request for one file.
 #[derive(Clone, Copy)]
-pub enum Request<'w> {
+pub enum Request<'m, 'w> {
     /// What a command writes.
     List(Command<'w>),
     /// What identifies the file.
@@ -133,7 +133,7 @@ pub enum Request<'w> {
     /// What is found wrong in the file, and its path.
     Validate(ValidateOptions, &'w str),
     /// Layouts of its types.
-    Layout(Layouts<'w>),
+    Layout(Layouts<'m, 'w>),
     /// A header of its types.
-    Declare(Declarations<'w>),
+    Declare(Declarations<'m, 'w>),
 }

@@ -29,7 +29,7 @@ mod validated;
 pub use answers::ask;
 pub use arguments::parse;
 pub use asking::serve_questions;
-pub use calls::{Misuse, check_call, diff_of, form_of, paths_of, request_of, with_command};
+pub use calls::{Misuse, check_call, diff_of, form_of, request_of, with_command};
 pub use command::{
     Command, Declarations, Diff, Extract, Identify, Layouts, Request, ValidateOptions,
 };

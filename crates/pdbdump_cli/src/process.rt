@@ -2,7 +2,7 @@
 
 use crate::arguments::parse;
 use crate::asking::serve_questions;
-use crate::calls::{Misuse, check_call, diff_of, form_of, paths_of, request_of, with_command};
+use crate::calls::{Misuse, check_call, diff_of, form_of, request_of, with_command};
 use crate::command::{Diff, Request};
 use crate::diffed::serve_diff;
 use crate::input_file::InputFile;
@@ -173,31 +173,30 @@ fn sized_file<F: Read + Seek + Drop>(
 fn serve_path<P: Files + Input + AllocGlobal, O: Write>(
     process: &P,
     path: &str,
-    request: &Request<'_>,
+    request: &Request<'_, '_>,
     serving: &mut Serving<'_>,
     out: &mut Output<O>,
 ) -> Result<u8> {
     let alloc = process.alloc();
     let form = serving.subject.form;
-    let reports = &mut serving.reports;
     if path == "-" {
-        let mut input = Watched::new(process.reader(), &mut serving.seen);
-        return Ok(serve(alloc, request, form, &mut input, out, reports));
+        let mut input = Watched::new(alloc, process.reader());
+        let status = serve(alloc, request, form, &mut input, out, &mut serving.reports);
+        serving.seen = input.into_seen();
+        return Ok(status);
     }
     let mut input = match fs::open(process, path) {
         Ok(input) => input,
-        Err(fault) => return Ok(tell(alloc, &Error::from(fault), reports)),
+        Err(fault) => return Ok(tell(alloc, &Error::from(fault), &mut serving.reports)),
     };
-    match told_size(&mut input) {
-        Some(size) => {
-            let file = sized_file(alloc, input, size, &mut serving.seen)?;
-            Ok(serve_opened(alloc, request, form, file, out, reports))
-        }
-        None => {
-            let mut input = Watched::new(input, &mut serving.seen);
-            Ok(serve(alloc, request, form, &mut input, out, reports))
-        }
-    }
+    let Some(size) = told_size(&mut input) else {
+        let mut input = Watched::new(alloc, input);
+        let status = serve(alloc, request, form, &mut input, out, &mut serving.reports);
+        serving.seen = input.into_seen();
+        return Ok(status);
+    };
+    let file = sized_file(alloc, input, size, &mut serving.seen)?;
+    Ok(serve_opened(alloc, request, form, file, out, &mut serving.reports))
 }
 
 /// Serves a request for a file as `serve_path` does, and reports errors with the name of the file.
@@ -205,7 +204,7 @@ fn serve_path<P: Files + Input + AllocGlobal, O: Write>(
 fn serve_file<P: Files + Input + Print + Eprint + AllocGlobal>(
     process: &P,
     path: &str,
-    request: &Request<'_>,
+    request: &Request<'_, '_>,
     form: Form,
 ) -> Result<u8> {
     let alloc = process.alloc();
@@ -238,18 +237,31 @@ fn answer_questions<P: Files + Input + Print + Eprint + AllocGlobal>(
     let mut serving = Serving::new(alloc, Some(path), form);
     let mut questions = process.reader();
     let status = match fs::open(process, path) {
-        Ok(input) => serve_questions(
-            alloc,
-            form,
-            &mut Watched::new(input, &mut serving.seen),
-            &mut questions,
-            &mut out,
-            &mut serving.reports,
-        ),
+        Ok(input) => {
+            let mut input = Watched::new(alloc, input);
+            let status = serve_questions(
+                alloc,
+                form,
+                &mut input,
+                &mut questions,
+                &mut out,
+                &mut serving.reports,
+            );
+            serving.seen = input.into_seen();
+            status
+        }
         Err(fault) => tell(alloc, &Error::from(fault), &mut serving.reports),
     };
     report(process, serving, out.has_failed());
     Ok(status)
+}
+
+/// Returns the stream of types in an input that has no size.
+fn types_in<R: Read + Drop>(alloc: Global, input: R, seen: &mut Seen) -> Result<Stream> {
+    let mut input = Watched::new(alloc, input);
+    let file = read_all(alloc, &mut input);
+    *seen = input.into_seen();
+    type_stream(alloc, file?)
 }
 
 /// Returns the stream of types of the file at a path, or of the one in standard input if the path is
@@ -261,8 +273,7 @@ fn types_at<P: Files + Input + AllocGlobal>(
 ) -> Result<Stream> {
     let alloc = process.alloc();
     if path == "-" {
-        let file = read_all(alloc, &mut Watched::new(process.reader(), seen))?;
-        return type_stream(alloc, file);
+        return types_in(alloc, process.reader(), seen);
     }
     let mut input = fs::open(process, path)?;
     match told_size(&mut input) {
@@ -270,10 +281,7 @@ fn types_at<P: Files + Input + AllocGlobal>(
             let file = sized_file(alloc, input, size, seen)?;
             type_stream(alloc, file.source)
         }
-        None => {
-            let file = read_all(alloc, &mut Watched::new(input, seen))?;
-            type_stream(alloc, file)
-        }
+        None => types_in(alloc, input, seen),
     }
 }
 
@@ -297,7 +305,7 @@ fn types_or_report<P: Files + Input + Eprint + AllocGlobal>(
 /// Compares the types of two files.
 fn compare_files<P: Files + Input + Print + Eprint + AllocGlobal>(
     process: &P,
-    asked: &Diff<'_>,
+    asked: &Diff<'_, '_>,
     form: Form,
 ) -> Result<u8> {
     let alloc = process.alloc();
@@ -326,15 +334,16 @@ fn run_command<P: Files + Input + Print + Eprint + AllocGlobal>(
         return report_misuse(process, misuse);
     }
     let form = form_of(matches);
+    let names = matches.get_strs("NAME").unwrap_or(&[]);
     if name == "diff" {
-        return compare_files(process, &diff_of(matches), form);
+        return compare_files(process, &diff_of(matches, names), form);
     }
     let mut status = 0;
-    for path in paths_of(matches) {
+    for path in matches.get_strs("FILE").unwrap_or(&[]) {
         let ended = if name == "ask" {
             answer_questions(process, path, form)?
         } else {
-            serve_file(process, path, &request_of(name, matches, path), form)?
+            serve_file(process, path, &request_of(name, matches, path, names), form)?
         };
         status = status.max(ended);
     }

@@ -26,7 +26,7 @@ use std::io::{Read, Write};
 /// channel, behind what was written before it, unless it is that the output was closed.
 pub fn serve_opened<S: Source + Drop, O: Write, E: Write>(
     alloc: Global,
-    request: &Request<'_>,
+    request: &Request<'_, '_>,
     form: Form,
     file: InputFile<S>,
     out: &mut Output<O>,
@@ -63,7 +63,7 @@ pub fn serve_opened<S: Source + Drop, O: Write, E: Write>(
 /// Reads a file from the input and serves a request for it, as `serve_opened` does.
 pub fn serve<I: Read, O: Write, E: Write>(
     alloc: Global,
-    request: &Request<'_>,
+    request: &Request<'_, '_>,
     form: Form,
     input: &mut I,
     out: &mut Output<O>,

@@ -92,19 +92,27 @@ impl Seen {
 /// An input, and what is seen of it. If it begins as no program database does, it ends behind the
 /// first bytes, so that an input without an end isn't read on.
 #[derive(Drop)]
-pub(crate) struct Watched<'s, R: Read> {
+pub(crate) struct Watched<R: Read> {
     input: R,
-    seen: &'s mut Seen,
+    seen: Seen,
 }
 
-impl<'s, R: Read> Watched<'s, R> {
+impl<R: Read + Drop> Watched<R> {
     /// Returns an input of which nothing was read.
-    pub(crate) fn new(input: R, seen: &'s mut Seen) -> Self {
-        Watched { input, seen }
+    pub(crate) fn new(alloc: Global, input: R) -> Self {
+        Watched {
+            input,
+            seen: Seen::nothing(alloc),
+        }
+    }
+
+    /// Returns what was seen of the input.
+    pub(crate) fn into_seen(self) -> Seen {
+        self.seen
     }
 }
 
-impl<R: Read> Read for Watched<'_, R> {
+impl<R: Read> Read for Watched<R> {
     fn read(&mut self, room: &mut [u8]) -> io::Result<usize> {
         if self.seen.is_other() {
             return Ok(0);

@@ -146,7 +146,7 @@ fn lists(alloc: Global, row: &Listed) -> Result<bool> {
     let Some((name, matches)) = matches.subcommand() else {
         return Ok(false);
     };
-    match request_of(name, matches, "small.pdb") {
+    match request_of(name, matches, "small.pdb", &[]) {
         Request::List(command) => is_listed(alloc, command, form_of(matches), row),
         _ => Ok(false),
     }

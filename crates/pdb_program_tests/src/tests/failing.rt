@@ -106,7 +106,7 @@ fn serve_call(
     };
     match matches.subcommand() {
         Some((name, matches)) => {
-            let request = request_of(name, matches, "a.pdb");
+            let request = request_of(name, matches, "a.pdb", &["S"]);
             serve(alloc, &request, form, input, out, err)
         }
         None => MISUSED,

@@ -3,7 +3,7 @@
 use pdb_container::Result;
 use pdb_fixtures::file_of;
 use pdb_output::Output;
-use pdbdump_cli::{parse, paths_of, request_of, serve};
+use pdbdump_cli::{parse, request_of, serve};
 use pdbdump_rows::Form;
 use std::alloc::Global;
 use std::io::Cursor;
@@ -113,8 +113,8 @@ fn serve_file(
         return None;
     };
     let (name, matches) = matches.subcommand()?;
-    let path = paths_of(matches).first()?;
-    let request = request_of(name, matches, path);
+    let path = matches.get_str("FILE")?;
+    let request = request_of(name, matches, path, &[]);
     let mut input = Cursor::new(file);
     let mut out = Output::new(Vec::new(alloc));
     let mut err = Output::new(Vec::new(alloc));
