@@ -372,10 +372,10 @@ const HELPED: &[(&[&str], &str)] = &[
     (&["pdbdump", "help", "ask"], "Answer questions"),
 ];
 
-/// Whether a call writes something to standard output and nothing to standard error.
+/// Whether a call writes a text that begins so to standard output, and nothing to standard error.
 fn is_help(alloc: Global, words: &[&str], front: &str) -> bool {
     let process = Process::new(alloc, words, b"", false);
-    run(&process) == 0 && begins(&process.out, ABOUT) && holds(&process.err, b"")
+    run(&process) == 0 && begins(&process.out, front) && holds(&process.err, b"")
 }
 
 /// Whether a call for a file, whose input is one question, reports that its standard output fails,
