@@ -1,6 +1,9 @@
 //! The arguments of the program, parsed by the description of its commands.
 
-use crate::commands::{ABOUT, COMMANDS, Count, DETAILS, Description, Flag, Operand, Value};
+use crate::commands::{
+    ABOUT, ASK, Count, DECLARE, DETAILS, DIFF, Description, EXTRACT, FRAMES, Flag, ID, IDS, LAYOUT,
+    MAP, NAMES, OMAP, Operand, SECTIONS, SUMMARY, TYPES, VALIDATE, Value,
+};
 use clap::{Arg, ArgAction, ArgMatches, Command, Error};
 use std::alloc::{AllocError, Global};
 
@@ -51,6 +54,46 @@ fn subcommand<'a>(alloc: Global, described: &Description) -> Result<Command<'a>,
     Ok(command)
 }
 
+/// Returns the program with one more command.
+fn with<'a>(
+    alloc: Global,
+    program: Command<'a>,
+    described: &Description,
+) -> Result<Command<'a>, AllocError> {
+    program.subcommand(subcommand(alloc, described)?)
+}
+
+/// Returns the program with the commands for a summary and for tables.
+fn with_tables<'a>(alloc: Global, program: Command<'a>) -> Result<Command<'a>, AllocError> {
+    let program = with(alloc, program, &SUMMARY)?;
+    let program = with(alloc, program, &TYPES)?;
+    let program = with(alloc, program, &IDS)?;
+    with(alloc, program, &NAMES)
+}
+
+/// Returns the program with the commands for what has addresses.
+fn with_addresses<'a>(alloc: Global, program: Command<'a>) -> Result<Command<'a>, AllocError> {
+    let program = with(alloc, program, &SECTIONS)?;
+    let program = with(alloc, program, &OMAP)?;
+    let program = with(alloc, program, &FRAMES)?;
+    with(alloc, program, &MAP)
+}
+
+/// Returns the program with the commands for questions and for whole files.
+fn with_files<'a>(alloc: Global, program: Command<'a>) -> Result<Command<'a>, AllocError> {
+    let program = with(alloc, program, &ASK)?;
+    let program = with(alloc, program, &ID)?;
+    let program = with(alloc, program, &EXTRACT)?;
+    with(alloc, program, &VALIDATE)
+}
+
+/// Returns the program with the commands for types as a program has them.
+fn with_types<'a>(alloc: Global, program: Command<'a>) -> Result<Command<'a>, AllocError> {
+    let program = with(alloc, program, &LAYOUT)?;
+    let program = with(alloc, program, &DIFF)?;
+    with(alloc, program, &DECLARE)
+}
+
 /// Returns the program with its commands.
 fn program_command<'a>(alloc: Global) -> Result<Command<'a>, AllocError> {
     let mut program = Command::new(alloc, "pdbdump")
@@ -61,10 +104,10 @@ fn program_command<'a>(alloc: Global) -> Result<Command<'a>, AllocError> {
         .no_binary_name(true)
         .subcommand_required(true)
         .arg_required_else_help(true);
-    for described in COMMANDS {
-        program = program.subcommand(subcommand(alloc, described)?)?;
-    }
-    Ok(program)
+    program = with_tables(alloc, program)?;
+    program = with_addresses(alloc, program)?;
+    program = with_files(alloc, program)?;
+    with_types(alloc, program)
 }
 
 /// Parses arguments.

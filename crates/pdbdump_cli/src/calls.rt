@@ -3,7 +3,6 @@
 use crate::command::{
     Command, Declarations, Diff, Extract, Identify, Layouts, Request, ValidateOptions,
 };
-use crate::commands::{COMMANDS, Description, Value};
 use clap::ArgMatches;
 use pdb_cli::number;
 use pdb_consistency::Extent;
@@ -30,9 +29,42 @@ pub enum Misuse<'w> {
     InputTwice,
 }
 
-/// Returns the description of a command.
-fn description_of(name: &str) -> Option<&'static Description> {
-    COMMANDS.iter().find(|command| command.name == name)
+/// The options whose values are numbers, and what help calls these.
+const NUMBERS: [(&str, &str); 11] = [
+    ("stream", "S"),
+    ("index", "I"),
+    ("old", "S"),
+    ("new", "S"),
+    ("sections", "S"),
+    ("transformed", "S"),
+    ("to", "S"),
+    ("from", "S"),
+    ("skip", "N"),
+    ("take", "N"),
+    ("expand", "N"),
+];
+
+/// Returns whether a command has this name.
+fn is_command(name: &str) -> bool {
+    matches!(
+        name,
+        "summary"
+            | "types"
+            | "ids"
+            | "names"
+            | "sections"
+            | "omap"
+            | "frames"
+            | "map"
+            | "ask"
+            | "id"
+            | "extract"
+            | "validate"
+            | "layout"
+            | "diff"
+            | "declare"
+            | "help"
+    )
 }
 
 /// Returns arguments that begin with the name of a command: if there is only a path, that of its
@@ -43,7 +75,7 @@ pub fn with_command<'w>(alloc: Global, words: &[&'w str]) -> Result<Vec<&'w str>
         .iter()
         .filter(|word| **word == "-" || !word.starts_with('-'));
     if let (Some(first), None) = (operands.next(), operands.next()) {
-        if *first != "help" && description_of(first).is_none() {
+        if !is_command(first) {
             all.push("summary")?;
         }
     }
@@ -67,13 +99,13 @@ fn text_of<'w>(matches: &ArgMatches<'w>, id: &str) -> &'w str {
 }
 
 /// Returns an argument that is no number though it has to be one.
-fn wrong_number<'w>(described: &Description, matches: &ArgMatches<'w>) -> Option<Misuse<'w>> {
-    for flag in described.flags {
-        if let (Value::Number(name), Some(text)) = (flag.value, matches.get_str(flag.name)) {
+fn wrong_number<'w>(matches: &ArgMatches<'w>) -> Option<Misuse<'w>> {
+    for (option, name) in NUMBERS {
+        if let Some(text) = matches.get_str(option) {
             if number(text).is_none() {
                 return Some(Misuse::NoNumber {
                     text,
-                    option: Some(flag.name),
+                    option: Some(option),
                     name,
                 });
             }
@@ -269,10 +301,8 @@ fn standard_inputs(name: &str, matches: &ArgMatches<'_>) -> usize {
 /// Fails with `NoNumber` if an argument that has to be a number isn't one, and with `InputTwice` if
 /// two inputs would be read from standard input.
 pub fn check_call<'w>(name: &str, matches: &ArgMatches<'w>) -> Result<(), Misuse<'w>> {
-    if let Some(described) = description_of(name) {
-        if let Some(misuse) = wrong_number(described, matches) {
-            return Err(misuse);
-        }
+    if let Some(misuse) = wrong_number(matches) {
+        return Err(misuse);
     }
     if standard_inputs(name, matches) > 1 {
         return Err(Misuse::InputTwice);
