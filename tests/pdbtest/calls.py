@@ -43,6 +43,11 @@ def not_stored(number):
     return refused(f"The requested stream ({number}) is not stored in this file")
 
 
+def about(name, refusal):
+    """A refusal as pdbdump writes it, which names the file."""
+    return Outcome(refusal.status, refusal.out, f"pdbdump: {name}: ".encode() + refusal.err)
+
+
 UNRECOGNIZED = refused("UnrecognizedFileFormat")
 NO_OMAP = refused("OMAP stream has an invalid length or alignment for its records")
 NO_NAMES = refused("Unimplemented PDB feature: invalid string table signature")
@@ -90,9 +95,10 @@ def check_call(tally, program, words, wanted, given=None):
 
 
 def check_misused(tally, dumper, words):
-    """That pdbdump says of words that they ask nothing."""
+    """That pdbdump refuses arguments as programs in Rust do."""
     came = call(dumper, words)
-    is_told = came.status == 2 and not came.out and came.err.startswith(b"pdbdump: these words ask nothing:")
+    is_text = came.err.startswith(b"error: ") and came.err.endswith(b"\n\nFor more information, try '--help'.\n")
+    is_told = came.status == 2 and not came.out and is_text
     tally.check(is_told, f"{dumper.name} {words}: status {came.status}, {came.out[:80]!r}, {came.err[:80]!r}")
 
 

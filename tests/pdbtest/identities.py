@@ -121,4 +121,5 @@ def check_identity(tally, dumpers, file, image):
         for key in (wanted.key, wanted.key.lower()):
             check(["--expect", key, file], 0, line)
         for key in (wanted.key + "0", wanted.key[:-1], wanted.guid, ""):
-            check(["--expect", key, file], 1, line, b"the file has another key than the expected one\n")
+            told = f"pdbdump: {file}: the file has another key than the expected one\n".encode()
+            check(["--expect", key, file], 1, line, told)

@@ -7,6 +7,7 @@ pub mod InputFile
 pub mod LaidOut
 pub mod Listed
 pub mod Questions
+pub mod Reported
 pub mod Requests
 pub mod Served
 pub mod Validated

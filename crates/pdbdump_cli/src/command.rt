@@ -5,41 +5,6 @@ use pdbdump_declarations::Options as DeclareOptions;
 use pdbdump_layouts::Options;
 use pdbdump_tables::{KeyStyle, MapStreams};
 
-/// The name of a command.
-#[derive(Clone, Copy)]
-pub enum Verb {
-    /// `summary`: what the file is made of.
-    Summary,
-    /// `types`: the records of a table of types.
-    Types,
-    /// `ids`: the records of a table of ids.
-    Ids,
-    /// `names`: the names of a string table.
-    Names,
-    /// `sections`: the headers of sections.
-    Sections,
-    /// `omap`: the records of an OMAP table.
-    Omap,
-    /// `frames`: the records of a frame table.
-    Frames,
-    /// `map`: what an address map makes of an address.
-    Map,
-    /// `ask`: the answers to questions on standard input.
-    Ask,
-    /// `id`: the key under which symbol servers keep the file.
-    Id,
-    /// `extract`: the bytes of a stream.
-    Extract,
-    /// `validate`: whether files are whole.
-    Validate,
-    /// `layout`: where the members of classes are.
-    Layout,
-    /// `diff`: what types differ between two files.
-    Diff,
-    /// `declare`: a header of types.
-    Declare,
-}
-
 /// What the program writes of a file that is opened. A stream that isn't given is found by its role.
 #[derive(Clone, Copy)]
 pub enum Command<'w> {
@@ -94,29 +59,9 @@ pub enum Command<'w> {
     Extract(Extract<'w>),
 }
 
-/// What the program does with a file.
-#[derive(Clone, Copy)]
-pub enum Task<'w> {
-    /// To list what a command says.
-    List(Command<'w>),
-    /// To answer the questions on standard input.
-    Answer,
-}
-
-/// What the program is called for: a task, and the path of the file, or `-` for standard input.
-#[derive(Clone, Copy)]
-pub struct Call<'w> {
-    /// The path of the file.
-    pub path: &'w str,
-    /// What to do with it.
-    pub task: Task<'w>,
-}
-
 /// The arguments of `extract`, which writes a part of the bytes of a stream.
 #[derive(Clone, Copy)]
 pub struct Extract<'w> {
-    /// The path of the file, or `-` for standard input.
-    pub path: &'w str,
     /// The number, the role or the name of the stream.
     pub stream: &'w str,
     /// How many bytes are left out at the start.
@@ -128,11 +73,9 @@ pub struct Extract<'w> {
 /// The arguments of `id`, which prints the identity of a file.
 #[derive(Clone, Copy)]
 pub struct Identify<'w> {
-    /// The path of the file, or `-` for standard input.
-    pub path: &'w str,
     /// How the identity is written as text.
     pub style: KeyStyle,
-    /// The name of the file, which is the last part of its path if it isn't given.
+    /// The name of the file.
     pub name: &'w str,
     /// The key that the file should have.
     pub expected: Option<&'w str>,
@@ -149,72 +92,48 @@ pub struct ValidateOptions {
     pub is_quiet: bool,
 }
 
-/// The arguments of `validate`, which checks whether files are whole.
-#[derive(Drop)]
-pub struct Validate<'w> {
-    /// How the files are checked.
-    pub options: ValidateOptions,
-    /// The paths of the files, or `-` for standard input.
-    pub paths: Vec<&'w str>,
-}
-
 /// The arguments of `layout`, which shows the layouts of classes of a file.
 #[derive(Clone, Copy)]
-pub struct Layouts<'w> {
-    /// The path of the file, or `-` for standard input.
-    pub path: &'w str,
+pub struct Layouts<'m, 'w> {
     /// The names of classes and the paths of members.
-    pub names: &'w [&'w str],
+    pub names: &'m [&'w str],
     /// Which layouts are shown, and how.
     pub options: Options,
 }
 
 /// The arguments of `diff`, which compares the types of two files.
 #[derive(Clone, Copy)]
-pub struct Diff<'w> {
+pub struct Diff<'m, 'w> {
     /// The path of the old file, or `-` for standard input.
     pub old: &'w str,
     /// The path of the new file, or `-` for standard input.
     pub new: &'w str,
     /// The names of types, in which `*` and `?` are allowed, or none for all types.
-    pub names: &'w [&'w str],
+    pub names: &'m [&'w str],
     /// Whether only sizes, offsets, bits and names are compared.
     pub is_layout_only: bool,
 }
 
 /// The arguments of `declare`, which writes a header of types of a file.
 #[derive(Clone, Copy)]
-pub struct Declarations<'w> {
-    /// The path of the file, or `-` for standard input.
-    pub path: &'w str,
+pub struct Declarations<'m, 'w> {
     /// The names of types.
-    pub names: &'w [&'w str],
+    pub names: &'m [&'w str],
     /// What is declared, and in which language.
     pub options: DeclareOptions,
 }
 
 /// A request for one file.
 #[derive(Clone, Copy)]
-pub enum Request<'w> {
+pub enum Request<'m, 'w> {
     /// What a command writes.
     List(Command<'w>),
     /// What identifies the file.
     Identify(Identify<'w>),
-    /// What is found wrong in the file, and the path that it is called by.
+    /// What is found wrong in the file, and its path.
     Validate(ValidateOptions, &'w str),
     /// Layouts of its types.
-    Layout(Layouts<'w>),
+    Layout(Layouts<'m, 'w>),
     /// A header of its types.
-    Declare(Declarations<'w>),
-}
-
-/// Why words ask nothing of a file.
-#[derive(Clone, Copy)]
-pub enum Misuse {
-    /// There is no command of that name.
-    NoCommand,
-    /// The command does not take the words after it.
-    Arguments(Verb),
-    /// Both the questions and the file are to be read from standard input.
-    InputTwice,
+    Declare(Declarations<'m, 'w>),
 }

@@ -16,7 +16,7 @@ use std::io::Write;
 pub(crate) fn declare_in<S: Source + Drop, O: Write, E: Write>(
     alloc: Global,
     file: InputFile<S>,
-    asked: &Declarations<'_>,
+    asked: &Declarations<'_, '_>,
     out: &mut Output<O>,
     err: &mut Output<E>,
 ) -> Result<bool>

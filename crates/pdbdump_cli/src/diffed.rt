@@ -76,7 +76,7 @@ fn end_diff<O: Write, E: Write>(
 /// compared or written, which is reported.
 pub(crate) fn serve_diff<O: Write, E: Write>(
     alloc: Global,
-    asked: &Diff<'_>,
+    asked: &Diff<'_, '_>,
     old: Stream,
     new: Stream,
     form: Form,

@@ -25,21 +25,17 @@ const FORMAT_SIZE: u64 = 42;
 /// What is written if the file is not the expected one.
 const UNEXPECTED: &[u8] = b"the file has another key than the expected one\n";
 
-/// Returns what is written of a file of another format than the one that is read.
-fn other_format(format: Format) -> Option<&'static str>
+/// Returns what a file of another format is than the one that is read.
+pub(crate) fn other_format(format: Format) -> Option<&'static str>
     ensures { MatchOption result (format ≡ Msf7) (λ text. format ≢ Msf7) }
 {
     match format {
         Format::Msf7 => None,
-        Format::Msf2 => {
-            Some("a program database of the older format MSF 2.00, which is not read\n")
-        }
-        Format::Portable => {
-            Some("a portable program database of .NET, which is another format\n")
-        }
-        Format::Compressed => Some("a compressed file of a symbol server: expand it first\n"),
-        Format::Image => Some("a program or a library, and not its program database\n"),
-        Format::Unknown => Some("no program database\n"),
+        Format::Msf2 => Some("a program database of the older format MSF 2.00, which is not read"),
+        Format::Portable => Some("a portable program database of .NET, which is not read"),
+        Format::Compressed => Some("a compressed file of a symbol server: expand it first"),
+        Format::Image => Some("a program or library (PE), and not its program database"),
+        Format::Unknown => Some("not a program database"),
     }
 }
 

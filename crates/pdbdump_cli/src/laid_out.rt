@@ -28,7 +28,7 @@ pub(crate) fn type_stream<S: Source + Drop>(alloc: Global, source: S) -> Result<
 pub(crate) fn show_in<S: Source + Drop, O: Write, E: Write>(
     alloc: Global,
     file: InputFile<S>,
-    asked: &Layouts<'_>,
+    asked: &Layouts<'_, '_>,
     form: Form,
     out: &mut Output<O>,
     err: &mut Output<E>,

@@ -1,73 +1,144 @@
 //! The program on the channels of its process.
 
+use crate::arguments::parse;
 use crate::asking::serve_questions;
-use crate::command::{Call, Command, Diff, Misuse, Request, Task, Validate, Verb};
-use crate::declare_words::declarations_of;
-use crate::diff_words::diff_of;
-use crate::diffed::{refuse, serve_diff};
-use crate::help::{HELP, meaning_of, usage_of};
-use crate::id_words::{WordsApart, identify_of, words_apart};
+use crate::calls::{Misuse, check_call, diff_of, form_of, request_of, with_command};
+use crate::command::{Diff, Request};
+use crate::diffed::serve_diff;
 use crate::input_file::{FileBytes, InputFile};
 use crate::laid_out::type_stream;
-use crate::layout_words::layouts_of;
+use crate::reports::{Serving, Subject, error_line, report_lines, without_number};
 use crate::request::serve;
-use crate::validate_words::validate_of;
-use crate::words::{any_is, call_of, extract_of, first_verb, plain_words};
+use crate::seen::{FRONT_SIZE, Seen, Watched};
+use clap::ArgMatches;
+use clap::error::ErrorKind as ParseErrorKind;
 use pdb_base::Stream;
 use pdb_cli::{Errors, tell, texts_of, words_of};
-use pdb_container::{Error, FileSource, Result};
+use pdb_container::{Error, FileSource, Result, Source, SourceView};
 use pdb_msf::SeekFile;
 use pdb_output::Output;
-use pdbdump_rows::Form;
-use std::io::{BufWriter, ErrorKind, Seek, SeekFrom};
+use pdbdump_rows::{Form, push_text};
+use std::alloc::{AllocError, Global};
+use std::io::{BufWriter, ErrorKind, Read, Seek, SeekFrom};
 use std::rt::{Env, Files};
 use std::{env, fs, io};
 
 /// The number of bytes of output that are gathered before they are written.
 const BUFFER_SIZE: usize = 65_536;
 
-/// The status of a call whose words ask nothing.
+/// The status of a call after an error.
+const FAILED: u8 = 1;
+
+/// The status of a call whose arguments are wrong, or of a comparison that is not complete.
 const MISUSED: u8 = 2;
+
+/// What is reported if there is no memory for another report.
+const NO_MEMORY: &[u8] = b"pdbdump: out of memory\n";
+
+/// How the text of a usage error ends, as those of `clap` do.
+const TRY_HELP: &str = "For more information, try '--help'.\n";
+
+/// What is wrong with a number.
+const NO_NUMBER: &str = "no number from 0 to 4294967295, in decimal or in hexadecimal after 0x";
 
 /// A file that a process has opened.
 type ProcessFile<F> = InputFile<FileBytes<FileSource<SeekFile<F>>>>;
 
-/// Prints how the program is called, or how one command is.
-fn print_help<P: Print>(process: &P, words: &[&str]) -> Result<u8> {
-    match first_verb(words) {
-        Some(verb) => {
-            let usage = usage_of(verb);
-            let meaning = meaning_of(verb);
-            println!(process; "{usage}\n\n{meaning}")?;
-        }
-        None => print!(process; "{HELP}")?,
+/// Writes lines to standard error, or that there is no memory for them.
+fn write_lines<P: Eprint>(process: &P, lines: std::result::Result<Vec<u8>, AllocError>) {
+    let mut err = Output::new(Errors { process });
+    match lines {
+        Ok(lines) => err.report(&lines),
+        Err(_) => err.report(NO_MEMORY),
     }
-    Ok(0)
 }
 
-/// Writes to standard error why words are no command, and returns the status of misuse, which is
-/// the same if standard error fails.
-fn tell_misuse<P: Eprint + AllocGlobal>(process: &P, misuse: Misuse, words: &[&str]) -> Result<u8> {
-    let mut told = String::new(process.alloc());
+/// Reports an error of the system about a file or a channel.
+fn report_cause<P: Eprint + AllocGlobal>(process: &P, subject: &Subject<'_>, cause: &io::Error) {
+    let alloc = process.alloc();
+    let line = match format!(in alloc; "{cause}") {
+        Ok(text) => error_line(alloc, subject, "system", without_number(text.as_bytes())),
+        Err(error) => Err(error),
+    };
+    write_lines(process, line);
+}
+
+/// Ends a call that only prints a text, which was printed or not.
+fn end_print<P: Eprint + AllocGlobal>(process: &P, printed: io::Result<()>) -> u8 {
+    match printed {
+        Err(cause) if cause.kind() != ErrorKind::BrokenPipe => {
+            let subject = Subject {
+                name: Some("standard output"),
+                form: Form::Text,
+            };
+            report_cause(process, &subject, &cause);
+            FAILED
+        }
+        _ => 0,
+    }
+}
+
+/// Returns arguments with an escape for each character that isn't seen.
+fn escaped(alloc: Global, words: &[&str]) -> Result<Vec<String>> {
+    let mut all = Vec::with_capacity(alloc, words.len())?;
     for word in words {
-        told.push_str(" ")?;
-        told.push_str(word)?;
+        let mut text = Vec::new(alloc);
+        push_text(Form::Text, word.as_bytes(), &mut text)?;
+        all.push(String::from_utf8_lossy(alloc, &text)?)?;
     }
-    match misuse {
-        Misuse::NoCommand => {
-            let _ = eprint!(process; "pdbdump: no command is called so:{told}\n\n{HELP}");
+    Ok(all)
+}
+
+/// Writes to standard error why arguments are wrong, and returns the status, which is the same if
+/// standard error fails. The arguments are parsed again, with escapes, so that no character of
+/// theirs is hidden in the text.
+fn report_usage<P: Eprint + AllocGlobal>(process: &P, words: &[&str]) -> Result<u8> {
+    let escaped = escaped(process.alloc(), words)?;
+    let texts = texts_of(process.alloc(), &escaped)?;
+    if let Err(error) = parse(process.alloc(), &texts) {
+        let _ = eprint!(process; "{error}");
+    }
+    Ok(MISUSED)
+}
+
+/// Ends a call whose arguments were not parsed: it prints the help or the version, or reports what
+/// is wrong.
+fn end_unparsed<P: Print + Eprint + AllocGlobal>(
+    process: &P,
+    words: &[&str],
+    error: &clap::Error,
+) -> Result<u8> {
+    match error.kind() {
+        ParseErrorKind::DisplayHelp | ParseErrorKind::DisplayVersion => {
+            Ok(end_print(process, print!(process; "{error}")))
         }
-        Misuse::Arguments(verb) => {
-            let usage = usage_of(verb);
-            let _ = eprintln!(process; "pdbdump: these words ask nothing:{told}\nusage: {usage}");
-        }
+        ParseErrorKind::OutOfMemory => Err(Error::OutOfMemory),
+        _ => report_usage(process, words),
+    }
+}
+
+/// Returns the text of what is wrong with an argument that the parser took.
+fn misuse_text(alloc: Global, misuse: Misuse<'_>) -> Result<String> {
+    let (text, option, name) = match misuse {
+        Misuse::NoNumber { text, option, name } => (text, option, name),
         Misuse::InputTwice => {
-            let usage = usage_of(Verb::Ask);
-            let _ = eprintln!(process;
-                "pdbdump: standard input has the questions, so FILE cannot be `-`\nusage: {usage}"
-            );
+            return Ok(String::from_str(alloc, "standard input would be read twice")?);
         }
-    }
+    };
+    let mut shown = Vec::new(alloc);
+    push_text(Form::Text, text.as_bytes(), &mut shown)?;
+    let shown = String::from_utf8_lossy(alloc, &shown)?;
+    let argument = match option {
+        Some(option) => format!(in alloc; "--{option} <{name}>")?,
+        None => format!(in alloc; "<{name}>")?,
+    };
+    Ok(format!(in alloc; "invalid value '{shown}' for '{argument}': {NO_NUMBER}")?)
+}
+
+/// Reports what is wrong with an argument that the parser took.
+fn report_misuse<P: Eprint + AllocGlobal>(process: &P, misuse: Misuse<'_>) -> Result<u8> {
+    let text = misuse_text(process.alloc(), misuse)?;
+    let _ = eprint!(process; "error: {text}\n\n{TRY_HELP}");
     Ok(MISUSED)
 }
 
@@ -80,38 +151,73 @@ fn told_size<F: Seek>(file: &mut F) -> Option<u64> {
     }
 }
 
-/// Opens the file at a path, or reads the one in standard input if the path is `-`.
+/// Writes to standard error what was reported while a file was served, with its name.
+fn report<P: Eprint + AllocGlobal>(process: &P, serving: Serving<'_>, has_output_failed: bool) {
+    let lines = report_lines(process.alloc(), serving, has_output_failed);
+    write_lines(process, lines);
+}
+
+/// Returns the file in an input, which is read whole, and whose first bytes are seen.
+fn whole_file<R: Read + Drop, S: Source + Drop>(
+    alloc: Global,
+    input: R,
+    seen: &mut Seen,
+) -> Result<InputFile<FileBytes<S>>> {
+    let mut input = Watched::new(alloc, input);
+    let file = InputFile::read_whole(alloc, &mut input);
+    *seen = input.into_seen();
+    file
+}
+
+/// Opens the file at a path, or reads the one in standard input if the path is `-`. Its first bytes
+/// are seen.
 fn open_file<P: Files + Input + AllocGlobal>(
     process: &P,
     path: &str,
+    seen: &mut Seen,
 ) -> Result<ProcessFile<P::File>> {
     let alloc = process.alloc();
     if path == "-" {
-        return InputFile::read_whole(alloc, &mut process.reader());
+        return whole_file(alloc, process.reader(), seen);
     }
     let mut input = fs::open(process, path)?;
-    match told_size(&mut input) {
-        Some(size) => {
-            let source = FileBytes::Stored(FileSource::new(SeekFile::new(input))?);
-            Ok(InputFile { source, size })
-        }
-        None => InputFile::read_whole(alloc, &mut input),
+    let Some(size) = told_size(&mut input) else {
+        return whole_file(alloc, input, seen);
+    };
+    let source = FileBytes::Stored(FileSource::new(SeekFile::new(input))?);
+    let mut file = InputFile { source, size };
+    if let Ok(front) = file.front(alloc, FRONT_SIZE as u64) {
+        seen.add_file(front.as_slice(), size)?;
     }
+    Ok(file)
 }
 
-/// Serves a request for the file at a path, or for the one in standard input if the path is `-`.
+/// Serves a request for the file at a path, or for the one in standard input if the path is `-`, and
+/// reports errors with the name of the file. The status is not 0 if the file is shorter than its
+/// header says.
 fn serve_file<P: Files + Input + Print + Eprint + AllocGlobal>(
     process: &P,
     path: &str,
-    request: &Request<'_>,
+    request: &Request<'_, '_>,
     form: Form,
 ) -> Result<u8> {
     let alloc = process.alloc();
     let buffer = BufWriter::with_capacity(alloc, BUFFER_SIZE, io::writer(process))?;
     let mut out = Output::new(buffer);
-    let mut err = Output::new(Errors { process });
-    let file = open_file(process, path);
-    Ok(serve(alloc, request, form, file, &mut out, &mut err))
+    let mut serving = Serving::new(alloc, Some(path), form);
+    let file = open_file(process, path, &mut serving.seen);
+    let status = serve(alloc, request, form, file, &mut out, &mut serving.reports);
+    if let Request::Validate(..) = request {
+        // What is wrong with the length is among the findings.
+        serving.seen = Seen::nothing(alloc);
+    }
+    let least = if serving.seen.wanted_size().is_some() {
+        FAILED
+    } else {
+        0
+    };
+    report(process, serving, out.has_failed());
+    Ok(status.max(least))
 }
 
 /// Answers the questions on standard input about the file at a path.
@@ -123,187 +229,107 @@ fn answer_questions<P: Files + Input + Print + Eprint + AllocGlobal>(
     let alloc = process.alloc();
     let buffer = BufWriter::with_capacity(alloc, BUFFER_SIZE, io::writer(process))?;
     let mut out = Output::new(buffer);
-    let mut err = Output::new(Errors { process });
+    let mut serving = Serving::new(alloc, Some(path), form);
     let mut questions = process.reader();
-    let file = open_file(process, path);
-    Ok(serve_questions(alloc, form, file, &mut questions, &mut out, &mut err))
-}
-
-/// Does what the words after `validate` ask: looks at each file, and returns the highest status.
-fn call_validate<P: Files + Input + Print + Eprint + AllocGlobal>(
-    process: &P,
-    plain: &[&str],
-    words: &[&str],
-    form: Form,
-) -> Result<u8> {
-    let Some(Validate { options, paths }) = validate_of(process.alloc(), plain)? else {
-        return tell_misuse(process, Misuse::Arguments(Verb::Validate), words);
-    };
-    let mut status = 0;
-    for path in paths.iter() {
-        status = status.max(serve_file(process, path, &Request::Validate(options, path), form)?);
-    }
+    let file = open_file(process, path, &mut serving.seen);
+    let reports = &mut serving.reports;
+    let status = serve_questions(alloc, form, file, &mut questions, &mut out, reports);
+    report(process, serving, out.has_failed());
     Ok(status)
-}
-
-/// Does what the words after `layout` ask.
-fn call_layout<P: Files + Input + Print + Eprint + AllocGlobal>(
-    process: &P,
-    plain: &[&str],
-    words: &[&str],
-    form: Form,
-) -> Result<u8> {
-    match layouts_of(plain) {
-        Some(asked) => serve_file(process, asked.path, &Request::Layout(asked), form),
-        None => tell_misuse(process, Misuse::Arguments(Verb::Layout), words),
-    }
 }
 
 /// Returns the stream of types of the file at a path, or of the one in standard input if the path is
 /// `-`.
-fn types_at<P: Files + Input + AllocGlobal>(process: &P, path: &str) -> Result<Stream> {
-    let file = open_file(process, path)?;
+fn types_at<P: Files + Input + AllocGlobal>(
+    process: &P,
+    path: &str,
+    seen: &mut Seen,
+) -> Result<Stream> {
+    let file = open_file(process, path, seen)?;
     type_stream(process.alloc(), file.source)
+}
+
+/// Returns the stream of types as `types_at` does, or reports why it can't be read.
+fn types_or_report<P: Files + Input + Eprint + AllocGlobal>(
+    process: &P,
+    path: &str,
+    form: Form,
+) -> Option<Stream> {
+    let mut serving = Serving::new(process.alloc(), Some(path), form);
+    match types_at(process, path, &mut serving.seen) {
+        Ok(stream) => Some(stream),
+        Err(fault) => {
+            tell(process.alloc(), &fault, &mut serving.reports);
+            report(process, serving, false);
+            None
+        }
+    }
 }
 
 /// Compares the types of two files.
 fn compare_files<P: Files + Input + Print + Eprint + AllocGlobal>(
     process: &P,
-    asked: &Diff<'_>,
+    asked: &Diff<'_, '_>,
     form: Form,
 ) -> Result<u8> {
     let alloc = process.alloc();
     let buffer = BufWriter::with_capacity(alloc, BUFFER_SIZE, io::writer(process))?;
     let mut out = Output::new(buffer);
-    let mut err = Output::new(Errors { process });
-    let old = match types_at(process, asked.old) {
-        Ok(stream) => stream,
-        Err(fault) => return Ok(refuse(alloc, asked.old, &fault, &mut err)),
+    let Some(old) = types_or_report(process, asked.old, form) else {
+        return Ok(MISUSED);
     };
-    match types_at(process, asked.new) {
-        Ok(new) => Ok(serve_diff(alloc, asked, old, new, form, &mut out, &mut err)),
-        Err(fault) => Ok(refuse(alloc, asked.new, &fault, &mut err)),
-    }
+    let Some(new) = types_or_report(process, asked.new, form) else {
+        return Ok(MISUSED);
+    };
+    // Each report says itself which of both files it is about.
+    let mut serving = Serving::new(alloc, None, form);
+    let status = serve_diff(alloc, asked, old, new, form, &mut out, &mut serving.reports);
+    report(process, serving, out.has_failed());
+    Ok(status)
 }
 
-/// Does what the words after `diff` ask.
-fn call_diff<P: Files + Input + Print + Eprint + AllocGlobal>(
+/// Does what a command with these arguments requests, and returns the highest status of its files.
+fn run_command<P: Files + Input + Print + Eprint + AllocGlobal>(
     process: &P,
-    plain: &[&str],
-    words: &[&str],
-    form: Form,
+    name: &str,
+    matches: &ArgMatches<'_>,
 ) -> Result<u8> {
-    match diff_of(plain) {
-        Some(asked) => compare_files(process, &asked, form),
-        None => tell_misuse(process, Misuse::Arguments(Verb::Diff), words),
+    if let Err(misuse) = check_call(name, matches) {
+        return report_misuse(process, misuse);
     }
-}
-
-/// Does what the words after `declare` ask, which has no form in JSON.
-fn call_declare<P: Files + Input + Print + Eprint + AllocGlobal>(
-    process: &P,
-    plain: &[&str],
-    words: &[&str],
-    form: Form,
-) -> Result<u8> {
-    match (declarations_of(plain), form) {
-        (Some(asked), Form::Text) => {
-            serve_file(process, asked.path, &Request::Declare(asked), form)
-        }
-        _ => tell_misuse(process, Misuse::Arguments(Verb::Declare), words),
-    }
-}
-
-/// Serves the request of the words behind `id` for one file after another, and returns the highest
-/// status.
-fn call_id<P: Files + Input + Print + Eprint + AllocGlobal>(
-    process: &P,
-    plain: &[&str],
-    words: &[&str],
-    form: Form,
-) -> Result<u8> {
-    let WordsApart { mut options, paths } = words_apart(process.alloc(), plain)?;
-    if paths.is_empty() {
-        return tell_misuse(process, Misuse::Arguments(Verb::Id), words);
+    let form = form_of(matches);
+    let names = matches.get_strs("NAME").unwrap_or(&[]);
+    if name == "diff" {
+        return compare_files(process, &diff_of(matches, names), form);
     }
     let mut status = 0;
-    for path in paths.iter() {
-        options.push(*path)?;
-        let Some(asked) = identify_of(&options) else {
-            return tell_misuse(process, Misuse::Arguments(Verb::Id), words);
+    for path in matches.get_strs("FILE").unwrap_or(&[]) {
+        let ended = if name == "ask" {
+            answer_questions(process, path, form)?
+        } else {
+            serve_file(process, path, &request_of(name, matches, path, names), form)?
         };
-        status = status.max(serve_file(process, asked.path, &Request::Identify(asked), form)?);
-        options.pop();
+        status = status.max(ended);
     }
     Ok(status)
 }
 
-/// Does what the words after `extract` ask, which has no form in JSON.
-fn call_extract<P: Files + Input + Print + Eprint + AllocGlobal>(
-    process: &P,
-    plain: &[&str],
-    words: &[&str],
-    form: Form,
-) -> Result<u8> {
-    match (extract_of(plain), form) {
-        (Some(asked), Form::Text) => {
-            serve_file(
-                process,
-                asked.path,
-                &Request::List(Command::Extract(asked)),
-                form,
-            )
-        }
-        _ => tell_misuse(process, Misuse::Arguments(Verb::Extract), words),
-    }
-}
-
-/// Lists what the words ask, or answers questions.
-fn call_listing<P: Files + Input + Print + Eprint + AllocGlobal>(
-    process: &P,
-    plain: &[&str],
-    words: &[&str],
-    form: Form,
-) -> Result<u8> {
-    match call_of(plain) {
-        Ok(Call { path, task }) => match task {
-            Task::List(command) => serve_file(process, path, &Request::List(command), form),
-            Task::Answer => answer_questions(process, path, form),
-        },
-        Err(misuse) => tell_misuse(process, misuse, words),
-    }
-}
-
-/// Does what the words after the program's name ask, and returns the status that it ends with.
+/// Does what the arguments after the program's name request, and returns the exit status.
 fn call<P: Files + Input + Print + Eprint + AllocGlobal>(
     process: &P,
     words: &[&str],
 ) -> Result<u8> {
-    if any_is(words, "--help") {
-        return print_help(process, words);
-    }
-    let form = if any_is(words, "--json") {
-        Form::Json
-    } else {
-        Form::Text
-    };
-    let plain = plain_words(process.alloc(), words)?;
-    let Some((_, rest)) = plain.split_first() else {
-        let _ = eprint!(process; "{HELP}");
-        return Ok(MISUSED);
-    };
-    match first_verb(&plain) {
-        Some(Verb::Id) => call_id(process, rest, words, form),
-        Some(Verb::Extract) => call_extract(process, rest, words, form),
-        Some(Verb::Validate) => call_validate(process, rest, words, form),
-        Some(Verb::Layout) => call_layout(process, rest, words, form),
-        Some(Verb::Diff) => call_diff(process, rest, words, form),
-        Some(Verb::Declare) => call_declare(process, rest, words, form),
-        _ => call_listing(process, &plain, words, form),
+    let words = with_command(process.alloc(), words)?;
+    match parse(process.alloc(), &words) {
+        Ok(matches) => match matches.subcommand() {
+            Some((name, matches)) => run_command(process, name, matches),
+            None => report_usage(process, &words),
+        },
+        Err(error) => end_unparsed(process, &words, &error),
     }
 }
 
-/// Reads the words of a call, does what they ask, and returns the status that it ends with.
+/// Reads the arguments of a call, does what they request, and returns the exit status.
 fn attempt<P: Env + Files + Input + Print + Eprint + AllocGlobal>(process: &P) -> Result<u8> {
     match env::args(process) {
         Ok(arguments) => {
@@ -312,23 +338,31 @@ fn attempt<P: Env + Files + Input + Print + Eprint + AllocGlobal>(process: &P) -
             call(process, &texts)
         }
         Err(error) if error.kind() == ErrorKind::InvalidData => {
-            let _ = eprint!(process; "{HELP}");
+            let text = "invalid UTF-8 was detected in one or more arguments";
+            let _ = eprint!(process; "error: {text}\n\n{TRY_HELP}");
             Ok(MISUSED)
         }
         Err(error) => Err(Error::from(error)),
     }
 }
 
-/// Runs the program with the words, the files and the channels of its process, and returns the
-/// status that it ends with: 0 if all was listed or answered, 1 if something failed, 2 if the words
-/// are no command.
+/// Runs the program with the arguments, the files and the channels of its process, and returns the
+/// exit status: 0 if everything was shown, 1 after an error or for a negative answer, 2 if the
+/// arguments are wrong.
 pub fn program<P: Env + Files + Input + Print + Eprint + AllocGlobal>(process: &P) -> u8 {
     match attempt(process) {
         Ok(status) => status,
-        Err(fault) => tell(
-            process.alloc(),
-            &fault,
-            &mut Output::new(Errors { process }),
-        ),
+        Err(Error::IoError(cause)) => {
+            let subject = Subject {
+                name: None,
+                form: Form::Text,
+            };
+            report_cause(process, &subject, &cause);
+            FAILED
+        }
+        Err(_) => {
+            write_lines(process, Err(AllocError));
+            FAILED
+        }
     }
 }

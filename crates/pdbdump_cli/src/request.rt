@@ -25,7 +25,7 @@ use std::io::Write;
 /// channel, behind what was written before it, unless it is that the output was closed.
 fn serve_opened<S: Source + Drop, O: Write, E: Write>(
     alloc: Global,
-    request: &Request<'_>,
+    request: &Request<'_, '_>,
     form: Form,
     file: InputFile<S>,
     out: &mut Output<O>,
@@ -54,7 +54,7 @@ fn serve_opened<S: Source + Drop, O: Write, E: Write>(
 /// Serves a request for a file as `serve_opened` does, or reports why it can't be opened.
 pub fn serve<S: Source + Drop, O: Write, E: Write>(
     alloc: Global,
-    request: &Request<'_>,
+    request: &Request<'_, '_>,
     form: Form,
     opened: Result<InputFile<S>>,
     out: &mut Output<O>,

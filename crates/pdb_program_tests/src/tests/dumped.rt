@@ -3,7 +3,7 @@
 use pdb_container::Result;
 use pdb_fixtures::{s1, s1_with, with_bytes};
 use pdb_output::Output;
-use pdbdump_cli::{Call, Command, InputFile, Task, any_is, call_of, list, plain_words};
+use pdbdump_cli::{Command, InputFile, Request, form_of, list, parse, request_of, with_command};
 use pdbdump_rows::Form;
 use std::alloc::Global;
 use std::io::Cursor;
@@ -123,15 +123,6 @@ const LISTED: &[Listed] = rows! {
     &["sections", "small.pdb"], b"hello", "", "Unimplemented PDB feature: ancient DBI header";
 };
 
-/// The form that words select.
-fn form_of(words: &[&str]) -> Form {
-    if any_is(words, "--json") {
-        Form::Json
-    } else {
-        Form::Text
-    }
-}
-
 /// Whether nothing fails, where the text is empty, or the error has this text.
 fn is_told(alloc: Global, answer: Result<bool>, refusal: &str) -> Result<bool> {
     match answer {
@@ -157,14 +148,15 @@ fn is_listed(alloc: Global, command: Command<'_>, form: Form, row: &Listed) -> R
 /// Whether the words of a case select the command that lists what it has.
 fn lists(alloc: Global, row: &Listed) -> Result<bool> {
     let (words, ..) = *row;
-    let plain = plain_words(alloc, words)?;
-    match call_of(&plain) {
-        Ok(
-            Call {
-                path: "small.pdb",
-                task: Task::List(command),
-            },
-        ) => is_listed(alloc, command, form_of(words), row),
+    let words = with_command(alloc, words)?;
+    let Ok(matches) = parse(alloc, &words) else {
+        return Ok(false);
+    };
+    let Some((name, matches)) = matches.subcommand() else {
+        return Ok(false);
+    };
+    match request_of(name, matches, "small.pdb", &[]) {
+        Request::List(command) => is_listed(alloc, command, form_of(matches), row),
         _ => Ok(false),
     }
 }

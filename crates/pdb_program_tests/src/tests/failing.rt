@@ -4,10 +4,7 @@ use super::channels::arguments;
 use super::uses::build_file;
 use pdb_base::Result;
 use pdb_output::Output;
-use pdbdump_cli::{
-    Command, FileBytes, InputFile, Request, extract_of, identify_of, layouts_of, serve,
-    serve_questions, validate_of,
-};
+use pdbdump_cli::{FileBytes, InputFile, parse, request_of, serve, serve_questions};
 use pdbdump_rows::Form;
 use std::alloc::Global;
 use std::io;
@@ -103,6 +100,27 @@ pub(super) fn whole<I: Read>(
     InputFile::read_whole(alloc, input)
 }
 
+/// Serves a call of `pdbdump`, and returns its status.
+fn serve_call(
+    alloc: Global,
+    words: &[&str],
+    form: Form,
+    input: &mut Failing,
+    out: &mut Output<Failing>,
+    err: &mut Output<Failing>,
+) -> u8 {
+    let Ok(matches) = parse(alloc, words) else {
+        return MISUSED;
+    };
+    match matches.subcommand() {
+        Some((name, matches)) => {
+            let request = request_of(name, matches, "a.pdb", &["S"]);
+            serve(alloc, &request, form, whole(alloc, input), out, err)
+        }
+        None => MISUSED,
+    }
+}
+
 /// Runs a program, and returns its status.
 fn run(
     alloc: Global,
@@ -111,7 +129,7 @@ fn run(
     out: &mut Output<Failing>,
     err: &mut Output<Failing>,
 ) -> Result<u8> {
-    let (request, form) = match served {
+    let (words, form): (&[&str], Form) = match served {
         Served::Query => {
             let words = arguments(alloc, &Ok(&["stream", "1"]))?;
             return Ok(pdb_cli::serve(alloc, words, input, out, err));
@@ -121,28 +139,13 @@ fn run(
             let file = whole(alloc, input);
             return Ok(serve_questions(alloc, form, file, &mut questions, out, err));
         }
-        Served::Records(form) => (Some(Request::List(Command::Omap { stream: Some(7) })), form),
-        Served::Key(form) => (identify_of(&["a.pdb"]).map(Request::Identify), form),
-        Served::Stream => {
-            let asked = extract_of(&["a.pdb", "1"]);
-            (
-                asked.map(|asked| Request::List(Command::Extract(asked))),
-                Form::Text,
-            )
-        }
-        Served::Findings(form) => {
-            let asked = validate_of(alloc, &["a.pdb"])?;
-            (
-                asked.map(|asked| Request::Validate(asked.options, "a.pdb")),
-                form,
-            )
-        }
-        Served::Layout(form) => (layouts_of(&["a.pdb", "S"]).map(Request::Layout), form),
+        Served::Records(form) => (&["omap", "--stream", "7", "a.pdb"], form),
+        Served::Key(form) => (&["id", "a.pdb"], form),
+        Served::Stream => (&["extract", "a.pdb", "1"], Form::Text),
+        Served::Findings(form) => (&["validate", "a.pdb"], form),
+        Served::Layout(form) => (&["layout", "a.pdb", "S"], form),
     };
-    match request {
-        Some(request) => Ok(serve(alloc, &request, form, whole(alloc, input), out, err)),
-        None => Ok(MISUSED),
-    }
+    Ok(serve_call(alloc, words, form, input, out, err))
 }
 
 const IO_ERROR: &[u8] = b"IO error while reading PDB: ";

@@ -4,7 +4,7 @@ use super::failing::whole;
 use pdb_container::Result;
 use pdb_fixtures::file_of;
 use pdb_output::Output;
-use pdbdump_cli::{Command, Request, extract_of, identify_of, serve};
+use pdbdump_cli::{parse, request_of, serve};
 use pdbdump_rows::Form;
 use std::alloc::Global;
 use std::io::Cursor;
@@ -74,8 +74,7 @@ pub(crate) fn whole_file(alloc: Global) -> Result<Vec<u8>> {
     file_with(alloc, 1, Debug::Aged(1))
 }
 
-/// A case: the age in stream 1, stream 3, the words behind `id`, and what is written, with the
-/// status.
+/// A case: the age in stream 1, stream 3, the words of a call, and what is written, with the status.
 type Identified = (
     u32,
     Debug,
@@ -86,81 +85,77 @@ type Identified = (
 );
 
 const IDENTIFIED: &[Identified] = rows! {
-    3, Debug::Aged(0), &["store/Some.pdb"], "Some.pdb/00112233445566778899AABBCCDDEEFF0/Some.pdb\n", "", 0;
-    3, Debug::Aged(0xabcdef), &["--format", "ssqp", "store/Some.pdb"],
+    3, Debug::Aged(0), &["id", "store/Some.pdb"], "Some.pdb/00112233445566778899AABBCCDDEEFF0/Some.pdb\n", "", 0;
+    3, Debug::Aged(0xabcdef), &["id", "--format", "ssqp", "store/Some.pdb"],
         "some.pdb/00112233445566778899aabbccddeeffabcdef/some.pdb\n", "", 0;
-    3, Debug::Aged(0xffff_ffff), &["Some.pdb", "--name", "Other", "--format", "key"],
+    3, Debug::Aged(0xffff_ffff), &["id", "Some.pdb", "--name", "Other", "--format", "key"],
         "Other/00112233445566778899AABBCCDDEEFFFFFFFFFF/Other\n", "", 0;
-    0x1a, Debug::Empty, &["--expect", "00112233445566778899aabbccddeeff1A", "-"], "-/00112233445566778899AABBCCDDEEFF1A/-\n", "",
+    0x1a, Debug::Empty, &["id", "--expect", "00112233445566778899aabbccddeeff1A", "-"], "-/00112233445566778899AABBCCDDEEFF1A/-\n", "",
         0;
-    7, Debug::Missing, &["--expect", "00112233445566778899AABBCCDDEEFF1", "a.pdb"],
+    7, Debug::Missing, &["id", "--expect", "00112233445566778899AABBCCDDEEFF1", "a.pdb"],
         "a.pdb/00112233445566778899AABBCCDDEEFF7/a.pdb\n", "the file has another key than the expected one\n", 1;
-    7, Debug::Aged(16), &["--format", "breakpad", "a.pdb"], "MODULE windows x86_64 00112233445566778899AABBCCDDEEFF10 a.pdb\n",
+    7, Debug::Aged(16), &["id", "--format", "breakpad", "a.pdb"], "MODULE windows x86_64 00112233445566778899AABBCCDDEEFF10 a.pdb\n",
         "", 0;
-    7, Debug::Missing, &["--format", "breakpad", "a.pdb"], "MODULE windows unknown 00112233445566778899AABBCCDDEEFF7 a.pdb\n", "",
+    7, Debug::Missing, &["id", "--format", "breakpad", "a.pdb"], "MODULE windows unknown 00112233445566778899AABBCCDDEEFF7 a.pdb\n", "",
         0;
-    7, Debug::Empty, &["--format", "guid", "a.pdb"], "00112233-4455-6677-8899-AABBCCDDEEFF\n", "", 0;
+    7, Debug::Empty, &["id", "--format", "guid", "a.pdb"], "00112233-4455-6677-8899-AABBCCDDEEFF\n", "", 0;
 };
 
-/// Returns the status with which a program serves a request over a file, and whether it writes this
-/// to the output and to the error channel.
+/// Returns the status with which a program serves a call over a file, and whether it writes this to
+/// the output and to the error channel; or None if it doesn't take the words.
 fn serve_file(
     alloc: Global,
     file: &[u8],
-    request: &Request<'_>,
+    words: &[&str],
     written: &[u8],
     told: &str,
-) -> (u8, bool) {
+) -> Option<(u8, bool)> {
+    let Ok(matches) = parse(alloc, words) else {
+        return None;
+    };
+    let (name, matches) = matches.subcommand()?;
+    let path = matches.get_str("FILE")?;
+    let request = request_of(name, matches, path, &[]);
     let mut input = Cursor::new(file);
     let mut out = Output::new(Vec::new(alloc));
     let mut err = Output::new(Vec::new(alloc));
     let file = whole(alloc, &mut input);
-    let status = serve(alloc, request, Form::Text, file, &mut out, &mut err);
+    let status = serve(alloc, &request, Form::Text, file, &mut out, &mut err);
     let is_written = out.into_inner().as_slice() == written;
-    (
-        status,
-        is_written && err.into_inner().as_slice() == told.as_bytes(),
-    )
+    let is_told = err.into_inner().as_slice() == told.as_bytes();
+    Some((status, is_written && is_told))
 }
 
 /// Returns whether `id` writes of a file what a case has.
 fn is_identified(alloc: Global, row: &Identified) -> Result<bool> {
     let (age, debug, words, line, told, wanted) = *row;
-    let Some(asked) = identify_of(words) else {
-        return Ok(false);
-    };
     let file = file_with(alloc, age, debug)?;
-    let request = Request::Identify(asked);
-    Ok(serve_file(alloc, &file, &request, line.as_bytes(), told) == (wanted, true))
+    Ok(serve_file(alloc, &file, words, line.as_bytes(), told) == Some((wanted, true)))
 }
 
-/// A case: the words behind `extract`, and what is written to the output and to the error channel.
+/// A case: the words of a call, and what is written to the output and to the error channel.
 type Extracted = (&'static [&'static str], &'static [u8], &'static str);
 
 const EXTRACTED: &[Extracted] = rows! {
-    &["a.pdb", "3", "--take", "4"], b"\xff\xff\xff\xff", "";
-    &["--skip", "56", "a.pdb", "debug_information"], b"\x02\0\x64\x86\0\0\0\0", "";
-    &["--skip", "58", "--take", "0x2", "a.pdb", "/x"], b"\x64\x86", "";
-    &["--skip", "64", "a.pdb", "/x"], b"", "";
-    &["--skip", "0xffffffff", "a.pdb", "3"], b"", "";
-    &["--take", "4", "a.pdb", "pdb_information"], b"\x94\x2e\x31\x01", "";
-    &["a.pdb", "0"], b"", "";
-    &["a.pdb", "types"], b"", "The requested stream (2) is not stored in this file\n";
-    &["a.pdb", "ids"], b"", "The requested stream (4) is not stored in this file\n";
-    &["a.pdb", "omap_from_src"], b"", "StreamNameNotFound\n";
-    &["a.pdb", "/y"], b"", "StreamNameNotFound\n";
+    &["extract", "a.pdb", "3", "--take", "4"], b"\xff\xff\xff\xff", "";
+    &["extract", "--skip", "56", "a.pdb", "debug_information"], b"\x02\0\x64\x86\0\0\0\0", "";
+    &["extract", "--skip", "58", "--take", "0x2", "a.pdb", "/x"], b"\x64\x86", "";
+    &["extract", "--skip", "64", "a.pdb", "/x"], b"", "";
+    &["extract", "--skip", "0xffffffff", "a.pdb", "3"], b"", "";
+    &["extract", "--take", "4", "a.pdb", "pdb_information"], b"\x94\x2e\x31\x01", "";
+    &["extract", "a.pdb", "0"], b"", "";
+    &["extract", "a.pdb", "types"], b"", "The requested stream (2) is not stored in this file\n";
+    &["extract", "a.pdb", "ids"], b"", "The requested stream (4) is not stored in this file\n";
+    &["extract", "a.pdb", "omap_from_src"], b"", "StreamNameNotFound\n";
+    &["extract", "a.pdb", "/y"], b"", "StreamNameNotFound\n";
 };
 
 /// Returns whether `extract` writes what a case has.
 fn is_extracted(alloc: Global, row: &Extracted) -> Result<bool> {
     let (words, bytes, told) = *row;
-    let Some(asked) = extract_of(words) else {
-        return Ok(false);
-    };
     let file = whole_file(alloc)?;
-    let request = Request::List(Command::Extract(asked));
-    let (status, is_written) = serve_file(alloc, &file, &request, bytes, told);
-    Ok((status == 0) == told.is_empty() && is_written)
+    let wanted = if told.is_empty() { 0 } else { 1 };
+    Ok(serve_file(alloc, &file, words, bytes, told) == Some((wanted, true)))
 }
 
 #[test]

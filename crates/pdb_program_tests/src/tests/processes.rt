@@ -253,53 +253,63 @@ const CALLS: &[Row] = rows! {
     &["pdbdump", "omap", "--stream", "3", "-"], 0, "source_address=0x2000 target_address=0x1000\nis_sorted=true\n", "";
     &["pdbdump", "omap", "-", "--stream", "3", "--json"], 0,
         "{\"source_address\":8192,\"target_address\":4096}\n{\"is_sorted\":true}\n", "";
-    &["pdbdump", "--json", "frames", "--new", "2", "-"], 1, "", ABSENT_2;
-    &["pdbdump", "frames", "--new", "2", "-"], 1, "", ABSENT_2;
-    &["pdbdump", "ask", "-"], 2, "", "pdbdump: standard input";
-    &["pdbdump", "list", "-"], 2, "", "pdbdump: no command";
+    &["pdbdump", "frames", "--new", "2", "-"], 1, "", NAMED_2;
+    &["pdbdump", "frames", "--new", "2", "-", "--json"], 1, "", OBJECT;
+    &["pdbdump", "ask", "-"], 2, "", MISUSE;
+    &["pdbdump", "list", "-"], 2, "", MISUSE;
     &["pdbdump", "extract", "-", "3"], 0, "\0\x20\0\0\0\x10\0\0", "";
-    &["pdbdump", "extract", "-", "2"], 1, "", ABSENT_2;
-    &["pdbdump", "extract", "-", "3", "--json"], 2, "", NOTHING;
-    &["pdbdump", "omap", "-", "x"], 2, "", NOTHING;
+    &["pdbdump", "extract", "-", "2"], 1, "", NAMED_2;
+    &["pdbdump", "extract", "-", "3", "--json"], 2, "", MISUSE;
+    &["pdbdump", "omap", "-", "x"], 2, "", MISUSE;
     // One of the words is not UTF-8, or they ask nothing.
     &["pdbq", "\u{fffd}"], 2, "", USAGE;
     &["pdbq", "stream", "\u{fffd}"], 2, "", USAGE;
-    &["pdbdump", "\u{fffd}"], 2, "", ABOUT;
-    &["pdbdump", "types", "a.pdb", "\u{fffd}"], 2, "", ABOUT;
+    &["pdbdump", "\u{fffd}"], 2, "", MISUSE;
+    &["pdbdump", "types", "a.pdb", "\u{fffd}"], 2, "", MISUSE;
     &["pdbdump"], 2, "", ABOUT;
-    &["pdbdump", "--json"], 2, "", ABOUT;
-    &["pdbdump", "types"], 2, "", NOTHING;
-    &["pdbdump", "id"], 2, "", NOTHING;
-    &["pdbdump", "id", "--format", "none", "a.pdb"], 2, "", NOTHING;
-    &["pdbdump", "extract", "a.pdb"], 2, "", NOTHING;
-    &["pdbdump", "extract", "a.pdb", "3", "--json"], 2, "", NOTHING;
-    &["pdbdump", "validate"], 2, "", NOTHING;
-    &["pdbdump", "validate", "--none", "a.pdb"], 2, "", NOTHING;
-    &["pdbdump", "layout", "a.pdb"], 2, "", NOTHING;
+    &["pdbdump", "--json"], 2, "", MISUSE;
+    &["pdbdump", "types"], 2, "", MISUSE;
+    &["pdbdump", "id"], 2, "", MISUSE;
+    &["pdbdump", "id", "--format", "none", "a.pdb"], 2, "", MISUSE;
+    &["pdbdump", "extract", "a.pdb"], 2, "", MISUSE;
+    &["pdbdump", "extract", "a.pdb", "3", "--json"], 2, "", MISUSE;
+    &["pdbdump", "validate"], 2, "", MISUSE;
+    &["pdbdump", "validate", "--none", "a.pdb"], 2, "", MISUSE;
+    &["pdbdump", "layout", "a.pdb"], 2, "", MISUSE;
     // There is no file at the path.
-    &["pdbdump", "missing.pdb"], 1, "", IO_ERROR;
-    &["pdbdump", "types", "missing.pdb"], 1, "", IO_ERROR;
-    &["pdbdump", "ask", "missing.pdb"], 1, "", IO_ERROR;
-    &["pdbdump", "id", "missing.pdb"], 1, "", IO_ERROR;
-    &["pdbdump", "extract", "missing.pdb", "3"], 1, "", IO_ERROR;
-    &["pdbdump", "validate", "missing.pdb"], 1, "", IO_ERROR;
-    &["pdbdump", "layout", "missing.pdb", "S"], 1, "", IO_ERROR;
+    &["pdbdump", "missing.pdb"], 1, "", MISSING;
+    &["pdbdump", "types", "missing.pdb"], 1, "", MISSING;
+    &["pdbdump", "ask", "missing.pdb"], 1, "", MISSING;
+    &["pdbdump", "id", "missing.pdb"], 1, "", MISSING;
+    &["pdbdump", "extract", "missing.pdb", "3"], 1, "", MISSING;
+    &["pdbdump", "validate", "missing.pdb"], 1, "", MISSING;
+    &["pdbdump", "layout", "missing.pdb", "S"], 1, "", MISSING;
 };
 
 /// Calls for two files, of which the first is missing and the last, in standard input, is whole.
 const SEVERAL: &[Row] = rows! {
-    &["pdbdump", "id", "missing.pdb", "-"], 1, "-/00112233445566778899AABBCCDDEEFF1/-\n", IO_ERROR;
-    &["pdbdump", "validate", "missing.pdb", "-"], 1, "-: whole\n", IO_ERROR;
+    &["pdbdump", "id", "missing.pdb", "-"], 1, "-/00112233445566778899AABBCCDDEEFF1/-\n", MISSING;
+    &["pdbdump", "validate", "missing.pdb", "-"], 1, "-: whole\n", MISSING;
 };
 
-/// How the line begins that says that words ask nothing.
-const NOTHING: &str = "pdbdump: these words ask nothing:";
+/// How the text of a usage error begins.
+const MISUSE: &str = "error: ";
 
-/// How the text begins that says how `pdbdump` is called.
-const ABOUT: &str = "pdbdump ";
+/// How the help of `pdbdump` begins.
+const ABOUT: &str = "Shows what";
 
-/// How the line of an error of the system begins.
-const IO_ERROR: &str = "IO error while reading PDB: ";
+/// How the line begins that says that a file isn't there.
+const MISSING: &str = "pdbdump: missing.pdb: ";
+
+/// How the line begins that says that standard output can't be written to.
+const UNWRITTEN: &str = "pdbdump: standard output: ";
+
+/// The line that says that the file in standard input has no stream 2.
+const NAMED_2: &str = "pdbdump: -: The requested stream (2) is not stored in this file\n";
+
+/// The same as an object.
+const OBJECT: &str =
+    "{\"file\":\"-\",\"error\":{\"code\":\"content\",\"text\":\"The requested stream (2) is not stored in this file\"}}\n";
 
 /// Whether a cell holds bytes that begin so, or none if none are wanted.
 fn begins(written: &RefCell<Vec<u8>>, wanted: &str) -> bool {
@@ -356,16 +366,16 @@ fn has_failed(process: &Process<'_>) -> bool {
 }
 
 /// Words that ask how the program, or one command, is called.
-const HELPED: &[&[&str]] = &[
-    &["pdbdump", "--help"],
-    &["pdbdump", "types", "--help"],
-    &["pdbdump", "--help", "ask"],
+const HELPED: &[(&[&str], &str)] = &[
+    (&["pdbdump", "--help"], ABOUT),
+    (&["pdbdump", "types", "--help"], "List the types"),
+    (&["pdbdump", "help", "ask"], "Answer questions"),
 ];
 
-/// Whether a call writes something to standard output and nothing to standard error.
-fn is_help(alloc: Global, words: &[&str]) -> bool {
+/// Whether a call writes a text that begins so to standard output, and nothing to standard error.
+fn is_help(alloc: Global, words: &[&str], front: &str) -> bool {
     let process = Process::new(alloc, words, b"", false);
-    run(&process) == 0 && begins(&process.out, ABOUT) && holds(&process.err, b"")
+    run(&process) == 0 && begins(&process.out, front) && holds(&process.err, b"")
 }
 
 /// Whether a call for a file, whose input is one question, reports that its standard output fails,
@@ -374,7 +384,7 @@ fn is_unwritten<'a>(alloc: Global, words: &'a [&'a str], file: &'a [u8]) -> bool
     let mut process = Process::new(alloc, words, b"stream 3", false);
     process.file = Some(file);
     process.out_fails = true;
-    let is_told = has_failed(&process) && begins(&process.err, IO_ERROR);
+    let is_told = has_failed(&process) && begins(&process.err, UNWRITTEN);
     process.err_fails = true;
     is_told && has_failed(&process)
 }
@@ -382,8 +392,8 @@ fn is_unwritten<'a>(alloc: Global, words: &'a [&'a str], file: &'a [u8]) -> bool
 #[test]
 fn unwritten_outputs(rt: HostRuntime) -> Result<(), Fail> {
     let file = build_file(rt.alloc())?;
-    for words in HELPED {
-        assert!(rt; is_help(rt.alloc(), words), "{words:?}");
+    for (words, front) in HELPED {
+        assert!(rt; is_help(rt.alloc(), words, front), "{words:?}");
         assert!(rt; is_unwritten(rt.alloc(), words, &file), "{words:?}");
     }
     for (words, _) in COMMANDS {

@@ -1,0 +1,311 @@
+//! Calls: what the arguments of the program request.
+
+use crate::command::{
+    Command, Declarations, Diff, Extract, Identify, Layouts, Request, ValidateOptions,
+};
+use clap::ArgMatches;
+use pdb_cli::number;
+use pdb_consistency::Extent;
+use pdbdump_declarations::{Language, Options as DeclareOptions};
+use pdbdump_layouts::{Options, Order, Style};
+use pdbdump_rows::Form;
+use pdbdump_tables::{KeyStyle, MapStreams};
+use std::alloc::{AllocError, Global};
+use std::path::Path;
+
+/// Why a call requests nothing, though its arguments are those of the command.
+#[derive(Clone, Copy)]
+pub enum Misuse<'w> {
+    /// An argument is no number.
+    NoNumber {
+        /// The text that was given.
+        text: &'w str,
+        /// The name of its option, if it belongs to one.
+        option: Option<&'static str>,
+        /// What help calls it.
+        name: &'static str,
+    },
+    /// Two inputs would be read from standard input.
+    InputTwice,
+}
+
+/// The options whose values are numbers, and what help calls these.
+const NUMBERS: [(&str, &str); 11] = [
+    ("stream", "S"),
+    ("index", "I"),
+    ("old", "S"),
+    ("new", "S"),
+    ("sections", "S"),
+    ("transformed", "S"),
+    ("to", "S"),
+    ("from", "S"),
+    ("skip", "N"),
+    ("take", "N"),
+    ("expand", "N"),
+];
+
+/// Returns whether a command has this name.
+fn is_command(name: &str) -> bool {
+    matches!(
+        name,
+        "summary"
+            | "types"
+            | "ids"
+            | "names"
+            | "sections"
+            | "omap"
+            | "frames"
+            | "map"
+            | "ask"
+            | "id"
+            | "extract"
+            | "validate"
+            | "layout"
+            | "diff"
+            | "declare"
+            | "help"
+    )
+}
+
+/// Returns arguments that begin with the name of a command: if there is only a path, that of its
+/// summary.
+pub fn with_command<'w>(alloc: Global, words: &[&'w str]) -> Result<Vec<&'w str>, AllocError> {
+    let mut all = Vec::with_capacity(alloc, words.len().saturating_add(1))?;
+    let mut operands = words
+        .iter()
+        .filter(|word| **word == "-" || !word.starts_with('-'));
+    if let (Some(first), None) = (operands.next(), operands.next()) {
+        if !is_command(first) {
+            all.push("summary")?;
+        }
+    }
+    for word in words {
+        all.push(*word)?;
+    }
+    Ok(all)
+}
+
+/// Returns the number that an argument has, if it is given.
+fn number_of(matches: &ArgMatches<'_>, id: &str) -> Option<u32> {
+    match matches.get_str(id) {
+        Some(text) => number(text),
+        None => None,
+    }
+}
+
+/// Returns the text of an operand that is required.
+fn text_of<'w>(matches: &ArgMatches<'w>, id: &str) -> &'w str {
+    matches.get_str(id).unwrap_or("")
+}
+
+/// Returns an argument that is no number though it has to be one.
+fn wrong_number<'w>(matches: &ArgMatches<'w>) -> Option<Misuse<'w>> {
+    for (option, name) in NUMBERS {
+        if let Some(text) = matches.get_str(option) {
+            if number(text).is_none() {
+                return Some(Misuse::NoNumber {
+                    text,
+                    option: Some(option),
+                    name,
+                });
+            }
+        }
+    }
+    match matches.get_str("RVA") {
+        Some(text) if number(text).is_none() => Some(Misuse::NoNumber {
+            text,
+            option: None,
+            name: "RVA",
+        }),
+        _ => None,
+    }
+}
+
+/// Returns the form of the output that a call requests.
+pub fn form_of(matches: &ArgMatches<'_>) -> Form {
+    if matches.get_flag("json") {
+        Form::Json
+    } else {
+        Form::Text
+    }
+}
+
+/// Returns what `frames` lists.
+fn frames<'w>(matches: &ArgMatches<'w>) -> Command<'w> {
+    match (number_of(matches, "old"), number_of(matches, "new")) {
+        (None, None) => Command::Frames,
+        (old, new) => Command::FramesIn { old, new },
+    }
+}
+
+/// Returns what `map` translates.
+fn map<'w>(matches: &ArgMatches<'w>) -> Command<'w> {
+    Command::Map {
+        address: number_of(matches, "RVA").unwrap_or(0),
+        streams: MapStreams {
+            sections: number_of(matches, "sections"),
+            transformed: number_of(matches, "transformed"),
+            to_original: number_of(matches, "to"),
+            to_transformed: number_of(matches, "from"),
+        },
+    }
+}
+
+/// Returns what `extract` writes.
+fn extract<'w>(matches: &ArgMatches<'w>) -> Command<'w> {
+    Command::Extract(Extract {
+        stream: text_of(matches, "STREAM"),
+        skip: number_of(matches, "skip").unwrap_or(0),
+        limit: number_of(matches, "take"),
+    })
+}
+
+/// Returns what a command lists of a table, or of the whole file.
+fn table<'w>(name: &str, stream: Option<u32>, index: Option<u32>) -> Command<'w> {
+    match name {
+        "types" => Command::Types { stream, index },
+        "ids" => Command::Ids { stream, index },
+        "names" => Command::Names { stream },
+        "sections" => Command::Sections { stream },
+        "omap" => Command::Omap { stream },
+        _ => Command::Summary,
+    }
+}
+
+/// Returns what a command lists.
+fn listing<'w>(name: &str, matches: &ArgMatches<'w>) -> Command<'w> {
+    match name {
+        "frames" => return frames(matches),
+        "map" => return map(matches),
+        "extract" => return extract(matches),
+        _ => {}
+    }
+    let stream = number_of(matches, "stream");
+    let index = number_of(matches, "index");
+    table(name, stream, index)
+}
+
+/// Returns the last part of a path.
+fn file_name(path: &str) -> &str {
+    Path::new(path).file_name().unwrap_or(path)
+}
+
+/// Returns what `id` shows of the file at a path.
+fn identify<'w>(matches: &ArgMatches<'w>, path: &'w str) -> Identify<'w> {
+    let style = match matches.get_str("format") {
+        Some("ssqp") => KeyStyle::Ssqp,
+        Some("breakpad") => KeyStyle::Breakpad,
+        Some("guid") => KeyStyle::Guid,
+        _ => KeyStyle::Key,
+    };
+    Identify {
+        style,
+        name: matches.get_str("name").unwrap_or(file_name(path)),
+        expected: matches.get_str("expect"),
+    }
+}
+
+/// Returns how `validate` checks files.
+fn validate_options(matches: &ArgMatches<'_>) -> ValidateOptions {
+    ValidateOptions {
+        extent: if matches.get_flag("all") {
+            Extent::All
+        } else {
+            Extent::First
+        },
+        is_strict: matches.get_flag("strict"),
+        is_quiet: matches.get_flag("quiet"),
+    }
+}
+
+/// Returns what `layout` shows.
+fn layouts<'m, 'w>(matches: &ArgMatches<'w>, names: &'m [&'w str]) -> Layouts<'m, 'w> {
+    let style = match matches.get_str("style") {
+        Some("dt") => Style::Dt,
+        _ => Style::C,
+    };
+    let order = match matches.get_str("sort") {
+        Some("size") => Some(Order::Size),
+        Some("holes") => Some(Order::Holes),
+        Some("name") => Some(Order::Name),
+        _ => None,
+    };
+    Layouts {
+        names,
+        options: Options {
+            style,
+            order,
+            has_holes: matches.get_flag("holes"),
+            depth: number_of(matches, "expand").unwrap_or(0),
+            all: matches.get_flag("all"),
+        },
+    }
+}
+
+/// Returns what `declare` writes.
+fn declarations<'m, 'w>(matches: &ArgMatches<'w>, names: &'m [&'w str]) -> Declarations<'m, 'w> {
+    Declarations {
+        names,
+        options: DeclareOptions {
+            language: if matches.get_flag("c") {
+                Language::C
+            } else {
+                Language::Cpp
+            },
+            all: matches.get_flag("all"),
+        },
+    }
+}
+
+/// Returns what `diff` compares of types with these names.
+pub fn diff_of<'m, 'w>(matches: &ArgMatches<'w>, names: &'m [&'w str]) -> Diff<'m, 'w> {
+    Diff {
+        old: text_of(matches, "OLD"),
+        new: text_of(matches, "NEW"),
+        names,
+        is_layout_only: matches.get_flag("layout-only"),
+    }
+}
+
+/// Returns what a command requests of the file at a path, and of the types with these names.
+pub fn request_of<'m, 'w>(
+    name: &str,
+    matches: &ArgMatches<'w>,
+    path: &'w str,
+    names: &'m [&'w str],
+) -> Request<'m, 'w> {
+    match name {
+        "id" => Request::Identify(identify(matches, path)),
+        "validate" => Request::Validate(validate_options(matches), path),
+        "layout" => Request::Layout(layouts(matches, names)),
+        "declare" => Request::Declare(declarations(matches, names)),
+        name => Request::List(listing(name, matches)),
+    }
+}
+
+/// Returns how many inputs of a call are standard input.
+fn standard_inputs(name: &str, matches: &ArgMatches<'_>) -> usize {
+    let questions: usize = if name == "ask" { 1 } else { 0 };
+    let mut count = questions;
+    for id in ["FILE", "OLD", "NEW"] {
+        let paths = matches.get_strs(id).unwrap_or(&[]);
+        let inputs = paths.iter().filter(|path| **path == "-");
+        count = count.saturating_add(inputs.count());
+    }
+    count
+}
+
+/// Checks what the description of a command doesn't say of its arguments.
+///
+/// # Errors
+/// Fails with `NoNumber` if an argument that has to be a number isn't one, and with `InputTwice` if
+/// two inputs would be read from standard input.
+pub fn check_call<'w>(name: &str, matches: &ArgMatches<'w>) -> Result<(), Misuse<'w>> {
+    if let Some(misuse) = wrong_number(matches) {
+        return Err(misuse);
+    }
+    if standard_inputs(name, matches) > 1 {
+        return Err(Misuse::InputTwice);
+    }
+    Ok(())
+}
