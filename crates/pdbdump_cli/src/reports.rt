@@ -94,7 +94,9 @@ pub(crate) fn error_line(
 {
     let mut line = Vec::new(alloc);
     push_front(subject, &mut line)?;
-    push_error(subject.form, code, text, &mut line)?;
+    let mut rest = Vec::new(alloc);
+    push_error(subject.form, code, text, &mut rest)?;
+    line.extend_from_slice(&rest)?;
     Ok(line)
 }
 
