@@ -4,7 +4,8 @@ use Rattle.pdbdump_cli.specs.Listed.{listed, refused}
 use Rattle.pdbdump_cli.proofs.listed.list.Goals as goal
 
 pub returns-in_err-file : goal.returns-in_err-file
-returns-in_err-file g c = refused _ (passed_on _ _ c.from_residual.ensures.1) c.in_err-file.ensures.head refl
+returns-in_err-file g c =
+    rw (passed_on _ _ c.from_residual.ensures.1) (refused _ refl c.in_err-file.ensures.head refl)
 
 pub returns : goal.returns
 returns g c = listed _ _ c.in_ok-file.ensures.kept c.in_ok-file.ensures.head c.list_opened.ensures
