@@ -128,6 +128,16 @@ class Inconsistency(IntEnum):
     NAME_OFFSET = 15
     NAME_COUNT = 16
     SECTIONS_OVERLAP = 17
+    FREE_PAGE_MAP = 18
+    PAGE_COUNT = 19
+    UNKNOWN_VERSION = 20
+    UNKNOWN_MACHINE = 21
+    NAMED_STREAM_COUNT = 22
+    RECORD_BYTES = 23
+    HASH_SIZE = 24
+    NO_HASH_STREAM = 25
+    HASH_PART = 26
+    NAME_UNREACHED = 27
 
 
 class StreamNumber(IntEnum):

@@ -320,6 +320,16 @@ pub const PDB_BUCKETS_CUT: u32 = 14;
 pub const PDB_NAME_OFFSET: u32 = 15;
 pub const PDB_NAME_COUNT: u32 = 16;
 pub const PDB_SECTIONS_OVERLAP: u32 = 17;
+pub const PDB_FREE_PAGE_MAP: u32 = 18;
+pub const PDB_PAGE_COUNT: u32 = 19;
+pub const PDB_UNKNOWN_VERSION: u32 = 20;
+pub const PDB_UNKNOWN_MACHINE: u32 = 21;
+pub const PDB_NAMED_STREAM_COUNT: u32 = 22;
+pub const PDB_RECORD_BYTES: u32 = 23;
+pub const PDB_HASH_SIZE: u32 = 24;
+pub const PDB_NO_HASH_STREAM: u32 = 25;
+pub const PDB_HASH_PART: u32 = 26;
+pub const PDB_NAME_UNREACHED: u32 = 27;
 
 pub const PDB_TYPES_STREAM: u32 = 2;
 pub const PDB_IDS_STREAM: u32 = 4;

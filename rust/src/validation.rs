@@ -95,6 +95,26 @@ Inconsistency {
     NameCount = PDB_NAME_COUNT
     /// A section begins below the end of the one before it.
     SectionsOverlap = PDB_SECTIONS_OVERLAP
+    /// The free page map is neither 1 nor 2 (its number).
+    FreePageMap = PDB_FREE_PAGE_MAP
+    /// More pages are in use than the file has (their number).
+    PageCount = PDB_PAGE_COUNT
+    /// Stream 1, stream 3 or a table has an unknown version (it).
+    UnknownVersion = PDB_UNKNOWN_VERSION
+    /// An unknown machine; a warning (its number).
+    UnknownMachine = PDB_UNKNOWN_MACHINE
+    /// The bits of the table of names are others (its count).
+    NamedStreamCount = PDB_NAMED_STREAM_COUNT
+    /// The records do not end where the header says (the field).
+    RecordBytes = PDB_RECORD_BYTES
+    /// No table has hashes or buckets so (the field).
+    HashSize = PDB_HASH_SIZE
+    /// Records without a hash stream; a warning.
+    NoHashStream = PDB_NO_HASH_STREAM
+    /// A part does not fit the hash stream (its size).
+    HashPart = PDB_HASH_PART
+    /// The hash of a name leads to another bucket (the offset).
+    NameUnreached = PDB_NAME_UNREACHED
 }
 }
 
@@ -153,7 +173,8 @@ fn findings(file: &[u8], every: u32) -> Result<Vec<Finding>> {
 }
 
 /// What is wrong in a file: the first error of each part, or its first warning if it has no error. The file is whole
-/// exactly if all of them are warnings.
+/// exactly if all of them are warnings: its types, ids, names, sections, addresses and frames, since modules and symbols
+/// are not read.
 pub fn validate(file: &[u8]) -> Result<Vec<Finding>> {
     findings(file, 0)
 }

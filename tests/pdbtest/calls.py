@@ -48,6 +48,12 @@ def about(name, refusal):
     return Outcome(refusal.status, refusal.out, f"pdbdump: {name}: ".encode() + refusal.err)
 
 
+def line_of(name, code, text, is_json):
+    """The line with which pdbdump tells of an error of a file."""
+    told = json.dumps({"file": str(name), "error": {"code": code, "text": text}}, separators=(",", ":"))
+    return f"{told if is_json else f'pdbdump: {name}: {text}'}\n".encode()
+
+
 UNRECOGNIZED = refused("UnrecognizedFileFormat")
 NO_OMAP = refused("OMAP stream has an invalid length or alignment for its records")
 NO_NAMES = refused("Unimplemented PDB feature: invalid string table signature")

@@ -6,7 +6,7 @@ import random
 
 from pdbtest import llvm
 from pdbtest.addresses import OMAP, moved_lines
-from pdbtest.calls import about, call, check_call, objects_of, refused
+from pdbtest.calls import Outcome, about, call, check_call, objects_of, refused
 from pdbtest.msf import TYPES, Msf
 from pdbtest.roles import HEADER_ROLES, ROLES
 from pdbtest.tables import Leaf
@@ -99,6 +99,29 @@ def check_map(tally, dumpers, file, streams):
             is_well = came.status == 0 and not came.err and len(rows) == 6 and found == [wanted]
             what = f"{file.name}: {dumper.name} map {address:#x} {option}"
             tally.check(is_well, f"{what}: {way} {found} and not {wanted}")
+
+
+def check_several(tally, dumpers, file):
+    """Several addresses in one call, and places in sections, by single addresses."""
+    sections = llvm.sections(file)
+    if not sections:
+        return
+    start = sections[0][2]
+    words = [hex(start), str(start + 8), "1:0x8", "1:8", "0xffffffff", "99:0", "0:0"]
+    for dumper in dumpers:
+        singles = {word: call(dumper, ["map", file, word]).out.decode() for word in words}
+        lines = [f"of={word} {line}" for word in words for line in singles[word].splitlines(keepends=True)]
+        check_call(tally, dumper, ["map", file, *words], Outcome(0, "".join(lines).encode()))
+        rows = lambda word: {
+            (row["from"], row["to"]): {key: row.get(key) for key in ("found", "address", "section", "offset")}
+            for row in map(json.loads, call(dumper, ["map", "--json", file, word]).out.splitlines())
+        }  # fmt: skip
+        of_place, of_address = rows("1:0x8"), rows(hex(start + 8))
+        is_there = of_place["section_offset", "rva"]["address"] == start + 8
+        ways = {"section_offset": ("rva", "internal_rva", "internal_offset")}
+        ways["internal_offset"] = ("internal_rva", "rva", "section_offset")
+        is_same = all(of_place[way, to] == of_address[of, to] for way, (of, *others) in ways.items() for to in others)
+        tally.check(is_there and is_same, f"{file.name}: {dumper.name} map 1:0x8: {of_place} and not {of_address}")
 
 
 def named_record(record):

@@ -99,7 +99,8 @@ def many(members):
 
 def one_name(entries, length):
     """A stream 1 of which all of so many entries give stream 5 the same name, which has so many bytes."""
-    present = struct.pack("<I", -(-entries // 32)) + b"\xff" * 4 * -(-entries // 32)
+    words = -(-entries // 32)
+    present = struct.pack("<I", words) + ((1 << entries) - 1).to_bytes(4 * words, "little")
     table = struct.pack("<II", entries, entries) + present + struct.pack("<I", 0) + struct.pack("<II", 0, 5) * entries
     head = struct.pack("<III16xI", 20000404, 1, 1, length + 1)
     return head + b"N" * length + b"\0" + table

@@ -41,7 +41,7 @@ def new_frame(names, start, size, local_bytes, parameter_bytes, stack, program, 
         "code_start": start, "code_size": size, "locals_size": local_bytes, "params_size": parameter_bytes,
         "prolog_size": prolog, "saved_regs_size": registers, "max_stack_size": stack, "ty": "fdata",
         **dict(zip(("has_structured_eh", "has_cpp_eh", "is_function_start"), is_set)),
-        "uses_base_pointer": False, "program": program,
+        "uses_base_pointer": False, "program": names[program],
     }  # fmt: skip
     numbers = (size, local_bytes, parameter_bytes, stack, prolog, registers)
     words = [f"{start:08X}", *map(str, numbers), *(str(flag).lower() for flag in is_set), names[program].strip()]

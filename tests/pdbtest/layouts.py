@@ -6,7 +6,7 @@ import subprocess
 from pdbtest.calls import objects_of
 from pdbtest.tools import run_tool, tool
 
-GAPS = ("hole", "unused_bits", "virtual_bases")  # the kinds of rows that are of no field
+GAPS = ("hole", "padding", "unused_bits", "virtual_bases")  # the kinds of rows that are of no field
 
 
 def layouts(tally, dumper, words):
@@ -87,6 +87,8 @@ def check_cover(tally, where, made):
     sums = (len(holes), sum(row["size"] for row in holes), sum(row["bits"] for row in unused))
     told = (made["holes"], made["hole_bytes"], made["unused_bits"])
     tally.check(told == sums, f"{where}: holes, their bytes and unused bits are told as {told}, and are {sums}")
+    padding = sum(row["size"] for row in own_rows(made, "padding"))
+    tally.check(made["padding_bytes"] == padding, f"{where}: padding is told as {made['padding_bytes']}, and is {padding}")
 
 
 def is_spelled(name):

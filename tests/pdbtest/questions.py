@@ -193,6 +193,7 @@ def check_tables(tally, programs, dumpers, file, has_ranges=False, most=ASKED):
         if number == 0:
             dumps.check_questions(tally, dumpers, file, questions.asked)
             dumps.check_map(tally, dumpers, file, streams)
+            dumps.check_several(tally, dumpers, file)
     few, all_of = [some_types, some_ids, some_names, some_lists], [types, ids, table, lists]
     counts = zip(few, all_of, ("types", "ids", "names", "field lists"))
     told_of = ", ".join(f"{len(asked)} of {len(whole)} {what}" for asked, whole, what in counts)

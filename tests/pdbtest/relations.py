@@ -101,17 +101,61 @@ def of_id(record):
 INCONSISTENCIES = [
     "DIRECTORY-TOO-LARGE", "STREAMS-TOO-LARGE", "OUT-OF-ORDER", "PAGE-SHARED", "PAGE-FREE", "STREAM-MISSING",
     "DEBUG-SIZES", "REFERENCE-NOT-BELOW", "RECORD-UNALIGNED", "KIND-NOT-READ", "HASH-COUNT", "HASH-TOO-LARGE",
-    "INDEX-OFFSET", "BUCKETS-CUT", "NAME-OFFSET", "NAME-COUNT", "SECTIONS-OVERLAP",
+    "INDEX-OFFSET", "BUCKETS-CUT", "NAME-OFFSET", "NAME-COUNT", "SECTIONS-OVERLAP", "FREE-PAGE-MAP", "PAGE-COUNT",
+    "UNKNOWN-VERSION", "UNKNOWN-MACHINE", "NAMED-STREAM-COUNT", "RECORD-BYTES", "HASH-SIZE", "NO-HASH-STREAM", "HASH-PART",
+    "NAME-UNREACHED",
 ]  # fmt: skip
 
 # What files of known tools have, too.
-WARNINGS = {"PAGE-FREE", "RECORD-UNALIGNED", "KIND-NOT-READ"}
+WARNINGS = {"PAGE-FREE", "RECORD-UNALIGNED", "KIND-NOT-READ", "UNKNOWN-MACHINE", "NO-HASH-STREAM"}
+
+# The versions of stream 1, of stream 3 and of tables, as LLVM's RawConstants.h lists them by their dates, and the
+# machines of the Portable Executable specification and of winnt.h.
+VERSIONS = {
+    INFORMATION: {
+        19941610, 19950623, 19950814, 19960307, 19970604, 19990604, 20000404, 20030901, 20091201, 20140508,
+    },
+    DEBUG: {930803, 19960307, 19970606, 19990903, 20091201},
+    TYPES: {19950410, 19951122, 19961031, 19990903, 20040203},
+}  # fmt: skip
+MACHINES = {
+    0, 0x13, 0x14C, 0x162, 0x166, 0x168, 0x169, 0x184, 0x1A2, 0x1A3, 0x1A4, 0x1A6, 0x1A8, 0x1C0, 0x1C2, 0x1C4, 0x1D3, 0x1F0,
+    0x1F1, 0x200, 0x266, 0x284, 0x366, 0x466, 0x520, 0xCEF, 0xEBC, 0x3A64, 0x5032, 0x5064, 0x5128, 0x6232, 0x6264, 0x8664,
+    0x9041, 0xA641, 0xA64E, 0xAA64, 0xC0EE,
+}  # fmt: skip
+BUCKETS = range(0x1000, 0x40001)  # how many a table may have
+BITS = 0xFFFFFFFF
 
 
 def told(found, is_every):
     """What is told of what was found of one kind: everything; or the first error, or where there is none the first
     warning."""
     return found if is_every else sorted(found, key=lambda it: it[1] in WARNINGS)[:1]
+
+
+def older_hash(name):
+    """The hash of a name by version 1 of the string table (LHashPbCb)."""
+    mixed = 0
+    for start in range(0, len(name) - 3, 4):
+        mixed ^= word(name, start)
+    rest = name[len(name) // 4 * 4 :]
+    if len(rest) > 1:
+        mixed ^= int.from_bytes(rest[:2], "little")
+    if len(rest) % 2:
+        mixed ^= rest[-1]
+    mixed |= 0x20202020
+    mixed ^= mixed >> 11
+    return mixed ^ mixed >> 16
+
+
+def newer_hash(name):
+    """The hash of a name by version 2 of the string table."""
+    mixed, whole = 0xB170A1BF, len(name) // 4 * 4
+    for number in [*(word(name, start) for start in range(0, whole, 4)), *name[whole:]]:
+        mixed = mixed + number & BITS
+        mixed = mixed + (mixed << 10) & BITS
+        mixed ^= mixed >> 6
+    return mixed * 1664525 + 1013904223 & BITS
 
 
 class Relations:
@@ -122,11 +166,15 @@ class Relations:
         self.data, self.msf, self.streams, self.sizes = data, reading.msf, reading.streams, reading.sizes
         self.count = reading.count if reading.sizes or reading.count < NO_STREAM else 0
         self.groups = []
+        self.check_header()
         self.check_pages()
         self.check_types()
+        self.check_table("TYPES", TYPES)
         self.check_hashes("TYPES", TYPES)
         self.check_ids()
+        self.check_table("IDS", IDS)
         self.check_hashes("IDS", IDS)
+        self.check_information()
         self.check_names()
         self.check_roles()
 
@@ -154,6 +202,14 @@ class Relations:
         active, size = word(self.data, 36), self.msf.page_size
         at = (active + page // 8 // size * size) * size + page // 8 % size
         return active in (1, 2) and at < len(self.data) and self.data[at] >> page % 8 & 1
+
+    def check_header(self):
+        """The number of the free page map, and how many pages are in use."""
+        self.begin()
+        if word(self.data, 36) not in (1, 2):
+            self.add("HEADER", "FREE-PAGE-MAP")
+        if word(self.data, 40) > -(-len(self.data) // self.msf.page_size):
+            self.add("HEADER", "PAGE-COUNT")
 
     def check_pages(self):
         """Each page has one owner, and none of a stream is free."""
@@ -221,6 +277,45 @@ class Relations:
 
         self.check_items("IDS", IDS, wrong)
 
+    def records_end(self, stream, begin, count):
+        """Where the last of so many records ends; None if one is missing."""
+        end = begin
+        try:
+            for _, (_, end) in zip(range(count), item_places(stream, begin)):
+                count -= 1
+        except Refused:
+            pass
+        return None if count else end
+
+    def check_table(self, part, number):
+        """The header of a table: the version, the records, and where the hashes are."""
+        self.begin()
+        table = self.table(number)
+        if not table:
+            return
+        stream, begin, minimum, maximum = table
+
+        def check(byte, is_wrong, code):
+            if is_wrong:
+                self.add(part, code, number, None, byte)
+
+        hashed, size = kind_at(stream, 20), None
+        if is_there := hashed != NO_STREAM:
+            size = None if self.is_missing(hashed) or hashed >= len(self.sizes) else self.sizes[hashed]
+        parts = [struct.unpack_from("<iI", stream, at) for at in (32, 40, 48)]
+        outside = [size is not None and (at < 0 or at + many > size) for at, many in parts]
+        places = parts[1][1]
+        check(0, word(stream, 0) not in VERSIONS[TYPES], "UNKNOWN-VERSION")
+        check(12, self.records_end(stream, begin, maximum - minimum) not in (None, len(stream)), "RECORD-BYTES")
+        check(16, begin + word(stream, 16) != len(stream), "RECORD-BYTES")
+        check(20, is_there and self.is_missing(hashed), "STREAM-MISSING")
+        check(20, not is_there and maximum > minimum, "NO-HASH-STREAM")
+        check(24, word(stream, 24) != 4, "HASH-SIZE")
+        check(28, word(stream, 28) not in BUCKETS, "HASH-SIZE")
+        check(32, outside[0], "HASH-PART")
+        check(40, outside[1] or is_there and (places % 8 or not places and maximum > minimum), "HASH-PART")
+        check(48, outside[2], "HASH-PART")
+
     def check_hashes(self, part, number):
         """The hash values of a table, and the places of its records."""
         self.begin()
@@ -255,6 +350,21 @@ class Relations:
         """Whether the file has no stream of a number."""
         return number >= self.msf.count or number < len(self.sizes) and self.sizes[number] is None
 
+    def check_information(self):
+        """The version of stream 1, and how many streams have names."""
+        self.begin()
+        stream = self.streams.get(INFORMATION)
+        if stream is None or len(stream) < 32:
+            return
+        if word(stream, 0) not in VERSIONS[INFORMATION]:
+            self.add("NAMES", "UNKNOWN-VERSION", INFORMATION, None, 0)
+        place = 32 + word(stream, 28)
+        if place + 12 > len(stream) or place + 12 + 4 * word(stream, place + 8) > len(stream):
+            return
+        bits = int.from_bytes(stream[place + 12 : place + 12 + 4 * word(stream, place + 8)], "little")
+        if bin(bits).count("1") != word(stream, place):
+            self.add("NAMES", "NAMED-STREAM-COUNT", INFORMATION, None, place)
+
     def check_names(self):
         """The streams that have names, and the buckets of the string table."""
         self.begin()
@@ -285,20 +395,38 @@ class Relations:
             self.add("STRING-TABLE", "BUCKETS-CUT", number, None, len(stream))
             return
         buckets = struct.unpack_from(f"<{count}I", stream, first)
+        hash_of = older_hash if at(4) == 1 else newer_hash
+        empty = [place for place, offset in enumerate(buckets) if not offset]
+        last = empty[-1] if empty else -1  # the last that is empty before a place, if not the one of the round before
+        before, taken = -1, 0
         for place, offset in enumerate(buckets):
-            if offset and not (offset < size and not stream[11 + offset]):
+            if not offset:
+                before = place
+            elif not (offset < size and not stream[11 + offset]):
                 self.add("STRING-TABLE", "NAME-OFFSET", number, None, first + 4 * place)
+            elif taken > size:
+                self.add("STRING-TABLE", "NAME-UNREACHED", number, None, first + 4 * place)
+            elif (end := stream.find(b"\0", 12 + offset, 12 + size)) >= 0:
+                taken += end + 1 - 12 - offset
+                home = hash_of(stream[12 + offset : end]) % count
+                is_found = before < home if home <= place else before < 0 and last < home
+                if not is_found:
+                    self.add("STRING-TABLE", "NAME-UNREACHED", number, None, first + 4 * place)
         if at(first + 4 * count) != sum(map(bool, buckets)):
             self.add("STRING-TABLE", "NAME-COUNT", number, None, first + 4 * count)
 
     def check_roles(self):
-        """The sizes in stream 3, the streams with a role, and the order of the sections."""
+        """The header of stream 3, the streams with a role, and the order of the sections."""
         self.begin()
         debug = self.streams.get(DEBUG)
         if not debug or len(debug) < 64 or word(debug, 0) != 0xFFFFFFFF:
             return
         if 64 + sum(struct.unpack_from("<5I", debug, 24)) + sum(struct.unpack_from("<2I", debug, 48)) != len(debug):
             self.add("ROLES", "DEBUG-SIZES", DEBUG)
+        if word(debug, 4) not in VERSIONS[DEBUG]:
+            self.add("ROLES", "UNKNOWN-VERSION", DEBUG, None, 4)
+        if kind_at(debug, 58) not in MACHINES:
+            self.add("ROLES", "UNKNOWN-MACHINE", DEBUG, None, 58)
         try:
             roles = role_numbers(debug)
         except Refused:

@@ -7,6 +7,9 @@ from pdbtest.calls import call
 from pdbtest.reading import Fault, Reading
 from pdbtest.relations import WARNINGS
 
+# What `validate` says of a whole file.
+WHOLE = "whole (types, ids, names, sections, addresses, frames; modules and symbols are not read)"
+
 
 def validate(dumper, words, given=None):
     """What `validate` gives."""

@@ -15,6 +15,7 @@ const DECLARED = {
 
 export const GAP_TEXTS = {
   hole: () => "// hole",
+  padding: () => "// padding",
   unused_bits: (row) => `// ${plural(row.bits, "bit")} unused`,
   virtual_bases: () => "// virtual bases and padding",
 };
@@ -32,9 +33,10 @@ export function head({ kind, name, rows }) {
 }
 
 /** The comment of its last line: how much of it no member takes. */
-export function totals({ holes, hole_bytes, unused_bits }) {
+export function totals({ holes, hole_bytes, padding_bytes, unused_bits }) {
   const texts = [];
   if (holes) texts.push(`${plural(holes, "hole")} of ${plural(hole_bytes, "byte")}`);
+  if (padding_bytes) texts.push(`${plural(padding_bytes, "byte")} of padding`);
   if (unused_bits) texts.push(`${plural(unused_bits, "bit")} unused`);
   return texts.length ? `// ${texts.join(", ")}` : "";
 }

@@ -2,8 +2,8 @@
 import { classWord, isNamed, shapeOf, SHAPE } from "./kinds.js";
 import { LayoutRow } from "./structures.js";
 
-const KINDS = ["base", "vbptr", "vfptr", "member", "hole", "unused_bits", "virtual_bases"];
-const [VBPTR, MEMBER, HOLE] = [1, 3, 4];
+const KINDS = ["base", "vbptr", "vfptr", "member", "hole", "unused_bits", "virtual_bases", "padding"];
+const [VBPTR, MEMBER, HOLE, PADDING] = [1, 3, 4, 7];
 const [BYTES, BITS] = [0, 1];
 /** How many types are followed from a member's to the class that it is made of. */
 const MOST_STEPS = 16;
@@ -16,6 +16,8 @@ export function layoutOf(types, index) {
   const definition = types.definition(index);
   const begin = (row) => row.offset * 8n + BigInt(row.bit);
   const rows = found.sort((one, other) => Number(begin(one) - begin(other)) || 0);
+  const last = rows[rows.length - 1];
+  if (last?.kind === HOLE) last.kind = PADDING;
   const gaps = (kind) => rows.filter((row) => KINDS[row.kind] === kind);
   const sum = (numbers) => numbers.reduce((total, number) => total + number, 0n);
   return {
@@ -25,6 +27,7 @@ export function layoutOf(types, index) {
     size: types.size(definition),
     holes: gaps("hole").length,
     hole_bytes: sum(gaps("hole").map((row) => row.size)),
+    padding_bytes: sum(gaps("padding").map((row) => row.size)),
     unused_bits: Number(sum(gaps("unused_bits").map((row) => BigInt(row.bits)))),
     cut: false,
     rows: rows.map((row) => rowOf(types, row)),
@@ -49,8 +52,10 @@ function rowOf(types, row) {
 
 /** What the row of a field says of its type. */
 function fieldOf(types, row) {
-  const type = types.text(row.typeIndex);
-  const declaration = row.kind === MEMBER ? types.text(row.typeIndex, row.name) : type;
+  const text = types.text(row.typeIndex);
+  const declaration = row.kind === MEMBER ? types.text(row.typeIndex, row.name) : text;
+  // A bit field without a name has two spaces there.
+  const type = text.replace(/ {2}(?=: \d+$)/u, " ");
   return {
     ...(row.kind === MEMBER && { name: row.name }),
     type_index: row.typeIndex,

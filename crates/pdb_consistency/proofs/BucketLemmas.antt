@@ -1,25 +1,28 @@
 -- The buckets of a string table.
-use Rattle.std.proofs.Common.{◌≡◌, ℕ, ◌+◌, ◌*◌, ◌==◌, ◌&&◌, not, List}
+use Rattle.std.proofs.Common.{◌≡◌, ℕ, ◌+◌, ◌*◌, ◌==◌, not, List}
 use Rattle.std.proofs.Common.{[], refl, ◌∙◌, Option, Ok}
 use Rattle.std.specs.Bool.{then_some}
-use Rattle.std.specs.Option.{option_to_list}
+use Rattle.std.specs.Option.{option_map, option_to_list}
 use Rattle.pdb_base.specs.Reading.{word_at}
 use Rattle.pdb_consistency.specs.Mismatch.{asked_of, with_further}
-use Rattle.pdb_consistency.specs.StringTable.{begins_name, bucket_byte}
+use Rattle.pdb_consistency.specs.StringTable.{bucket_byte, bucket_inconsistency, names_before}
 use Rattle.pdb_consistency.specs.StringTable.{bucket_count, bucket_mismatch, buckets_byte}
 use Rattle.pdb_consistency.specs.StringTable.{buckets_mismatches, count_mismatch, in_names, names_in_buckets}
 use Rattle.pdb_consistency.specs.Words.{mismatches_at}
-use Rattle.pdb_consistency.specs.declared.inconsistency.Inconsistency.TheVariants.{NameCount, NameOffset}
+use Rattle.pdb_consistency.specs.declared.inconsistency.Inconsistency.TheVariants.{NameCount}
+use Rattle.pdb_consistency.specs.declared.inconsistency.Inconsistency.{Inconsistency}
+use Rattle.pdb_consistency.specs.declared.name_places.NamesBefore.{NamesBefore}
 use Rattle.pdb_consistency.specs.declared.mismatch.Extent.{Extent}
 use Rattle.pdb_consistency.specs.declared.mismatch.Mismatch.{Mismatch}
 use Rattle.pdb_consistency.proofs.MismatchLemmas.{asked_in_two, told}
 
-pub bucket_told : (number : ℕ) (stream : List ℕ) (place byte offset : ℕ) (given : Option Mismatch)
-    → byte ≡ bucket_byte stream place → offset ≡ word_at byte stream
-    → given ≡ then_some (not (offset == 0) && not (begins_name stream offset))
-    (in_names number byte (NameOffset offset))
+pub bucket_told : (number : ℕ) (stream : List ℕ) (place byte offset : ℕ) (before : NamesBefore)
+    (what : Option Inconsistency) (given : Option Mismatch)
+    → byte ≡ bucket_byte stream place → offset ≡ word_at byte stream → before ≡ names_before stream place
+    → what ≡ bucket_inconsistency stream before place offset → given ≡ option_map (in_names number byte) what
     → given ≡ bucket_mismatch number stream place
-bucket_told number stream place byte offset given at read is = is ∙ rw (read, at) refl
+bucket_told number stream place byte offset before what given at read known found is =
+    is ∙ rw (found, known, read, at) refl
 
 -- the mismatches of the buckets, and then that of the count of names
 pub buckets_told : (extent : Extent) (number : ℕ) (stream : List ℕ) (buckets count stored names : ℕ)

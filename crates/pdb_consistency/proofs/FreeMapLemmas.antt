@@ -62,8 +62,3 @@ pub byte_kept : (file : List ℕ) (page_size map page : ℕ) → 0 < page_size
     ≡ slice_get file (free_byte page_size map page)
 byte_kept file page_size map page positive =
     in_part file (map_start page_size map page) page_size (page / 8 % page_size) (omega arith)
-
--- the bytes that number the active map are there
-pub map_numbered : (file : List ℕ) → 40 ≤ length file → file_part file 36 4 ≡ Ok (take 4 (drop 36 file))
-unfolding file_part
-map_numbered file long = let reach = le-ltb (length file) 40 (omega arith) in rw reach refl

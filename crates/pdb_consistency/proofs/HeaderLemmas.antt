@@ -56,7 +56,7 @@ layout_parts file layout is =
     let directory = bind_ok (directory_of file head.0) _ layout head.2 in
     rw (← ok_is _ layout directory.2) (opened_parts file head.0 head.1)
 
-pub layout_long : (file : List ℕ) (layout : LayoutValue) → layout_of file ≡ Ok layout → 40 ≤ length file
+pub layout_long : (file : List ℕ) (layout : LayoutValue) → layout_of file ≡ Ok layout → 44 ≤ length file
 layout_long file layout is = let long = (layout_parts file layout is).0 in omega arith
 
 positive : (size : ℕ) → 256 ≤ size → 0 < size

@@ -1,9 +1,12 @@
 pub mod BucketLemmas
+pub mod FieldLemmas
 pub mod FreeMapLemmas
 pub mod HashLemmas
 pub mod HeaderLemmas
 pub mod MismatchLemmas
+pub mod NameLemmas
 pub mod OwnerLemmas
 pub mod PageLemmas
 pub mod PlaceLemmas
 pub mod RecordLemmas
+pub mod TableLemmas

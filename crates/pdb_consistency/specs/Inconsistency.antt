@@ -8,6 +8,11 @@ use Rattle.pdb_consistency.specs.declared.inconsistency.Inconsistency.TheVariant
 use Rattle.pdb_consistency.specs.declared.inconsistency.Inconsistency.TheVariants.{KindNotRead, HashCount, HashTooLarge}
 use Rattle.pdb_consistency.specs.declared.inconsistency.Inconsistency.TheVariants.{IndexOffset, BucketsCut, NameOffset}
 use Rattle.pdb_consistency.specs.declared.inconsistency.Inconsistency.TheVariants.{NameCount, SectionsOverlap}
+use Rattle.pdb_consistency.specs.declared.inconsistency.Inconsistency.TheVariants.{FreePageMap, PageCount}
+use Rattle.pdb_consistency.specs.declared.inconsistency.Inconsistency.TheVariants.{UnknownVersion, UnknownMachine}
+use Rattle.pdb_consistency.specs.declared.inconsistency.Inconsistency.TheVariants.{NamedStreamCount, RecordBytes}
+use Rattle.pdb_consistency.specs.declared.inconsistency.Inconsistency.TheVariants.{HashSize, NoHashStream, HashPart}
+use Rattle.pdb_consistency.specs.declared.inconsistency.Inconsistency.TheVariants.{NameUnreached}
 
 -- the code of an inconsistency, under which programs tell of it
 abbrev pub inconsistency_code : Inconsistency → List ℕ
@@ -28,10 +33,22 @@ inconsistency_code BucketsCut = codes "BUCKETS-CUT"
 inconsistency_code (NameOffset offset) = codes "NAME-OFFSET"
 inconsistency_code (NameCount count) = codes "NAME-COUNT"
 inconsistency_code SectionsOverlap = codes "SECTIONS-OVERLAP"
+inconsistency_code (FreePageMap number) = codes "FREE-PAGE-MAP"
+inconsistency_code (PageCount count) = codes "PAGE-COUNT"
+inconsistency_code (UnknownVersion version) = codes "UNKNOWN-VERSION"
+inconsistency_code (UnknownMachine machine) = codes "UNKNOWN-MACHINE"
+inconsistency_code (NamedStreamCount count) = codes "NAMED-STREAM-COUNT"
+inconsistency_code (RecordBytes number) = codes "RECORD-BYTES"
+inconsistency_code (HashSize size) = codes "HASH-SIZE"
+inconsistency_code NoHashStream = codes "NO-HASH-STREAM"
+inconsistency_code (HashPart size) = codes "HASH-PART"
+inconsistency_code (NameUnreached offset) = codes "NAME-UNREACHED"
 
 -- whether files of known tools have it too, so that it makes no file damaged
 abbrev pub is_warning : Inconsistency → Bool
 is_warning (PageFree page) = true
 is_warning RecordUnaligned = true
 is_warning (KindNotRead kind) = true
+is_warning (UnknownMachine machine) = true
+is_warning NoHashStream = true
 is_warning other = false

@@ -1,5 +1,9 @@
-pub mod DebugSizes
+pub mod DebugHeader
+pub mod FileHeader
 pub mod Hashes
+pub mod HeaderFields
+pub mod Information
+pub mod NameHashes
 pub mod Inconsistency
 pub mod Mismatch
 pub mod MissingStreams
@@ -10,4 +14,5 @@ pub mod Records
 pub mod References
 pub mod Sections
 pub mod StringTable
+pub mod TableHeader
 pub mod Words

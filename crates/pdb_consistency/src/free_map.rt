@@ -1,6 +1,7 @@
 //! Which pages a file marks as free.
 
-ghost use Rattle.std.specs.Prelude.{◌≡◌, ◌%◌, ◌/◌, ◌<◌, ◌≤◌, drop, length, slice_get, take, IfOk, Ok, OnOk};
+ghost use Rattle.std.specs.Prelude.{◌≡◌, ◌+◌, ◌%◌, ◌/◌, ◌<◌, ◌≤◌, drop, length, slice_get, take, IfOk, Ok, OnOk};
+ghost use Rattle.pdb_base.specs.Reading.{word_at};
 ghost use Rattle.pdb_msf.specs.Source.{IsFixed, ReadsSource};
 ghost use Rattle.pdb_consistency.specs.FreeMap.{IsMapOf, map_start};
 ghost use Rattle.pdb_consistency.specs.Pages.{active_map, has_bit, is_free};
@@ -29,14 +30,21 @@ pub(crate) struct FreeMap {
     bytes: ReadView,
 }
 
-/// Returns the number of the free page map that is active.
-#[tactic(auto, using(crate::proofs::FreeMapLemmas::map_numbered))]
-fn active_map<S: Source>(alloc: Global, source: &mut CountedSource<S>) -> Result<u32>
-    requires { IsFixed (S.state source.old.source) → 40 ≤ length (S.state source.old.source).bytes }
-    ensures { ReadsSource (S.state source.old.source) (S.state source.new.source) (λ map. map) result
-        (λ file. Ok (active_map file)) }
+/// The byte of a file at which its header has the number of the free page map that is active.
+pub(crate) const MAP_BYTE: u64 = 36;
+
+/// Returns the number of four bytes at a byte of a file's header.
+#[tactic(auto, using(crate::proofs::FieldLemmas::word_there))]
+pub(crate) fn header_word<S: Source>(
+    alloc: Global,
+    source: &mut CountedSource<S>,
+    byte: u64,
+) -> Result<u32>
+    requires { IsFixed (S.state source.old.source) → byte + 4 ≤ length (S.state source.old.source).bytes }
+    ensures { ReadsSource (S.state source.old.source) (S.state source.new.source) (λ word. word) result
+        (λ file. Ok (word_at byte file)) }
 {
-    let word = source.read_part(alloc, 36, 4)?;
+    let word = source.read_part(alloc, byte, 4)?;
     Ok(LittleEndian::read_u32(word.as_slice()))
 }
 
@@ -89,7 +97,7 @@ impl FreeMap {
             IsMapOf (S.state source.old.source).bytes free) }
         ensures sized { IfOk result (λ free. free.page_size ≡ page_size) }
     {
-        let map = active_map(alloc, source)?;
+        let map = header_word(alloc, source, MAP_BYTE)?;
         Ok(FreeMap {
             page_size,
             map,

@@ -57,6 +57,40 @@ pub enum Inconsistency {
 
     /// A section begins below the end of the one before it.
     SectionsOverlap,
+
+    /// The header gives the free page map this number, which is neither 1 nor 2.
+    FreePageMap(u32),
+
+    /// The header says that this many pages are in use, which are more than the file has.
+    PageCount(u32),
+
+    /// Stream 1, stream 3 or a table has this version, which is not known.
+    UnknownVersion(u32),
+
+    /// The program is for a machine of this number, which is not known.
+    UnknownMachine(u16),
+
+    /// Stream 1 says that this many streams have names, and has bits for another number of them.
+    NamedStreamCount(u32),
+
+    /// The header of a table says that the records have this many bytes, or this end of indexes, and
+    /// they have others.
+    RecordBytes(u32),
+
+    /// The header of a table says that a hash has this size, or that there are this many buckets,
+    /// and no table has that.
+    HashSize(u32),
+
+    /// A table has records and no hash stream.
+    NoHashStream,
+
+    /// A part of the hash stream has this size, and is not within the stream, or does not have the
+    /// place of a record.
+    HashPart(u32),
+
+    /// The name at this offset of the string table is not in the bucket to which its hash leads, or
+    /// the names in the buckets before it take more bytes than there are.
+    NameUnreached(u32),
 }
 
 impl Inconsistency {
@@ -82,11 +116,22 @@ impl Inconsistency {
             Inconsistency::NameOffset(_) => "NAME-OFFSET",
             Inconsistency::NameCount(_) => "NAME-COUNT",
             Inconsistency::SectionsOverlap => "SECTIONS-OVERLAP",
+            Inconsistency::FreePageMap(_) => "FREE-PAGE-MAP",
+            Inconsistency::PageCount(_) => "PAGE-COUNT",
+            Inconsistency::UnknownVersion(_) => "UNKNOWN-VERSION",
+            Inconsistency::UnknownMachine(_) => "UNKNOWN-MACHINE",
+            Inconsistency::NamedStreamCount(_) => "NAMED-STREAM-COUNT",
+            Inconsistency::RecordBytes(_) => "RECORD-BYTES",
+            Inconsistency::HashSize(_) => "HASH-SIZE",
+            Inconsistency::NoHashStream => "NO-HASH-STREAM",
+            Inconsistency::HashPart(_) => "HASH-PART",
+            Inconsistency::NameUnreached(_) => "NAME-UNREACHED",
         }
     }
 
     /// Returns whether files of known tools have it too, so that it makes no file damaged: a page
-    /// that is marked as free, a record that is not aligned, and a kind that is not read.
+    /// that is marked as free, a record that is not aligned, a kind that is not read, another
+    /// machine, and records without hashes.
     pub fn is_warning(self) -> bool
         ensures { result ≡ is_warning self }
     {
@@ -94,6 +139,8 @@ impl Inconsistency {
             Inconsistency::PageFree(_) => true,
             Inconsistency::RecordUnaligned => true,
             Inconsistency::KindNotRead(_) => true,
+            Inconsistency::UnknownMachine(_) => true,
+            Inconsistency::NoHashStream => true,
             _ => false,
         }
     }

@@ -1,27 +1,36 @@
 //! What holds between the parts of a whole program database, beyond what each part says by itself.
 #![tactic(auto)]
 
-mod debug_sizes;
+mod debug_header;
+mod file_header;
 mod free_map;
 mod hashes;
+mod header_fields;
 mod id_references;
 mod inconsistency;
+mod information;
 mod mismatch;
 mod missing_streams;
+mod name_hashes;
+mod name_places;
 mod page_owners;
 mod pages;
 mod records;
 mod references;
 mod sections;
 mod string_table;
+mod table_header;
 mod words;
 
-pub use debug_sizes::check_debug_sizes;
+pub use debug_header::check_debug_header;
+pub use file_header::check_header;
 pub use hashes::check_hashes;
 pub use inconsistency::Inconsistency;
+pub use information::check_information;
 pub use mismatch::{Extent, Mismatch};
 pub use missing_streams::{check_named_streams, check_roles};
 pub use pages::check_pages;
 pub use records::{check_id_records, check_type_records, is_not_read};
 pub use sections::check_section_order;
 pub use string_table::check_buckets;
+pub use table_header::check_table_header;

@@ -8,7 +8,7 @@ ghost use Rattle.pdb_consistency.specs.MissingStreams.{index_mismatch, indexes_m
 ghost use Rattle.pdb_consistency.specs.MissingStreams.{names_mismatches};
 ghost use Rattle.pdb_consistency.specs.MissingStreams.{role_indexes, symbol_indexes};
 
-use crate::debug_sizes::DEBUG_STREAM;
+use crate::debug_header::DEBUG_STREAM;
 use crate::inconsistency::Inconsistency;
 use crate::mismatch::{Extent, Mismatch, add};
 use pdb_base::{Error, Result, StreamIndex};
@@ -17,10 +17,10 @@ use pdb_msf::Layout;
 use std::alloc::Global;
 
 /// The number of the stream that names others.
-const NAMING_STREAM: u32 = 1;
+pub(crate) const NAMING_STREAM: u32 = 1;
 
 /// Returns whether a layout has no stream of a number.
-fn is_missing(layout: &Layout, number: u32) -> bool
+pub(crate) fn is_missing(layout: &Layout, number: u32) -> bool
     ensures { result ≡ is_missing (size_by layout.now number) }
 {
     match layout.stream_size(number) {

@@ -1,17 +1,19 @@
 //! The buckets of a string table.
 
-ghost use Rattle.std.specs.Prelude.{◌≡◌, ◌≤◌, ◌<◌, ◌+◌, ◌*◌, ◌&&◌, not, ◌==◌, false, length, Ok, IfOk, ◌^◌};
+ghost use Rattle.std.specs.Prelude.{◌≡◌, ◌≤◌, not, ◌==◌, false, length, Ok, IfOk};
+ghost use Rattle.std.specs.Option.{option_map};
 ghost use Rattle.std.specs.Bool.{then_some};
 ghost use Rattle.pdb_base.specs.Answer.{Answers};
 ghost use Rattle.pdb_consistency.specs.Mismatch.{asked_of, with_further};
-ghost use Rattle.pdb_consistency.specs.StringTable.{are_buckets_cut, begins_name, bucket_byte};
-ghost use Rattle.pdb_consistency.specs.StringTable.{bucket_mismatch, buckets_byte, count_mismatch, in_names};
+ghost use Rattle.pdb_consistency.specs.StringTable.{are_buckets_cut, bucket_byte, bucket_count};
+ghost use Rattle.pdb_consistency.specs.StringTable.{bucket_mismatch, count_mismatch, in_names};
 ghost use Rattle.pdb_consistency.specs.StringTable.{buckets_mismatches, names_in_buckets, names_mismatches_in};
-ghost use Rattle.pdb_consistency.specs.declared.inconsistency.Inconsistency.TheVariants.{NameCount, NameOffset};
+ghost use Rattle.pdb_consistency.specs.declared.inconsistency.Inconsistency.TheVariants.{NameCount};
 ghost use Rattle.pdb_consistency.specs.Words.{mismatches_at};
 
 use crate::inconsistency::Inconsistency;
 use crate::mismatch::{Extent, Mismatch, add};
+use crate::name_places::{NamesBefore, buckets_byte, check_name, full_from};
 use crate::words::word_at;
 use pdb_base::Result;
 use std::alloc::Global;
@@ -43,31 +45,11 @@ fn in_names(number: u32, byte: usize, what: Inconsistency) -> Mismatch
     }
 }
 
-/// Returns the byte at which the count of buckets begins.
-fn buckets_byte(stream: &[u8]) -> usize
-    requires { 12 ≤ length stream.now }
-    ensures byte { result ≡ buckets_byte stream.now }
-    ensures few { result < 12 + 2 ^ 32 }
+/// Returns the mismatch of what is inconsistent in the bucket at a byte, if something is.
+fn found_at(number: u32, byte: usize, what: Option<Inconsistency>) -> Option<Mismatch>
+    ensures { result ≡ option_map (in_names number byte) what }
 {
-    12 + word_at(8, stream) as usize
-}
-
-/// Returns whether a name begins at an offset that is not 0.
-fn begins_name(stream: &[u8], offset: u32) -> bool
-    requires { buckets_byte stream.now ≤ length stream.now }
-    ensures { result ≡ begins_name stream.now offset }
-{
-    offset < word_at(8, stream) && stream[11 + offset as usize] == 0
-}
-
-/// Returns the mismatch of an offset in the bucket at a byte, if no name begins there.
-fn bucket_mismatch(number: u32, stream: &[u8], byte: usize, offset: u32) -> Option<Mismatch>
-    requires { buckets_byte stream.now ≤ length stream.now }
-    ensures { result ≡ then_some (not (offset == 0) && not (begins_name stream.now offset))
-        (in_names number byte (NameOffset offset)) }
-{
-    let is_wrong = offset != 0 && !begins_name(stream, offset);
-    is_wrong.then_some(in_names(number, byte, Inconsistency::NameOffset(offset)))
+    Some(in_names(number, byte, what?))
 }
 
 /// Adds the mismatches of the buckets, and returns how many of them have a name.
@@ -78,21 +60,26 @@ fn add_buckets(
     extent: Extent,
     mismatches: &mut Vec<Mismatch>,
 ) -> Result<u32>
-    requires { bucket_byte stream.now count ≤ length stream.now }
+    requires there { bucket_byte stream.now count ≤ length stream.now }
+    requires count { count ≡ bucket_count stream.now }
     ensures mismatches { Answers (λ names. mismatches.new.items) result
         (Ok (with_further extent mismatches.old.items (mismatches_at (bucket_mismatch number stream.now) count))) }
     ensures names { IfOk result (λ names. names ≡ names_in_buckets stream.now count) }
 {
     let first = buckets_byte(stream) + 4;
     let mut names = 0;
+    let last = full_from(stream, count);
+    let mut before = NamesBefore {
+        full_from: 0,
+        last_full_from: last,
+        taken: 0,
+    };
     for place in 0..count {
         let byte = first + 4 * place as usize;
         let offset = word_at(byte, stream);
-        add(
-            mismatches,
-            extent,
-            bucket_mismatch(number, stream, byte, offset),
-        )?;
+        let (what, taken) = check_name(stream, before, place, offset);
+        add(mismatches, extent, found_at(number, byte, what))?;
+        before = before.with_bucket(place, offset, taken);
         if offset != 0 {
             names += 1;
         }
@@ -131,9 +118,13 @@ fn check_whole(alloc: Global, number: u32, stream: &[u8], extent: Extent) -> Res
 
 /// Returns what is inconsistent in the bytes of a string table, those of the stream of a number,
 /// each with its byte in the stream: that the stream ends before the count of names behind the
-/// buckets, or else a bucket whose offset is not 0 and at which no name begins, and a count of
-/// names that is not that of the buckets with a name. All are returned, or one, as `extent` says.
-/// The format is that of `NMT` in Microsoft's nmt.h.
+/// buckets, or else a bucket whose offset is not 0 and at which no name begins, or whose name is not
+/// where its hash leads, and a count of names that is not that of the buckets with a name. All are
+/// returned, or one, as `extent` says. The format is that of `NMT` in Microsoft's nmt.h.
+///
+/// A name is in the bucket of its hash, or in the first one behind it that was empty. Names that are
+/// in two buckets take more bytes than the names have, from some bucket on; no later name is looked
+/// up then, so that the work is linear in the stream.
 ///
 /// # Errors
 /// Fails with `OutOfMemory` if an allocation fails.

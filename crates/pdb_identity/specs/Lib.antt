@@ -2,3 +2,4 @@ pub mod Identity
 pub mod Header
 pub mod Key
 pub mod Format
+pub mod Image

@@ -1,5 +1,5 @@
-//! Test cases of what the programs print, and of what the short uses answer: records as lines,
-//! tables as lines, and questions about a file.
+//! Test cases of whole queries, of questions about a file, of channels that fail, and of the short
+//! uses.
 #![tactic(auto)]
 
 #[cfg(test)]

@@ -9,10 +9,6 @@ macro_rules! rows {
 
 mod asked;
 mod channels;
-mod dumped;
 mod failing;
-mod identities;
-mod listings;
 mod printed;
-mod processes;
 mod uses;

@@ -52,6 +52,16 @@ inconsistency_number kinds.BucketsCut = 14
 inconsistency_number (kinds.NameOffset offset) = 15
 inconsistency_number (kinds.NameCount count) = 16
 inconsistency_number kinds.SectionsOverlap = 17
+inconsistency_number (kinds.FreePageMap number) = 18
+inconsistency_number (kinds.PageCount count) = 19
+inconsistency_number (kinds.UnknownVersion version) = 20
+inconsistency_number (kinds.UnknownMachine machine) = 21
+inconsistency_number (kinds.NamedStreamCount count) = 22
+inconsistency_number (kinds.RecordBytes number) = 23
+inconsistency_number (kinds.HashSize size) = 24
+inconsistency_number kinds.NoHashStream = 25
+inconsistency_number (kinds.HashPart size) = 26
+inconsistency_number (kinds.NameUnreached offset) = 27
 
 -- the number that goes with what is inconsistent, or 0
 abbrev pub detail_of : Inconsistency → ℕ
@@ -65,6 +75,15 @@ detail_of (kinds.HashTooLarge value) = value
 detail_of (kinds.IndexOffset index) = index
 detail_of (kinds.NameOffset offset) = offset
 detail_of (kinds.NameCount count) = count
+detail_of (kinds.FreePageMap number) = number
+detail_of (kinds.PageCount count) = count
+detail_of (kinds.UnknownVersion version) = version
+detail_of (kinds.UnknownMachine machine) = machine
+detail_of (kinds.NamedStreamCount count) = count
+detail_of (kinds.RecordBytes number) = number
+detail_of (kinds.HashSize size) = size
+detail_of (kinds.HashPart size) = size
+detail_of (kinds.NameUnreached offset) = offset
 detail_of other = 0
 
 -- what is wrong, in numbers

@@ -90,6 +90,16 @@ fn inconsistency_number(what: Inconsistency) -> u32
         Inconsistency::NameOffset(_) => 15,
         Inconsistency::NameCount(_) => 16,
         Inconsistency::SectionsOverlap => 17,
+        Inconsistency::FreePageMap(_) => 18,
+        Inconsistency::PageCount(_) => 19,
+        Inconsistency::UnknownVersion(_) => 20,
+        Inconsistency::UnknownMachine(_) => 21,
+        Inconsistency::NamedStreamCount(_) => 22,
+        Inconsistency::RecordBytes(_) => 23,
+        Inconsistency::HashSize(_) => 24,
+        Inconsistency::NoHashStream => 25,
+        Inconsistency::HashPart(_) => 26,
+        Inconsistency::NameUnreached(_) => 27,
     }
 }
 
@@ -104,7 +114,12 @@ fn detail_of(what: Inconsistency) -> u32
         Inconsistency::KindNotRead(kind) => kind as u32,
         Inconsistency::HashCount(count) | Inconsistency::NameCount(count) => count,
         Inconsistency::HashTooLarge(value) => value,
-        Inconsistency::NameOffset(offset) => offset,
+        Inconsistency::NameOffset(offset) | Inconsistency::NameUnreached(offset) => offset,
+        Inconsistency::FreePageMap(number) | Inconsistency::RecordBytes(number) => number,
+        Inconsistency::PageCount(count) | Inconsistency::NamedStreamCount(count) => count,
+        Inconsistency::UnknownVersion(version) => version,
+        Inconsistency::UnknownMachine(machine) => machine as u32,
+        Inconsistency::HashSize(size) | Inconsistency::HashPart(size) => size,
         _ => 0,
     }
 }

@@ -524,7 +524,7 @@ none_refused_of extent layout file fixed each =
 -- the relations between them
 record AreAgreed (extent : Extent) (layout : LayoutValue) (file : List ℕ) (faults : List FaultPlace) : Type 0 where
   pub none : errors_in faults ≡ []
-  pub pages : AreConsistent (container_relations file)
+  pub pages : AreConsistent (container_relations layout file)
   pub types : AreConsistent (type_relations layout file)
   pub ids : AreConsistent (id_relations layout file)
   pub names : AreConsistent (name_relations layout file)
@@ -538,7 +538,7 @@ related_agree extent layout file faults is =
     let names = with_none extent layout (name_relations layout file) _ roles.0 in
     let ids = with_none extent layout (id_relations layout file) _ names.0 in
     let types = with_none extent layout (type_relations layout file) _ ids.0 in
-    let pages = with_none extent layout (container_relations file) faults types.0 in
+    let pages = with_none extent layout (container_relations layout file) faults types.0 in
     record { none = pages.0; pages = pages.1; types = types.1; ids = ids.1; names = names.1; roles = roles.1 }
 
 agreed : (extent : Extent) (layout : LayoutValue) (file : List ℕ) (faults : List FaultPlace)
@@ -549,7 +549,7 @@ agreed extent layout file faults are =
     (none_with extent layout (name_relations layout file) _
     (none_with extent layout (id_relations layout file) _
     (none_with extent layout (type_relations layout file) _
-    (none_with extent layout (container_relations file) faults are.none are.pages) are.types) are.ids) are.names)
+    (none_with extent layout (container_relations layout file) faults are.none are.pages) are.types) are.ids) are.names)
     are.roles
 
 no_part_faults : (extent : Extent) (layout : LayoutValue) (file : List ℕ)

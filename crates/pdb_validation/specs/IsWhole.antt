@@ -91,7 +91,7 @@ pub record HasWholeParts (layout : LayoutValue) (file : List ℕ) : Type 0 where
   pub types : IfRead (λ stream. AreWholeTypes (table_of stream)) (stream_by layout file 2 None)
   pub ids : IfRead (λ stream. AreWholeIds (table_of stream)) (stream_by layout file 4 None)
   pub by_role : (part : Part) → HasRole layout file part (known_roles layout file)
-  pub pages_agree : AreConsistent (container_relations file)
+  pub pages_agree : AreConsistent (container_relations layout file)
   pub types_agree : AreConsistent (type_relations layout file)
   pub ids_agree : AreConsistent (id_relations layout file)
   pub names_agree : AreConsistent (name_relations layout file)

@@ -1,6 +1,5 @@
 -- What is inconsistent between the parts of a file, as far as these can be read.
 use Rattle.std.specs.Prelude.{◌≡◌, ℕ, not, filter, ⊤, List, [], ◌∷◌, ◌++◌, map, Option, Some, None, Ok, Err}
-use Rattle.std.specs.Option.{option_to_list}
 use Rattle.pdb_base.specs.Answer.{Answer}
 use Rattle.pdb_base.specs.Index.{stream_number}
 use Rattle.pdb_msf.specs.Layout.{LayoutValue, stream_by}
@@ -11,14 +10,17 @@ use Rattle.pdb_file.specs.SectionHeaders.{section_headers_of}
 use Rattle.pdb_file.specs.StreamNames.{stream_names_of}
 use Rattle.pdb_file.specs.declared.debug_header.DBIExtraStreams.{DBIExtraStreams}
 use Rattle.pdb_tpi.specs.Table.{Table, table_of}
-use Rattle.pdb_consistency.specs.DebugSizes.{debug_sizes_mismatch}
+use Rattle.pdb_consistency.specs.DebugHeader.{debug_header_mismatches}
+use Rattle.pdb_consistency.specs.FileHeader.{file_header_mismatches}
 use Rattle.pdb_consistency.specs.Hashes.{hashes_mismatches}
+use Rattle.pdb_consistency.specs.Information.{information_mismatches}
 use Rattle.pdb_consistency.specs.Mismatch.{asked_of, warns}
 use Rattle.pdb_consistency.specs.MissingStreams.{indexes_mismatches, names_mismatches, role_indexes, symbol_indexes}
 use Rattle.pdb_consistency.specs.Pages.{page_mismatches}
 use Rattle.pdb_consistency.specs.Records.{ids_mismatches, types_mismatches}
 use Rattle.pdb_consistency.specs.Sections.{section_mismatches}
 use Rattle.pdb_consistency.specs.StringTable.{names_mismatches_in}
+use Rattle.pdb_consistency.specs.TableHeader.{table_header_mismatches}
 use Rattle.pdb_consistency.specs.declared.mismatch.Extent.{Extent}
 use Rattle.pdb_consistency.specs.declared.mismatch.Mismatch.{Mismatch}
 use Rattle.pdb_validation.specs.Finding.{FaultPlace}
@@ -107,6 +109,10 @@ hashes_by layout file table (Some number) =
 abbrev pub hashes_in : LayoutValue → List ℕ → Table → List Mismatch
 hashes_in layout file table = hashes_by layout file table (stream_number table.header.tpi_hash_stream)
 
+-- stream 1
+unfoldable pub information_relation : LayoutValue → List ℕ → List Mismatch
+information_relation layout file = if_answered information_mismatches (stream_by layout file 1 None)
+
 -- the streams that have names
 unfoldable pub named_streams : LayoutValue → List ℕ → List Mismatch
 named_streams layout stream =
@@ -126,10 +132,9 @@ buckets_relation layout file =
     if_answered (λ stream. if_answered (buckets_of layout file) (string_table_number stream))
     (stream_by layout file 1 None)
 
--- the sizes in the header of stream 3, and the streams that have roles
-unfoldable pub sizes_relation : LayoutValue → List ℕ → List Mismatch
-sizes_relation layout file =
-    if_answered (λ stream. option_to_list (debug_sizes_mismatch stream)) (stream_by layout file 3 None)
+-- the header of stream 3, and the streams that have roles
+unfoldable pub debug_relation : LayoutValue → List ℕ → List Mismatch
+debug_relation layout file = if_answered debug_header_mismatches (stream_by layout file 3 None)
 
 unfoldable pub roles_in_stream : LayoutValue → List ℕ → List Mismatch
 roles_in_stream layout stream =
@@ -156,13 +161,21 @@ sections_relation layout file part = sections_by layout file part (known_roles l
 
 -- ---- by kinds of parts
 
-unfoldable pub container_relations : List ℕ → List Relation
-container_relations file = relation parts.Stream (page_mismatches file) ∷ []
+unfoldable pub container_relations : LayoutValue → List ℕ → List Relation
+container_relations layout file =
+    relation parts.Header (file_header_mismatches layout.head.geometry.page_size file)
+    ∷ relation parts.Stream (page_mismatches file) ∷ []
 
--- the records of a table in the stream of a number, with these mismatches, and its hash stream
+-- the header of a table in the stream of a number, and its hash stream
+abbrev pub header_relations : LayoutValue → List ℕ → Part → ℕ → Table → List Relation
+header_relations layout file part number table =
+    relation part (table_header_mismatches layout number table) ∷ relation part (hashes_in layout file table) ∷ []
+
+-- the records of a table in the stream of a number, with these mismatches, its header and its hash stream
 abbrev pub table_relations : LayoutValue → List ℕ → Part → ℕ → (Table → List Mismatch) → List Relation
 table_relations layout file part number records =
     relation part (in_table records (stream_by layout file number None))
+    ∷ relation part (in_table (table_header_mismatches layout number) (stream_by layout file number None))
     ∷ relation part (in_table (hashes_in layout file) (stream_by layout file number None)) ∷ []
 
 -- the types
@@ -175,11 +188,12 @@ id_relations layout file = table_relations layout file parts.Ids 4 (ids_mismatch
 
 unfoldable pub name_relations : LayoutValue → List ℕ → List Relation
 name_relations layout file =
-    relation parts.Names (names_relation layout file) ∷ relation parts.StringTable (buckets_relation layout file) ∷ []
+    relation parts.Names (information_relation layout file) ∷ relation parts.Names (names_relation layout file)
+    ∷ relation parts.StringTable (buckets_relation layout file) ∷ []
 
 unfoldable pub role_relations : LayoutValue → List ℕ → List Relation
 role_relations layout file =
-    relation parts.Roles (sizes_relation layout file) ∷ relation parts.Roles (roles_relation layout file)
+    relation parts.Roles (debug_relation layout file) ∷ relation parts.Roles (roles_relation layout file)
     ∷ relation parts.SectionHeaders (sections_relation layout file parts.SectionHeaders)
     ∷ relation parts.OriginalSectionHeaders (sections_relation layout file parts.OriginalSectionHeaders) ∷ []
 
@@ -190,4 +204,4 @@ related_faults extent layout file faults =
     (with_relations extent layout (name_relations layout file)
     (with_relations extent layout (id_relations layout file)
     (with_relations extent layout (type_relations layout file)
-    (with_relations extent layout (container_relations file) faults))))
+    (with_relations extent layout (container_relations layout file) faults))))

@@ -9,11 +9,12 @@ ghost use Rattle.pdb_msf.specs.Layout.{layout_of};
 ghost use Rattle.pdb_msf.specs.Source.{IsFixed, ReadsSource};
 ghost use Rattle.pdb_validation.specs.Finding.{finding_view};
 ghost use Rattle.pdb_validation.specs.Places.{stream_pages};
-ghost use Rattle.pdb_validation.specs.Relations.{buckets_of, buckets_relation, container_relations, hashes_by};
-ghost use Rattle.pdb_validation.specs.Relations.{id_relations, mismatch_fault, name_relations};
+ghost use Rattle.pdb_validation.specs.Relations.{buckets_of, buckets_relation, container_relations, debug_relation};
+ghost use Rattle.pdb_validation.specs.Relations.{hashes_by, header_relations, id_relations, information_relation};
+ghost use Rattle.pdb_validation.specs.Relations.{mismatch_fault, name_relations};
 ghost use Rattle.pdb_validation.specs.Relations.{named_streams, names_relation, role_relations, roles_in_stream};
 ghost use Rattle.pdb_validation.specs.Relations.{roles_relation, sections_in, sections_relation};
-ghost use Rattle.pdb_validation.specs.Relations.{sizes_relation, type_relations, types_end};
+ghost use Rattle.pdb_validation.specs.Relations.{type_relations, types_end};
 ghost use Rattle.pdb_validation.specs.Relations.{related_faults, with_relations};
 
 use crate::finding::{Finding, Part};
@@ -24,8 +25,9 @@ use crate::read::read;
 use crate::roles::{known_roles, role_index};
 use pdb_base::{Error, ItemIndex, Result, Stream, StreamIndex};
 use pdb_consistency::{
-    Extent, Mismatch, check_buckets, check_debug_sizes, check_hashes, check_id_records,
-    check_named_streams, check_pages, check_roles, check_section_order, check_type_records,
+    Extent, Mismatch, check_buckets, check_debug_header, check_hashes, check_header,
+    check_id_records, check_information, check_named_streams, check_pages, check_roles,
+    check_section_order, check_table_header, check_type_records,
 };
 use pdb_file::section_headers::section_headers;
 use pdb_file::{DBIExtraStreams, DBIHeader, ID_STREAM, PDBInformation, TYPE_STREAM};
@@ -95,23 +97,47 @@ fn hash_mismatches<I: ItemIndex, S: Source>(
     alloc: Global,
     layout: &Layout,
     source: &mut CountedSource<S>,
-    table: ItemInformation<I>,
+    table: &OpenTable<I>,
     extent: Extent,
 ) -> Result<Vec<Mismatch>>
     ensures { ReadsSource (S.state source.old.source) (S.state source.new.source)
-        (λ mismatches. mismatches.items) result (λ file. Ok (asked_of extent (hashes_by layout.now file table
-        (stream_number table.header.tpi_hash_stream)))) }
+        (λ mismatches. mismatches.items) result (λ file. Ok (asked_of extent (hashes_by layout.now file table.now.table
+        (stream_number table.now.table.header.tpi_hash_stream)))) }
 {
-    let header = table.header();
+    let header = table.items().header();
     let Some(number) = StreamIndex(header.tpi_hash_stream).msf_number() else {
         return Ok(Vec::new(alloc));
     };
-    let Ok(hashes) = read(alloc, layout, source, number)? else {
-        return Ok(Vec::new(alloc));
-    };
+    match read(alloc, layout, source, number)? {
+        Ok(hashes) => check_hashes(alloc, number, table, hashes.as_slice(), extent),
+        Err(_) => Ok(Vec::new(alloc)),
+    }
+}
+
+/// Adds what is inconsistent in the header of a table in the stream of a number, and in its hash
+/// stream.
+fn add_table_relations<I: ItemIndex, S: Source>(
+    alloc: Global,
+    layout: &Layout,
+    source: &mut CountedSource<S>,
+    place: (Part, u32),
+    table: ItemInformation<I>,
+    extent: Extent,
+    findings: &mut Vec<Finding>,
+) -> Result<()>
+    requires { 0 < layout.now.head.geometry.page_size }
+    ensures { ReadsSource (S.state source.old.source) (S.state source.new.source)
+        (λ done. map finding_view findings.new.items) result (λ file. Ok (with_relations extent layout.now
+        (header_relations layout.now file place.0 place.1 table) (map finding_view findings.old.items))) }
+{
+    let (part, number) = place;
+    let last = table.header().maximum_index.saturating_sub(1);
     let mut open = OpenTable::new(alloc, table)?;
-    open.learn(I::from(header.maximum_index.saturating_sub(1)));
-    check_hashes(alloc, number, &open, hashes.as_slice(), extent)
+    open.learn(I::from(last));
+    let header = check_table_header(alloc, layout, number, &open, extent)?;
+    add_mismatches(alloc, layout, part, &header, findings)?;
+    let hashes = hash_mismatches(alloc, layout, source, &open, extent)?;
+    add_mismatches(alloc, layout, part, &hashes, findings)
 }
 
 /// Returns the end of the indexes of types.
@@ -150,6 +176,24 @@ fn named_mismatches(
     match information.stream_names(alloc) {
         Ok(names) => check_named_streams(alloc, layout, &names, extent),
         Err(Error::OutOfMemory) => Err(Error::OutOfMemory),
+        Err(_) => Ok(Vec::new(alloc)),
+    }
+}
+
+/// Returns what is inconsistent in stream 1.
+#[tactic(auto, unfolding(crate::specs::Relations::information_relation), using(crate::proofs::RelationLemmas::nothing_asked))]
+fn information_mismatches<S: Source>(
+    alloc: Global,
+    layout: &Layout,
+    source: &mut CountedSource<S>,
+    extent: Extent,
+) -> Result<Vec<Mismatch>>
+    ensures { ReadsSource (S.state source.old.source) (S.state source.new.source)
+        (λ mismatches. mismatches.items) result (λ file. Ok (asked_of extent
+        (information_relation layout.now file))) }
+{
+    match read(alloc, layout, source, INFORMATION_STREAM)? {
+        Ok(stream) => check_information(alloc, &stream, extent),
         Err(_) => Ok(Vec::new(alloc)),
     }
 }
@@ -213,23 +257,20 @@ fn bucket_mismatches<S: Source>(
     }
 }
 
-/// Returns whether the sizes in the header of stream 3 don't add up.
-#[tactic(auto, unfolding(crate::specs::Relations::sizes_relation), using(crate::proofs::RelationLemmas::nothing_asked, crate::proofs::RelationLemmas::one_asked))]
-fn size_mismatches<S: Source>(
+/// Returns what is inconsistent in the header of stream 3.
+#[tactic(auto, unfolding(crate::specs::Relations::debug_relation), using(crate::proofs::RelationLemmas::nothing_asked))]
+fn debug_mismatches<S: Source>(
     alloc: Global,
     layout: &Layout,
     source: &mut CountedSource<S>,
     extent: Extent,
 ) -> Result<Vec<Mismatch>>
     ensures { ReadsSource (S.state source.old.source) (S.state source.new.source)
-        (λ mismatches. mismatches.items) result (λ file. Ok (asked_of extent (sizes_relation layout.now file))) }
+        (λ mismatches. mismatches.items) result (λ file. Ok (asked_of extent (debug_relation layout.now file))) }
 {
-    let Ok(stream) = read(alloc, layout, source, DEBUG_STREAM)? else {
-        return Ok(Vec::new(alloc));
-    };
-    match check_debug_sizes(&stream) {
-        Some(mismatch) => Ok(vec![in alloc; mismatch]?),
-        None => Ok(Vec::new(alloc)),
+    match read(alloc, layout, source, DEBUG_STREAM)? {
+        Ok(stream) => check_debug_header(alloc, &stream, extent),
+        Err(_) => Ok(Vec::new(alloc)),
     }
 }
 
@@ -317,7 +358,7 @@ fn section_mismatches<S: Source>(
     }
 }
 
-/// Adds what is inconsistent in the pages of a file.
+/// Adds what is inconsistent in the header and in the pages of a file.
 #[tactic(auto, unfolding(crate::specs::Relations::container_relations))]
 fn add_container_relations<S: Source>(
     alloc: Global,
@@ -331,13 +372,15 @@ fn add_container_relations<S: Source>(
         layout_of (S.state source.old.source).bytes ≡ Ok layout.now }
     ensures { ReadsSource (S.state source.old.source) (S.state source.new.source)
         (λ done. map finding_view findings.new.items) result (λ file. Ok (with_relations extent layout.now
-        (container_relations file) (map finding_view findings.old.items))) }
+        (container_relations layout.now file) (map finding_view findings.old.items))) }
 {
+    let header = check_header(alloc, layout, source, extent)?;
+    add_mismatches(alloc, layout, Part::Header, &header, findings)?;
     let mismatches = check_pages(alloc, layout, source, extent)?;
     add_mismatches(alloc, layout, Part::Stream, &mismatches, findings)
 }
 
-/// Adds what is inconsistent in the records of types, and in their hash stream.
+/// Adds what is inconsistent in the records of types, in the header and in their hash stream.
 #[tactic(auto, unfolding(crate::specs::Relations::type_relations), using(crate::proofs::RelationLemmas::nothing_related))]
 fn add_type_relations<S: Source>(
     alloc: Global,
@@ -359,11 +402,11 @@ fn add_type_relations<S: Source>(
     };
     let records = check_type_records(alloc, &types, TYPE_STREAM, extent)?;
     add_mismatches(alloc, layout, Part::Types, &records, findings)?;
-    let hashes = hash_mismatches(alloc, layout, source, types, extent)?;
-    add_mismatches(alloc, layout, Part::Types, &hashes, findings)
+    let place = (Part::Types, TYPE_STREAM);
+    add_table_relations(alloc, layout, source, place, types, extent, findings)
 }
 
-/// Adds what is inconsistent in the records of ids, and in their hash stream.
+/// Adds what is inconsistent in the records of ids, in the header and in their hash stream.
 #[tactic(auto, unfolding(crate::specs::Relations::id_relations), using(crate::proofs::RelationLemmas::nothing_related))]
 fn add_id_relations<S: Source>(
     alloc: Global,
@@ -386,11 +429,11 @@ fn add_id_relations<S: Source>(
     };
     let records = check_id_records(alloc, &ids, end, ID_STREAM, extent)?;
     add_mismatches(alloc, layout, Part::Ids, &records, findings)?;
-    let hashes = hash_mismatches(alloc, layout, source, ids, extent)?;
-    add_mismatches(alloc, layout, Part::Ids, &hashes, findings)
+    let place = (Part::Ids, ID_STREAM);
+    add_table_relations(alloc, layout, source, place, ids, extent, findings)
 }
 
-/// Adds what is inconsistent in the names of streams and the string table.
+/// Adds what is inconsistent in stream 1, the names of streams and the string table.
 #[tactic(auto, unfolding(crate::specs::Relations::name_relations))]
 fn add_name_relations<S: Source>(
     alloc: Global,
@@ -404,6 +447,8 @@ fn add_name_relations<S: Source>(
         (λ done. map finding_view findings.new.items) result (λ file. Ok (with_relations extent layout.now
         (name_relations layout.now file) (map finding_view findings.old.items))) }
 {
+    let information = information_mismatches(alloc, layout, source, extent)?;
+    add_mismatches(alloc, layout, Part::Names, &information, findings)?;
     let names = name_mismatches(alloc, layout, source, extent)?;
     add_mismatches(alloc, layout, Part::Names, &names, findings)?;
     let buckets = bucket_mismatches(alloc, layout, source, extent)?;
@@ -424,8 +469,8 @@ fn add_role_relations<S: Source>(
         (λ done. map finding_view findings.new.items) result (λ file. Ok (with_relations extent layout.now
         (role_relations layout.now file) (map finding_view findings.old.items))) }
 {
-    let sizes = size_mismatches(alloc, layout, source, extent)?;
-    add_mismatches(alloc, layout, Part::Roles, &sizes, findings)?;
+    let header = debug_mismatches(alloc, layout, source, extent)?;
+    add_mismatches(alloc, layout, Part::Roles, &header, findings)?;
     let roles = role_mismatches(alloc, layout, source, extent)?;
     add_mismatches(alloc, layout, Part::Roles, &roles, findings)?;
     let sections = section_mismatches(alloc, layout, source, Part::SectionHeaders, extent)?;

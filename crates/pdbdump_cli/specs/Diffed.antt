@@ -2,8 +2,8 @@
 use Rattle.std.specs.Prelude.{◌≡◌, Ok, Result}
 use Rattle.pdb_base.specs.declared.error.Error.{Error}
 use Rattle.pdb_output.specs.Output.{OutputState, Flushes}
-use Rattle.pdbdump_layouts.specs.declared.differences.Outcome.{Outcome}
-use Rattle.pdbdump_layouts.specs.declared.differences.Outcome.TheVariants.{Equal}
+use Rattle.pdbdump_differences.specs.declared.differences.Outcome.{Outcome}
+use Rattle.pdbdump_differences.specs.declared.differences.Outcome.TheVariants.{Equal}
 
 -- Nothing was written or reported, and the output is flushed.
 pub record IsSilentEnd (out out' err err' : OutputState) : Type 0 where

@@ -5,7 +5,7 @@ use Rattle.pdb_base.specs.declared.error.Error.{Error}
 use Rattle.pdb_base.specs.Answer.{Answer, ◌>>=◌}
 use Rattle.pdb_identity.specs.Format.{format_of}
 use Rattle.pdb_identity.specs.Identity.{file_identity}
-use Rattle.pdb_identity.specs.declared.format.Format.TheVariants.{Msf7}
+use Rattle.pdb_identity.specs.declared.format.Format.TheVariants.{Image, Msf7}
 use Rattle.pdb_identity.specs.declared.identity.Identity.{Identity}
 use Rattle.pdb_msf.specs.Header.{file_head}
 use Rattle.pdb_msf.specs.Source.{State, IsKept}
@@ -51,8 +51,24 @@ pub data IsConcluded (result : Result Bool Error) (written out' err err' : Outpu
       → IsEnded (Ok tt) written out' err told ended → GetsUnlessFailed told err' message → status ≡ 1
       → IsConcluded result written out' err err' status
 
+-- What an image says of its database was written, or cut short.
+pub record IsImageShown (out out' : OutputState) (result : Result Bool Error) : Type 0 where
+  pub text : List ℕ
+  pub writes : Writes text out out' (done_of result)
+
+-- What `id` does with an image: what it says of its database was written; or it names none, or can't be read, which is
+-- reported, and nothing is written.
+pub data IsImageDone (out out' err err' : OutputState) (status : ℕ) : Type 0 where
+  shown : (written : OutputState) (result : Result Bool Error) → IsImageShown out written result
+      → IsConcluded result written out' err err' status
+      → IsImageDone out out' err err' status
+  nameless : (message : List ℕ) → out' ≡ out → GetsUnlessFailed err err' message → status ≡ 1
+      → IsImageDone out out' err err' status
+  unread : (fault : Error) → out' ≡ out → IsFaultReported fault err err' status
+      → IsImageDone out out' err err' status
+
 -- What `id` does with a file: it reports that the file has another format, as its front says, or that it can't be read,
--- and writes no output; or it identifies the file, flushes the output, and ends.
+-- and writes no output; or it identifies the file, flushes the output, and ends; or the file is an image.
 pub data IsIdDone (expected : Option (List ℕ)) (file : State) (out out' err err' : OutputState) (status : ℕ)
     : Type 0 where
   other : (front message : List ℕ) → IsFront file front → format_of front ≢ Msf7 → out' ≡ out
@@ -61,6 +77,8 @@ pub data IsIdDone (expected : Option (List ℕ)) (file : State) (out out' err er
   identified : (front : List ℕ) (read : State) (written : OutputState) (result : Result Bool Error)
       → IsFront file front → format_of front ≡ Msf7 → IsKept file read
       → IsIdentified expected read out written result → IsConcluded result written out' err err' status
+      → IsIdDone expected file out out' err err' status
+  image : (front : List ℕ) → IsFront file front → format_of front ≡ Image → IsImageDone out out' err err' status
       → IsIdDone expected file out out' err err' status
   unread_front : (fault : Error) → out' ≡ out → IsFaultReported fault err err' status
       → IsIdDone expected file out out' err err' status

@@ -7,9 +7,13 @@ use Rattle.pdb_msf.specs.File.{stream_of}
 use Rattle.pdb_msf.specs.Header.{file_head}
 use Rattle.pdb_msf.specs.Source.{State}
 use Rattle.pdb_output.specs.Output.{OutputState}
-use Rattle.pdbdump_layouts.specs.Shown.{IsShowResult}
+use Rattle.pdbdump_types.specs.Shown.{IsShowResult}
 use Rattle.pdbdump_tables.specs.Reading.{Reads}
 use Rattle.pdbdump_cli.specs.Served.{IsEndedAs}
+
+-- the bytes of the stream of a file that has this number
+abbrev pub stream_bytes : ℕ → List ℕ → Answer (List ℕ)
+stream_bytes number file = file_head file >>= λ head. stream_of file head number None
 
 -- the bytes of the stream of types of a file
 abbrev pub type_bytes : List ℕ → Answer (List ℕ)

@@ -6,6 +6,8 @@ pub mod Identified
 pub mod InputFile
 pub mod LaidOut
 pub mod Listed
+pub mod Located
+pub mod Matched
 pub mod Questions
 pub mod Reported
 pub mod Requests

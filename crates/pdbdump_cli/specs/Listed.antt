@@ -1,5 +1,5 @@
 -- What a command reads and writes of a file.
-use Rattle.std.specs.Prelude.{◌≡◌, ℕ, List, Option, Some, None, Result, Ok, Err, unwrap_or}
+use Rattle.std.specs.Prelude.{◌≡◌, ⊤, ℕ, List, Option, Some, None, Result, Ok, Err, unwrap_or}
 use Rattle.pdb_base.specs.declared.error.Error.{Error}
 use Rattle.pdb_file.specs.File.{file_frame_table, id_stream, type_stream}
 use Rattle.pdb_msf.specs.File.{stream_of}
@@ -7,12 +7,14 @@ use Rattle.pdb_msf.specs.Header.{Head, file_head}
 use Rattle.pdb_msf.specs.Source.{State, IsKept}
 use Rattle.pdb_output.specs.Output.{OutputState, Writes}
 use Rattle.pdbdump_rows.specs.declared.form.Form.{Form}
+use Rattle.pdbdump_rows.specs.declared.form.Form.TheVariants.{Text}
+use Rattle.pdbdump_rows.specs.Line.{WritesWhat}
 use Rattle.pdbdump_rows.specs.Rows.{WritesLines}
 use Rattle.pdbdump_tables.specs.Extracted.{part_of}
 use Rattle.pdbdump_tables.specs.Files.{IsOmapListed, frame_table_in, names_in, section_stream, stream_listing}
 use Rattle.pdbdump_tables.specs.Given.{map_in}
 use Rattle.pdbdump_tables.specs.Listed.{IsShown, IsTableListed}
-use Rattle.pdbdump_tables.specs.Listing.{IsListed, whole}
+use Rattle.pdbdump_tables.specs.Listing.{IsListed, ListsLines, whole}
 use Rattle.pdbdump_tables.specs.Reading.{Reads, WritesRead}
 use Rattle.pdbdump_tables.specs.Records.{id_shown_in, type_shown_in}
 use Rattle.pdbdump_tables.specs.Tables.{all_names, frames_listing, name_rows, sections_listing}
@@ -51,10 +53,13 @@ DoesIn form commands.Frames file head = WritesRead (Reads file (λ bytes. file_f
     (λ frames. IsListed form (frames_listing frames))
 DoesIn form (commands.FramesIn old new) file head = WritesRead (Reads file (λ bytes. frame_table_in bytes head old new))
     (λ frames. IsListed form (frames_listing frames))
-DoesIn form (commands.Map address streams) file head = WritesRead (Reads file (λ bytes. map_in bytes head streams))
+DoesIn form commands.BreakpadFrames file head = ListsLines Text
+DoesIn form (commands.Map addresses streams) file head = WritesRead (Reads file (λ bytes. map_in bytes head streams))
     (λ map. WritesLines form)
 DoesIn form (commands.Extract asked) file head = WritesRead (Reads file (λ bytes. stream_extracted bytes head asked))
     (λ stream. Writes (part_of asked.skip asked.limit stream))
+DoesIn form (commands.Dump asked) file head = WritesRead (Reads file (λ bytes. stream_extracted bytes head asked))
+    (λ stream. WritesWhat (λ text. ⊤))
 
 -- What a command does with a file; or the header is refused, or can't be read, and nothing is written.
 pub data Does (form : Form) (command : Command) (file : State) (out out' : OutputState)

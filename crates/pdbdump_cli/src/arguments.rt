@@ -2,7 +2,7 @@
 
 use crate::commands::{
     ABOUT, ASK, Count, DECLARE, DETAILS, DIFF, Description, EXTRACT, FRAMES, Flag, ID, IDS, LAYOUT,
-    MAP, NAMES, OMAP, Operand, SECTIONS, SUMMARY, TYPES, VALIDATE, Value,
+    MAP, MATCH, NAMES, OMAP, Operand, SECTIONS, SUMMARY, TYPES, VALIDATE, Value, WHERE,
 };
 use clap::{Arg, ArgAction, ArgMatches, Command, Error};
 use std::alloc::{AllocError, Global};
@@ -10,13 +10,29 @@ use std::alloc::{AllocError, Global};
 /// The version of the program.
 const VERSION: &str = "0.1.0";
 
+/// Returns the letter of an option that also has a short form.
+fn letter_of(name: &str) -> Option<char> {
+    match name {
+        "ignore-case" => Some('i'),
+        _ => None,
+    }
+}
+
 /// Returns the argument of an option.
 fn flag_argument<'a>(alloc: Global, flag: &Flag) -> Arg<'a> {
-    let argument = Arg::new(alloc, flag.name).long(flag.name).help(flag.help);
+    let mut argument = Arg::new(alloc, flag.name).long(flag.name).help(flag.help);
+    if let Some(letter) = letter_of(flag.name) {
+        argument = argument.short(letter);
+    }
     match flag.value {
         Value::Nothing => argument.action(ArgAction::SetTrue),
         Value::Text(value) | Value::Number(value) => argument.value_name(value),
         Value::OneOf(value, words) => argument.value_name(value).value_parser(words),
+        Value::SomeOf(value, words) => argument
+            .value_name(value)
+            .value_parser(words)
+            .hide_possible_values(true)
+            .action(ArgAction::Append),
     }
 }
 
@@ -83,7 +99,9 @@ fn with_addresses<'a>(alloc: Global, program: Command<'a>) -> Result<Command<'a>
 fn with_files<'a>(alloc: Global, program: Command<'a>) -> Result<Command<'a>, AllocError> {
     let program = with(alloc, program, &ASK)?;
     let program = with(alloc, program, &ID)?;
+    let program = with(alloc, program, &MATCH)?;
     let program = with(alloc, program, &EXTRACT)?;
+    let program = with(alloc, program, &WHERE)?;
     with(alloc, program, &VALIDATE)
 }
 

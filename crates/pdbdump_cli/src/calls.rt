@@ -1,15 +1,17 @@
 //! Calls: what the arguments of the program request.
 
+use crate::addressed::{Places, wrong_address};
 use crate::command::{
     Command, Declarations, Diff, Extract, Identify, Layouts, Request, ValidateOptions,
 };
+use crate::selection_calls::{beside_breakpad, selecting};
 use clap::ArgMatches;
 use pdb_cli::number;
 use pdb_consistency::Extent;
 use pdbdump_declarations::{Language, Options as DeclareOptions};
-use pdbdump_layouts::{Options, Order, Style};
+use pdbdump_layouts::{LetterCase, Options, Order, Style};
 use pdbdump_rows::Form;
-use pdbdump_tables::{KeyStyle, MapStreams};
+use pdbdump_tables::{AskedAddress, KeyStyle, MapStreams};
 use std::alloc::{AllocError, Global};
 use std::path::Path;
 
@@ -27,12 +29,15 @@ pub enum Misuse<'w> {
     },
     /// Two inputs would be read from standard input.
     InputTwice,
+    /// An option or an operand of this name is given with an option that it can't be used with.
+    Beside(&'static str, &'static str),
 }
 
 /// The options whose values are numbers, and what help calls these.
-const NUMBERS: [(&str, &str); 11] = [
+const NUMBERS: [(&str, &str); 13] = [
     ("stream", "S"),
     ("index", "I"),
+    ("uses", "I"),
     ("old", "S"),
     ("new", "S"),
     ("sections", "S"),
@@ -42,6 +47,7 @@ const NUMBERS: [(&str, &str); 11] = [
     ("skip", "N"),
     ("take", "N"),
     ("expand", "N"),
+    ("cacheline", "N"),
 ];
 
 /// Returns whether a command has this name.
@@ -63,6 +69,8 @@ fn is_command(name: &str) -> bool {
             | "layout"
             | "diff"
             | "declare"
+            | "match"
+            | "where"
             | "help"
     )
 }
@@ -111,14 +119,7 @@ fn wrong_number<'w>(matches: &ArgMatches<'w>) -> Option<Misuse<'w>> {
             }
         }
     }
-    match matches.get_str("RVA") {
-        Some(text) if number(text).is_none() => Some(Misuse::NoNumber {
-            text,
-            option: None,
-            name: "RVA",
-        }),
-        _ => None,
-    }
+    wrong_address(matches)
 }
 
 /// Returns the form of the output that a call requests.
@@ -131,7 +132,10 @@ pub fn form_of(matches: &ArgMatches<'_>) -> Form {
 }
 
 /// Returns what `frames` lists.
-fn frames<'w>(matches: &ArgMatches<'w>) -> Command<'w> {
+fn frames<'m, 'w>(matches: &ArgMatches<'w>) -> Command<'m, 'w> {
+    if matches.get_flag("breakpad") {
+        return Command::BreakpadFrames;
+    }
     match (number_of(matches, "old"), number_of(matches, "new")) {
         (None, None) => Command::Frames,
         (old, new) => Command::FramesIn { old, new },
@@ -139,9 +143,9 @@ fn frames<'w>(matches: &ArgMatches<'w>) -> Command<'w> {
 }
 
 /// Returns what `map` translates.
-fn map<'w>(matches: &ArgMatches<'w>) -> Command<'w> {
+fn map<'m, 'w>(matches: &ArgMatches<'w>, addresses: &'m [AskedAddress<'w>]) -> Command<'m, 'w> {
     Command::Map {
-        address: number_of(matches, "RVA").unwrap_or(0),
+        addresses,
         streams: MapStreams {
             sections: number_of(matches, "sections"),
             transformed: number_of(matches, "transformed"),
@@ -152,16 +156,21 @@ fn map<'w>(matches: &ArgMatches<'w>) -> Command<'w> {
 }
 
 /// Returns what `extract` writes.
-fn extract<'w>(matches: &ArgMatches<'w>) -> Command<'w> {
-    Command::Extract(Extract {
+fn extract<'m, 'w>(matches: &ArgMatches<'w>) -> Command<'m, 'w> {
+    let asked = Extract {
         stream: text_of(matches, "STREAM"),
         skip: number_of(matches, "skip").unwrap_or(0),
         limit: number_of(matches, "take"),
-    })
+    };
+    if matches.get_flag("hex") {
+        Command::Dump(asked)
+    } else {
+        Command::Extract(asked)
+    }
 }
 
 /// Returns what a command lists of a table, or of the whole file.
-fn table<'w>(name: &str, stream: Option<u32>, index: Option<u32>) -> Command<'w> {
+fn table<'m, 'w>(name: &str, stream: Option<u32>, index: Option<u32>) -> Command<'m, 'w> {
     match name {
         "types" => Command::Types { stream, index },
         "ids" => Command::Ids { stream, index },
@@ -173,10 +182,9 @@ fn table<'w>(name: &str, stream: Option<u32>, index: Option<u32>) -> Command<'w>
 }
 
 /// Returns what a command lists.
-fn listing<'w>(name: &str, matches: &ArgMatches<'w>) -> Command<'w> {
+fn listing<'m, 'w>(name: &str, matches: &ArgMatches<'w>) -> Command<'m, 'w> {
     match name {
         "frames" => return frames(matches),
-        "map" => return map(matches),
         "extract" => return extract(matches),
         _ => {}
     }
@@ -201,6 +209,7 @@ fn identify<'w>(matches: &ArgMatches<'w>, path: &'w str) -> Identify<'w> {
     Identify {
         style,
         name: matches.get_str("name").unwrap_or(file_name(path)),
+        given_name: matches.get_str("name"),
         expected: matches.get_str("expect"),
     }
 }
@@ -238,6 +247,13 @@ fn layouts<'m, 'w>(matches: &ArgMatches<'w>, names: &'m [&'w str]) -> Layouts<'m
             has_holes: matches.get_flag("holes"),
             depth: number_of(matches, "expand").unwrap_or(0),
             all: matches.get_flag("all"),
+            case: if matches.get_flag("ignore-case") {
+                LetterCase::Ignored
+            } else {
+                LetterCase::Exact
+            },
+            has_all_members: matches.get_flag("all-members"),
+            line_size: number_of(matches, "cacheline"),
         },
     }
 }
@@ -267,7 +283,20 @@ pub fn diff_of<'m, 'w>(matches: &ArgMatches<'w>, names: &'m [&'w str]) -> Diff<'
     }
 }
 
-/// Returns what a command requests of the file at a path, and of the types with these names.
+/// Returns what `map` or `where` requests of a file about these places.
+pub(crate) fn place_request<'m, 'w>(
+    name: &str,
+    matches: &ArgMatches<'w>,
+    places: &'m Places<'w>,
+) -> Request<'m, 'w> {
+    if name == "where" {
+        Request::Locate(&places.offsets)
+    } else {
+        Request::List(map(matches, &places.addresses))
+    }
+}
+
+/// Returns what another command requests of the file at a path, or of the types with these names.
 pub fn request_of<'m, 'w>(
     name: &str,
     matches: &ArgMatches<'w>,
@@ -287,7 +316,7 @@ pub fn request_of<'m, 'w>(
 fn standard_inputs(name: &str, matches: &ArgMatches<'_>) -> usize {
     let questions: usize = if name == "ask" { 1 } else { 0 };
     let mut count = questions;
-    for id in ["FILE", "OLD", "NEW"] {
+    for id in ["FILE", "OLD", "NEW", "IMAGE"] {
         let paths = matches.get_strs(id).unwrap_or(&[]);
         let inputs = paths.iter().filter(|path| **path == "-");
         count = count.saturating_add(inputs.count());
@@ -295,11 +324,24 @@ fn standard_inputs(name: &str, matches: &ArgMatches<'_>) -> usize {
     count
 }
 
+/// Returns an option that is given, and what is given that it can't be used with.
+fn beside(name: &str, matches: &ArgMatches<'_>) -> Option<(&'static str, &'static str)> {
+    match name {
+        "types" | "ids" => {
+            matches.get_str("index")?;
+            Some(("index", selecting(matches)?))
+        }
+        "frames" => Some(("breakpad", beside_breakpad(matches)?)),
+        _ => None,
+    }
+}
+
 /// Checks what the description of a command doesn't say of its arguments.
 ///
 /// # Errors
-/// Fails with `NoNumber` if an argument that has to be a number isn't one, and with `InputTwice` if
-/// two inputs would be read from standard input.
+/// Fails with `NoNumber` if an argument that has to be a number isn't one, with `InputTwice` if two
+/// inputs would be read from standard input, and with `Beside` if an option is given with what it
+/// can't be used with.
 pub fn check_call<'w>(name: &str, matches: &ArgMatches<'w>) -> Result<(), Misuse<'w>> {
     if let Some(misuse) = wrong_number(matches) {
         return Err(misuse);
@@ -307,5 +349,8 @@ pub fn check_call<'w>(name: &str, matches: &ArgMatches<'w>) -> Result<(), Misuse
     if standard_inputs(name, matches) > 1 {
         return Err(Misuse::InputTwice);
     }
-    Ok(())
+    match beside(name, matches) {
+        Some((option, other)) => Err(Misuse::Beside(option, other)),
+        None => Ok(()),
+    }
 }

@@ -1,13 +1,14 @@
 //! The commands of the program and their arguments.
 
 use pdb_consistency::Extent;
+use pdb_identity::CodeView;
 use pdbdump_declarations::Options as DeclareOptions;
 use pdbdump_layouts::Options;
-use pdbdump_tables::{KeyStyle, MapStreams};
+use pdbdump_tables::{AskedAddress, KeyStyle, MapStreams, Selection};
 
 /// What the program writes of a file that is opened. A stream that isn't given is found by its role.
 #[derive(Clone, Copy)]
-pub enum Command<'w> {
+pub enum Command<'m, 'w> {
     /// What the file is made of.
     Summary,
     /// Each type of a table in the stream, or in stream 2; or only the one of an index.
@@ -48,15 +49,19 @@ pub enum Command<'w> {
         /// The number of the stream of records of the newer format.
         new: Option<u32>,
     },
-    /// What an address map makes of an address.
+    /// Each frame of the file's own streams, as a line of a symbol file of Breakpad.
+    BreakpadFrames,
+    /// What an address map makes of addresses.
     Map {
-        /// The address.
-        address: u32,
+        /// The addresses.
+        addresses: &'m [AskedAddress<'w>],
         /// The streams of the map, or none of them for the file's own map.
         streams: MapStreams,
     },
     /// A part of the bytes of a stream.
     Extract(Extract<'w>),
+    /// A part of the bytes of a stream, as a hex dump.
+    Dump(Extract<'w>),
 }
 
 /// The arguments of `extract`, which writes a part of the bytes of a stream.
@@ -70,6 +75,26 @@ pub struct Extract<'w> {
     pub limit: Option<u32>,
 }
 
+/// A table of records with indexes.
+#[derive(Clone, Copy)]
+pub enum Table {
+    /// That of types.
+    Types,
+    /// That of ids.
+    Ids,
+}
+
+/// The arguments of `types` or `ids`, which list some records of a table.
+#[derive(Clone, Copy)]
+pub struct Selected<'m, 'w> {
+    /// The table.
+    pub table: Table,
+    /// The number of its stream.
+    pub number: u32,
+    /// Which records are listed.
+    pub selection: Selection<'m, 'w>,
+}
+
 /// The arguments of `id`, which prints the identity of a file.
 #[derive(Clone, Copy)]
 pub struct Identify<'w> {
@@ -77,6 +102,8 @@ pub struct Identify<'w> {
     pub style: KeyStyle,
     /// The name of the file.
     pub name: &'w str,
+    /// The name that is given, which an image's database is told under too.
+    pub given_name: Option<&'w str>,
     /// The key that the file should have.
     pub expected: Option<&'w str>,
 }
@@ -99,6 +126,17 @@ pub struct Layouts<'m, 'w> {
     pub names: &'m [&'w str],
     /// Which layouts are shown, and how.
     pub options: Options,
+}
+
+/// An image and a file, for `match`.
+#[derive(Clone, Copy)]
+pub struct Matching<'m, 'w> {
+    /// The path of the image, or `-` for standard input.
+    pub image_path: &'w str,
+    /// What the image says of its database.
+    pub image: &'m CodeView,
+    /// The path of the file, or `-` for standard input.
+    pub path: &'w str,
 }
 
 /// The arguments of `diff`, which compares the types of two files.
@@ -127,7 +165,9 @@ pub struct Declarations<'m, 'w> {
 #[derive(Clone, Copy)]
 pub enum Request<'m, 'w> {
     /// What a command writes.
-    List(Command<'w>),
+    List(Command<'m, 'w>),
+    /// Some records of a table.
+    Select(Selected<'m, 'w>),
     /// What identifies the file.
     Identify(Identify<'w>),
     /// What is found wrong in the file, and its path.
@@ -136,4 +176,8 @@ pub enum Request<'m, 'w> {
     Layout(Layouts<'m, 'w>),
     /// A header of its types.
     Declare(Declarations<'m, 'w>),
+    /// Whether it is the database that an image names.
+    Match(Matching<'m, 'w>),
+    /// What the bytes with these offsets belong to.
+    Locate(&'m [u32]),
 }

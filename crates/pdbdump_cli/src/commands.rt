@@ -1,6 +1,8 @@
 //! The commands of the program, with their options and operands. Calls are parsed by this
 //! description, and the texts of `--help` are written from it.
 
+use crate::kind_names::{ID_KINDS, TYPE_KINDS};
+
 /// What follows the name of an option.
 #[derive(Clone, Copy)]
 pub(crate) enum Value {
@@ -12,6 +14,8 @@ pub(crate) enum Value {
     Number(&'static str),
     /// One of these words.
     OneOf(&'static str, &'static [&'static str]),
+    /// One of these words, each time that the option is given.
+    SomeOf(&'static str, &'static [&'static str]),
 }
 
 /// An option of a command.
@@ -115,6 +119,8 @@ const INDEX: Flag = flag!(
     "Show only the record of this index, in full"
 );
 
+const IGNORE_CASE: Flag = flag!("ignore-case", "Ignore the case of ASCII letters in a NAME");
+
 const FILE: Operand = operand!(
     "FILE",
     Count::One,
@@ -145,9 +151,30 @@ pub(crate) const TYPES: Description = Description {
     about: "List the types",
     details: "\
 Each type of the table, which is in stream 2 by default: its index, its kind and its name, and what it is made of.
-With --index a line for each field, and the fields of its list.",
-    flags: &[STREAM, INDEX, JSON],
-    operands: &[FILE],
+With --index a line for each field, and the fields of its list. With a NAME, an option or several of them only the
+types of which all holds. A kind is that of a record, such as LF_ENUM, and --kind may be given several times.
+The exit status is 1 if no type has a NAME.",
+    flags: &[
+        STREAM,
+        INDEX,
+        flag!(
+            "kind",
+            Value::SomeOf("KIND", TYPE_KINDS),
+            "Show only types of this kind"
+        ),
+        flag!("no-forward", "Leave out forward references"),
+        flag!(
+            "uses",
+            Value::Number("I"),
+            "Show only types that refer to the type of this index"
+        ),
+        IGNORE_CASE,
+        JSON,
+    ],
+    operands: &[
+        FILE,
+        operand!("NAME", Count::Any, "The names of types, with * and ?"),
+    ],
 };
 
 /// `ids`.
@@ -156,9 +183,24 @@ pub(crate) const IDS: Description = Description {
     about: "List the ids: functions, source files and the like",
     details: "\
 Each id of the table, which is in stream 4 by default: its index, its kind and its name, and what it refers to.
-With --index a line for each field.",
-    flags: &[STREAM, INDEX, JSON],
-    operands: &[FILE],
+With --index a line for each field. With a NAME, an option or several of them only the ids of which all holds. A kind
+is that of a record, such as LF_FUNC_ID, and --kind may be given several times.
+The exit status is 1 if no id has a NAME.",
+    flags: &[
+        STREAM,
+        INDEX,
+        flag!(
+            "kind",
+            Value::SomeOf("KIND", ID_KINDS),
+            "Show only ids of this kind"
+        ),
+        IGNORE_CASE,
+        JSON,
+    ],
+    operands: &[
+        FILE,
+        operand!("NAME", Count::Any, "The names of ids, with * and ?"),
+    ],
 };
 
 /// `names`.
@@ -197,7 +239,9 @@ pub(crate) const FRAMES: Description = Description {
     name: "frames",
     about: "List the stack frames",
     details: "\
-Each frame, ordered by its start, of the file's own streams. With --old or --new each frame of these streams alone.",
+Each frame, ordered by its start, of the file's own streams. With --old or --new each frame of these streams alone.
+The program of a frame is shown by its text in the string table. With --breakpad a line STACK WIN of a symbol file of
+Breakpad for each frame of the file's own streams, with its address in the image as it is loaded.",
     flags: &[
         flag!(
             "old",
@@ -209,6 +253,7 @@ Each frame, ordered by its start, of the file's own streams. With --old or --new
             Value::Number("S"),
             "The stream of records of the newer format"
         ),
+        flag!("breakpad", "Write lines of a symbol file of Breakpad"),
         JSON,
     ],
     operands: &[FILE],
@@ -217,12 +262,13 @@ Each frame, ordered by its start, of the file's own streams. With --old or --new
 /// `map`.
 pub(crate) const MAP: Description = Description {
     name: "map",
-    about: "Translate an address by the address map",
+    about: "Translate addresses by the address map",
     details: "\
 A line for each conversion, whether it finds anything or not: RVA as an address of the image as it is loaded, its
 place in a section there, the address in the original image from which it was moved, and the place of that; and then
-the same of RVA as an address of the original image. With an option the map is made of the given streams in place of
-the file's own.",
+the same of RVA as an address of the original image. An address may also be a section and an offset in it, as 1:0x20; of
+several, each line says which it is about. With an option the map is made of the given streams in place of the file's
+own.",
     flags: &[
         flag!(
             "sections",
@@ -246,7 +292,14 @@ the file's own.",
         ),
         JSON,
     ],
-    operands: &[FILE, operand!("RVA", Count::One, "The address")],
+    operands: &[
+        FILE,
+        operand!(
+            "RVA",
+            Count::Some,
+            "An address, or a section and an offset: 0x1008, 1:0x8"
+        ),
+    ],
 };
 
 /// `ask`.
@@ -270,7 +323,8 @@ pub(crate) const ID: Description = Description {
 The path of each file in a symbol store, NAME/KEY/NAME. The key is the GUID of the file and its age: that of the debug
 information, or that of stream 1 if the file has none. Formats: `key` is that path, `ssqp` the same in lower case,
 `breakpad` the line that a symbol file of Breakpad begins with, and `guid` the GUID alone, with hyphens. With --json
-all numbers by which the file is known and its features. A file of another format is refused with the name of that.",
+all numbers by which the file is known and its features. Of a program or library (PE) it is the database that its debug
+directory names, by the last part of the path there. A file of another format is refused with the name of that.",
     flags: &[
         flag!(
             "format",
@@ -292,6 +346,25 @@ all numbers by which the file is known and its features. A file of another forma
     operands: &[FILES],
 };
 
+/// `match`.
+pub(crate) const MATCH: Description = Description {
+    name: "match",
+    about: "Check whether databases belong to a program or library",
+    details: "\
+A line for each file: that it belongs to the image, or the key of both. A database belongs to the image if its GUID and
+its age are those that the debug directory of the image names; the age is that of the key.
+The exit status is 0 if all files belong to the image.",
+    flags: &[JSON],
+    operands: &[
+        operand!(
+            "IMAGE",
+            Count::One,
+            "The path of the program or library (PE), or `-`"
+        ),
+        FILES,
+    ],
+};
+
 /// `extract`.
 pub(crate) const EXTRACT: Description = Description {
     name: "extract",
@@ -302,6 +375,7 @@ hashes), or by its name (/names, srcsrv).",
     flags: &[
         flag!("skip", Value::Number("N"), "Leave out the first N bytes"),
         flag!("take", Value::Number("N"), "Write at most N bytes"),
+        flag!("hex", "Write a hex dump, as xxd does"),
     ],
     operands: &[
         FILE,
@@ -310,6 +384,22 @@ hashes), or by its name (/names, srcsrv).",
             Count::One,
             "The number, role or name of the stream"
         ),
+    ],
+};
+
+/// `where`.
+pub(crate) const WHERE: Description = Description {
+    name: "where",
+    about: "Show which stream the bytes of a file belong to",
+    details: "\
+For each offset of a byte in the file a line with the number of its page, the stream that has the page, and the byte of
+that stream; the role says what a page is that no stream has: header, free_page_map, directory, directory_pages (where
+the directory is), or free. A byte behind the end of the stream in its last page is unused.
+Only the header and the directory are read.",
+    flags: &[JSON],
+    operands: &[
+        FILE,
+        operand!("OFFSET", Count::Some, "The offset of a byte in the file"),
     ],
 };
 
@@ -322,7 +412,7 @@ For each file a line that says whether it is whole, after a line for each part w
 it: whether it is an error or a warning, its code, what is wrong, the number of the stream, the index and the byte of
 the record, and the byte of the file. A file is whole if there is no error in any part that this program reads: the
 header, the directory, the sizes and the bytes of all streams, the names, the roles, each record of both tables of a
-kind that is read, the section headers, the OMAP tables and the frames.
+kind that is read, the section headers, the OMAP tables and the frames. Modules and symbols are not read.
 The exit status is 0 if all files are whole.",
     flags: &[
         flag!("all", "Show every finding of each part"),
@@ -338,10 +428,12 @@ pub(crate) const LAYOUT: Description = Description {
     name: "layout",
     about: "Show where the members of classes lie, and the holes between them",
     details: "\
-A NAME is that of a class or union, one with * and ?, the index of a type such as 0x1026, or a member of a class such as
-Derived.inner.tag, for which a line shows its offset, its size and its type. Styles: `c` is the declaration in C++, with
-places in comments, and `dt` that of the command dt of WinDbg. Orders: the largest first (size), the most bytes in holes
-first (holes), or by name. With --json an object for each class, with its rows.",
+A NAME is that of a class, a union or an enumeration, one with * and ?, the index of a type such as 0x1026, or a member
+of a class such as Derived.inner.next.tag or Derived.grid[1], for which a line shows its offset, its size and its type:
+also one of a base class, a base class itself, and one behind a pointer, with the offset from what that points to.
+Styles: `c` is the declaration in C++, with places in comments, and `dt` that of the command dt of WinDbg. Orders: the
+largest first (size), the most bytes in holes first (holes), or by name. Bytes behind the last member are padding, and
+no hole. With --json an object for each type, with its rows.",
     flags: &[
         flag!(
             "style",
@@ -358,7 +450,17 @@ first (holes), or by name. With --json an object for each class, with its rows."
             Value::Number("N"),
             "Show the members of classes within the class, N deep"
         ),
+        flag!(
+            "cacheline",
+            Value::Number("N"),
+            "Mark where each N bytes end, in style c"
+        ),
         flag!("holes", "Show only classes with a hole"),
+        flag!(
+            "all-members",
+            "Show methods, static members and nested types too"
+        ),
+        flag!("ignore-case", "Ignore the case of letters in names"),
         flag!("all", "Show all classes of the file"),
         JSON,
     ],
@@ -367,7 +469,7 @@ first (holes), or by name. With --json an object for each class, with its rows."
         operand!(
             "NAME",
             Count::UnlessAll,
-            "The name of a class, or the path of a member"
+            "The name of a type, or the path of a member"
         ),
     ],
 };

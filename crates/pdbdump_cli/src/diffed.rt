@@ -9,10 +9,9 @@ use pdb_base::Stream;
 use pdb_cli::tell;
 use pdb_container::{Error, Result};
 use pdb_output::Output;
-use pdbdump_layouts::{
-    ComparedTable, DiffOptions, Outcome, escape_text, learn_table, show_differences,
-};
+use pdbdump_differences::{ComparedTable, DiffOptions, Outcome, show_differences};
 use pdbdump_rows::Form;
+use pdbdump_types::{escape_text, learn_table};
 use std::alloc::Global;
 use std::io::Write;
 

@@ -1,6 +1,8 @@
 //! What `extract` writes of a file.
+ghost use Rattle.std.specs.Prelude.{⊤};
 ghost use Rattle.pdb_msf.specs.File.{ReadsFile};
 ghost use Rattle.pdb_output.specs.Output.{Writes};
+ghost use Rattle.pdbdump_rows.specs.Line.{WritesWhat};
 ghost use Rattle.pdbdump_tables.specs.Extracted.{part_of};
 ghost use Rattle.pdbdump_tables.specs.Reading.{Reads, WritesRead};
 ghost use Rattle.pdbdump_cli.specs.Extracted.{number_meant, stream_extracted};
@@ -10,7 +12,7 @@ use pdb_base::Stream;
 use pdb_cli::number;
 use pdb_container::{Msf, PDB, Result, Source};
 use pdb_output::Output;
-use pdbdump_tables::{stream_meant, write_part};
+use pdbdump_tables::{stream_meant, write_dump, write_part};
 use std::alloc::Global;
 use std::io::Write;
 
@@ -53,4 +55,18 @@ pub(crate) fn extract_opened<S: Source + Drop, W: Write>(
 {
     let stream = stream_extracted(alloc, &mut file, asked)?;
     write_part(&stream, asked.skip, asked.limit, out)
+}
+
+/// Writes a part of the bytes of a stream of a file that was opened as a hex dump.
+pub(crate) fn dump_opened<S: Source + Drop, W: Write>(
+    alloc: Global,
+    mut file: PDB<S>,
+    asked: &Extract<'_>,
+    out: &mut Output<W>,
+) -> Result<()>
+    ensures { WritesRead (Reads (S.state file.source) (λ bytes. stream_extracted bytes file.head asked.now))
+        (λ stream. WritesWhat (λ text. ⊤)) out.old out.new result }
+{
+    let stream = stream_extracted(alloc, &mut file, asked)?;
+    write_dump(alloc, &stream, asked.skip, asked.limit, out)
 }

@@ -226,10 +226,10 @@ fn push_counts_if_any(alloc: Global, tally: Tally, out: &mut Vec<u8>) -> LineRes
     push_counts(alloc, tally, out)
 }
 
-/// Returns whether a file in which so much was found is whole, in words.
+/// Returns whether a file in which so much was found is whole, in words, and what of it is read.
 fn whole_text(tally: Tally) -> &'static str {
     if tally.errors == 0 {
-        return "whole";
+        return "whole (types, ids, names, sections, addresses, frames; modules and symbols are not read)";
     }
     "not whole"
 }

@@ -8,6 +8,7 @@ ghost use Rattle.pdbdump_cli.specs.Identified.{identity_in};
 ghost use Rattle.pdbdump_tables.specs.Reading.{Reads};
 
 use crate::command::Identify;
+use crate::image_identified::serve_image;
 use crate::input_file::InputFile;
 use crate::served::end;
 use pdb_cli::tell;
@@ -34,13 +35,13 @@ pub(crate) fn other_format(format: Format) -> Option<&'static str>
         Format::Msf2 => Some("a program database of the older format MSF 2.00, which is not read"),
         Format::Portable => Some("a portable program database of .NET, which is not read"),
         Format::Compressed => Some("a compressed file of a symbol server: expand it first"),
-        Format::Image => Some("a program or library (PE), and not its program database"),
+        Format::Image => Some("a program (PE), and not its program database"),
         Format::Unknown => Some("not a program database"),
     }
 }
 
 /// Reads what identifies a file.
-fn identity_in<S: Source + Drop>(alloc: Global, source: S) -> Result<Identity, Error>
+pub(crate) fn identity_in<S: Source + Drop>(alloc: Global, source: S) -> Result<Identity, Error>
     ensures { Reads (S.state source) identity_in result }
 {
     let mut file = PDB::open(alloc, source)?;
@@ -94,7 +95,7 @@ fn identify<S: Source + Drop, W: Write>(
 }
 
 /// Ends the program after a file was identified.
-fn conclude<O: Write, E: Write>(
+pub(crate) fn conclude<O: Write, E: Write>(
     alloc: Global,
     identified: Result<bool, Error>,
     out: &mut Output<O>,
@@ -113,9 +114,10 @@ fn conclude<O: Write, E: Write>(
     }
 }
 
-/// Writes to the output what identifies a file. Returns the status with which the program ends: 1
-/// if the file is of another format, or not the expected one, or after a fault of the file or of a
-/// channel, which is written to the error channel, unless it is that the output was closed.
+/// Writes to the output what identifies a file, or the database that an image names. Returns the
+/// status with which the program ends: 1 if the file is of another format, or not the expected one,
+/// or after a fault of the file or of a channel, which is written to the error channel, unless it is
+/// that the output was closed.
 pub(crate) fn serve_id<S: Source + Drop, O: Write, E: Write>(
     alloc: Global,
     mut file: InputFile<S>,
@@ -131,7 +133,11 @@ pub(crate) fn serve_id<S: Source + Drop, O: Write, E: Write>(
         Ok(front) => front,
         Err(fault) => return tell(alloc, &fault, err),
     };
-    if let Some(text) = other_format(Format::of(front.as_slice())) {
+    let format = Format::of(front.as_slice());
+    if let Format::Image = format {
+        return serve_image(alloc, file.source, asked, form, out, err);
+    }
+    if let Some(text) = other_format(format) {
         err.report(text.as_bytes());
         return 1;
     }

@@ -1,6 +1,6 @@
 //! What `layout` does with a file.
 
-ghost use Rattle.pdbdump_cli.specs.LaidOut.{AreLaidOut, type_bytes};
+ghost use Rattle.pdbdump_cli.specs.LaidOut.{AreLaidOut, stream_bytes, type_bytes};
 ghost use Rattle.pdbdump_tables.specs.Reading.{Reads};
 
 use crate::command::Layouts;
@@ -15,12 +15,19 @@ use pdbdump_tables::last_stream;
 use std::alloc::Global;
 use std::io::Write;
 
+/// Returns the stream of a file that has this number.
+pub(crate) fn stream_in<S: Source + Drop>(alloc: Global, source: S, number: u32) -> Result<Stream>
+    ensures { Reads (S.state source) (stream_bytes number) result }
+{
+    let file = PDB::open(alloc, source)?;
+    last_stream(alloc, file, number)
+}
+
 /// Returns the stream of types of a file.
 pub(crate) fn type_stream<S: Source + Drop>(alloc: Global, source: S) -> Result<Stream>
     ensures { Reads (S.state source) type_bytes result }
 {
-    let file = PDB::open(alloc, source)?;
-    last_stream(alloc, file, TYPE_STREAM)
+    stream_in(alloc, source, TYPE_STREAM)
 }
 
 /// Shows layouts of the classes of a file, and returns whether each name was found and no class has

@@ -2,6 +2,7 @@
 //! program database, and the answers to questions about one.
 #![tactic(auto)]
 
+mod addressed;
 mod answer;
 mod answers;
 mod arguments;
@@ -14,15 +15,21 @@ mod diffed;
 mod extracted;
 mod finding_lines;
 mod identified;
+mod image_identified;
 mod input_file;
+mod kind_names;
 mod laid_out;
 mod listed;
+mod located;
+mod matched;
 mod names;
 mod process;
 mod question;
 mod reports;
 mod request;
 mod seen;
+mod selected;
+mod selection_calls;
 mod served;
 mod validated;
 
@@ -31,7 +38,8 @@ pub use arguments::parse;
 pub use asking::serve_questions;
 pub use calls::{Misuse, check_call, diff_of, form_of, request_of, with_command};
 pub use command::{
-    Command, Declarations, Diff, Extract, Identify, Layouts, Request, ValidateOptions,
+    Command, Declarations, Diff, Extract, Identify, Layouts, Matching, Request, Selected, Table,
+    ValidateOptions,
 };
 pub use input_file::{FileBytes, InputFile};
 pub use listed::list;

@@ -8,15 +8,15 @@ ghost use Rattle.pdbdump_cli.specs.Listed.{AreIds, AreTypes, Does, DoesIn};
 ghost use Rattle.pdbdump_tables.specs.Reading.{Reads, WritesRead};
 
 use crate::command::Command;
-use crate::extracted::extract_opened;
+use crate::extracted::{dump_opened, extract_opened};
 use crate::input_file::InputFile;
 use pdb_container::{PDB, Result, Source};
 use pdb_file::{ID_STREAM, TYPE_STREAM};
 use pdb_output::Output;
 use pdbdump_rows::Form;
 use pdbdump_tables::{
-    id_at, ids, last_stream, list_frames, list_frames_in, list_map, list_names, list_omap,
-    list_sections, list_summary, type_at, types,
+    id_at, ids, last_stream, list_breakpad_frames, list_frames, list_frames_in, list_map,
+    list_names, list_omap, list_sections, list_summary, type_at, types,
 };
 use std::alloc::Global;
 use std::io::Write;
@@ -87,7 +87,7 @@ fn all_if_listed(listed: Result<()>) -> Result<bool>
 fn list_part<S: Source + Drop, W: Write>(
     alloc: Global,
     file: PDB<S>,
-    command: Command<'_>,
+    command: Command<'_, '_>,
     form: Form,
     out: &mut Output<W>,
 ) -> Result<()>
@@ -106,8 +106,10 @@ fn list_part<S: Source + Drop, W: Write>(
         Command::Omap { stream } => list_omap(alloc, file, stream, form, out),
         Command::Frames => list_frames(alloc, file, form, out),
         Command::FramesIn { old, new } => list_frames_in(alloc, file, old, new, form, out),
-        Command::Map { address, streams } => list_map(alloc, file, address, streams, form, out),
+        Command::BreakpadFrames => list_breakpad_frames(alloc, file, out),
+        Command::Map { addresses, streams } => list_map(alloc, file, addresses, streams, form, out),
         Command::Extract(asked) => extract_opened(alloc, file, &asked, out),
+        Command::Dump(asked) => dump_opened(alloc, file, &asked, out),
     }
 }
 
@@ -117,7 +119,7 @@ fn list_opened<S: Source + Drop, W: Write>(
     alloc: Global,
     file: PDB<S>,
     size: u64,
-    command: Command<'_>,
+    command: Command<'_, '_>,
     form: Form,
     out: &mut Output<W>,
 ) -> Result<bool>
@@ -140,7 +142,7 @@ fn list_opened<S: Source + Drop, W: Write>(
 pub fn list<S: Source + Drop, W: Write>(
     alloc: Global,
     file: InputFile<S>,
-    command: Command<'_>,
+    command: Command<'_, '_>,
     form: Form,
     out: &mut Output<W>,
 ) -> Result<bool>

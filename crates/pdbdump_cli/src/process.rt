@@ -1,20 +1,24 @@
 //! The program on the channels of its process.
 
+use crate::addressed::Places;
 use crate::arguments::parse;
 use crate::asking::serve_questions;
-use crate::calls::{Misuse, check_call, diff_of, form_of, request_of, with_command};
-use crate::command::{Diff, Request};
+use crate::calls::{Misuse, check_call, diff_of, form_of, place_request, request_of, with_command};
+use crate::command::{Diff, Matching, Request};
 use crate::diffed::serve_diff;
+use crate::image_identified::{image_in, image_text};
 use crate::input_file::{FileBytes, InputFile};
 use crate::laid_out::type_stream;
 use crate::reports::{Serving, Subject, error_line, report_lines, without_number};
 use crate::request::serve;
 use crate::seen::{FRONT_SIZE, Seen, Watched};
+use crate::selection_calls::{selected, selecting};
 use clap::ArgMatches;
 use clap::error::ErrorKind as ParseErrorKind;
 use pdb_base::Stream;
 use pdb_cli::{Errors, tell, texts_of, words_of};
 use pdb_container::{Error, FileSource, Result, Source, SourceView};
+use pdb_identity::CodeView;
 use pdb_msf::SeekFile;
 use pdb_output::Output;
 use pdbdump_rows::{Form, push_text};
@@ -124,6 +128,16 @@ fn misuse_text(alloc: Global, misuse: Misuse<'_>) -> Result<String> {
         Misuse::InputTwice => {
             return Ok(String::from_str(alloc, "standard input would be read twice")?);
         }
+        Misuse::Beside(option, "NAME") => {
+            return Ok(format!(in alloc;
+                "the argument '--{option}' cannot be used with '[NAME]...'"
+            )?);
+        }
+        Misuse::Beside(option, other) => {
+            return Ok(format!(in alloc;
+                "the argument '--{option}' cannot be used with '--{other}'"
+            )?);
+        }
     };
     let mut shown = Vec::new(alloc);
     push_text(Form::Text, text.as_bytes(), &mut shown)?;
@@ -192,6 +206,34 @@ fn open_file<P: Files + Input + AllocGlobal>(
     Ok(file)
 }
 
+/// Opens a file as `open_file` does, for a command that reads program databases: an image is
+/// refused, and it is seen which database it names.
+fn open_database<P: Files + Input + AllocGlobal>(
+    process: &P,
+    path: &str,
+    seen: &mut Seen,
+) -> Result<ProcessFile<P::File>> {
+    let file = open_file(process, path, seen)?;
+    if seen.is_image() {
+        seen.set_image_text(image_text(process.alloc(), file.source)?);
+        return Err(Error::UnrecognizedFileFormat);
+    }
+    Ok(file)
+}
+
+/// Opens a file for a request, of which one takes images too.
+fn open_for<P: Files + Input + AllocGlobal>(
+    process: &P,
+    path: &str,
+    request: &Request<'_, '_>,
+    seen: &mut Seen,
+) -> Result<ProcessFile<P::File>> {
+    match request {
+        Request::Identify(_) => open_file(process, path, seen),
+        _ => open_database(process, path, seen),
+    }
+}
+
 /// Serves a request for the file at a path, or for the one in standard input if the path is `-`, and
 /// reports errors with the name of the file. The status is not 0 if the file is shorter than its
 /// header says.
@@ -205,9 +247,9 @@ fn serve_file<P: Files + Input + Print + Eprint + AllocGlobal>(
     let buffer = BufWriter::with_capacity(alloc, BUFFER_SIZE, io::writer(process))?;
     let mut out = Output::new(buffer);
     let mut serving = Serving::new(alloc, Some(path), form);
-    let file = open_file(process, path, &mut serving.seen);
+    let file = open_for(process, path, request, &mut serving.seen);
     let status = serve(alloc, request, form, file, &mut out, &mut serving.reports);
-    if let Request::Validate(..) = request {
+    if matches!(request, Request::Validate(..)) && !serving.seen.is_image() {
         // What is wrong with the length is among the findings.
         serving.seen = Seen::nothing(alloc);
     }
@@ -231,7 +273,7 @@ fn answer_questions<P: Files + Input + Print + Eprint + AllocGlobal>(
     let mut out = Output::new(buffer);
     let mut serving = Serving::new(alloc, Some(path), form);
     let mut questions = process.reader();
-    let file = open_file(process, path, &mut serving.seen);
+    let file = open_database(process, path, &mut serving.seen);
     let reports = &mut serving.reports;
     let status = serve_questions(alloc, form, file, &mut questions, &mut out, reports);
     report(process, serving, out.has_failed());
@@ -245,7 +287,7 @@ fn types_at<P: Files + Input + AllocGlobal>(
     path: &str,
     seen: &mut Seen,
 ) -> Result<Stream> {
-    let file = open_file(process, path, seen)?;
+    let file = open_database(process, path, seen)?;
     type_stream(process.alloc(), file.source)
 }
 
@@ -288,7 +330,123 @@ fn compare_files<P: Files + Input + Print + Eprint + AllocGlobal>(
     Ok(status)
 }
 
-/// Does what a command with these arguments requests, and returns the highest status of its files.
+/// Returns what the image at a path, or in standard input if the path is `-`, says of its database,
+/// or reports why it names none.
+fn image_or_report<P: Files + Input + Eprint + AllocGlobal>(
+    process: &P,
+    path: &str,
+    form: Form,
+) -> Option<CodeView> {
+    let alloc = process.alloc();
+    let mut serving = Serving::new(alloc, Some(path), form);
+    let read = match open_file(process, path, &mut serving.seen) {
+        Ok(file) => image_in(alloc, file.source),
+        Err(fault) => Err(fault),
+    };
+    match read {
+        Ok(Ok(image)) => return Some(image),
+        Ok(Err(text)) => serving.reports.report(text.as_bytes()),
+        Err(fault) => {
+            tell(alloc, &fault, &mut serving.reports);
+        }
+    }
+    report(process, serving, false);
+    None
+}
+
+/// Compares files with what an image names, and returns the highest status of the files.
+fn match_files<P: Files + Input + Print + Eprint + AllocGlobal>(
+    process: &P,
+    matches: &ArgMatches<'_>,
+    form: Form,
+) -> Result<u8> {
+    let image_path = matches.get_str("IMAGE").unwrap_or("");
+    let Some(image) = image_or_report(process, image_path, form) else {
+        return Ok(FAILED);
+    };
+    let mut status = 0;
+    for path in matches.get_strs("FILE").unwrap_or(&[]) {
+        let request = Request::Match(Matching {
+            image_path,
+            image: &image,
+            path,
+        });
+        status = status.max(serve_file(process, path, &request, form)?);
+    }
+    Ok(status)
+}
+
+/// Compares the types of two files, and returns the status.
+fn compare<P: Files + Input + Print + Eprint + AllocGlobal>(
+    process: &P,
+    matches: &ArgMatches<'_>,
+    form: Form,
+) -> Result<u8> {
+    let names = matches.get_strs("NAME").unwrap_or(&[]);
+    compare_files(process, &diff_of(matches, names), form)
+}
+
+/// Serves a request for each file of a call, and returns the highest status of these.
+fn serve_request<P: Files + Input + Print + Eprint + AllocGlobal>(
+    process: &P,
+    matches: &ArgMatches<'_>,
+    request: &Request<'_, '_>,
+    form: Form,
+) -> Result<u8> {
+    let mut status = 0;
+    for path in matches.get_strs("FILE").unwrap_or(&[]) {
+        status = status.max(serve_file(process, path, request, form)?);
+    }
+    Ok(status)
+}
+
+/// Does what `map` or `where` requests, and returns the status.
+fn serve_places<P: Files + Input + Print + Eprint + AllocGlobal>(
+    process: &P,
+    name: &str,
+    matches: &ArgMatches<'_>,
+    form: Form,
+) -> Result<u8> {
+    let places = Places::of(process.alloc(), matches)?;
+    let request = place_request(name, matches, &places);
+    serve_request(process, matches, &request, form)
+}
+
+/// Does what `types` or `ids` requests that selects records, and returns the status.
+fn serve_selection<P: Files + Input + Print + Eprint + AllocGlobal>(
+    process: &P,
+    name: &str,
+    matches: &ArgMatches<'_>,
+    form: Form,
+) -> Result<u8> {
+    let names = matches.get_strs("NAME").unwrap_or(&[]);
+    let kinds = matches.get_strs("kind").unwrap_or(&[]);
+    let request = Request::Select(selected(name, matches, names, kinds));
+    serve_request(process, matches, &request, form)
+}
+
+/// Does what another command requests of each of its files, and returns the highest status of these.
+fn serve_files<P: Files + Input + Print + Eprint + AllocGlobal>(
+    process: &P,
+    name: &str,
+    matches: &ArgMatches<'_>,
+    form: Form,
+) -> Result<u8> {
+    let names = matches.get_strs("NAME").unwrap_or(&[]);
+    let mut status = 0;
+    for path in matches.get_strs("FILE").unwrap_or(&[]) {
+        let ended = if name == "ask" {
+            answer_questions(process, path, form)?
+        } else {
+            let request = request_of(name, matches, path, names);
+            serve_file(process, path, &request, form)?
+        };
+        status = status.max(ended);
+    }
+    Ok(status)
+}
+
+/// Does what a command with these arguments requests, and returns the status.
 fn run_command<P: Files + Input + Print + Eprint + AllocGlobal>(
     process: &P,
     name: &str,
@@ -298,20 +456,15 @@ fn run_command<P: Files + Input + Print + Eprint + AllocGlobal>(
         return report_misuse(process, misuse);
     }
     let form = form_of(matches);
-    let names = matches.get_strs("NAME").unwrap_or(&[]);
-    if name == "diff" {
-        return compare_files(process, &diff_of(matches, names), form);
+    match name {
+        "diff" => compare(process, matches, form),
+        "match" => match_files(process, matches, form),
+        "map" | "where" => serve_places(process, name, matches, form),
+        "types" | "ids" if selecting(matches).is_some() => {
+            serve_selection(process, name, matches, form)
+        }
+        _ => serve_files(process, name, matches, form),
     }
-    let mut status = 0;
-    for path in matches.get_strs("FILE").unwrap_or(&[]) {
-        let ended = if name == "ask" {
-            answer_questions(process, path, form)?
-        } else {
-            serve_file(process, path, &request_of(name, matches, path, names), form)?
-        };
-        status = status.max(ended);
-    }
-    Ok(status)
 }
 
 /// Does what the arguments after the program's name request, and returns the exit status.

@@ -36,6 +36,9 @@ const ENDED: &[u8] = b"unexpected end of file";
 
 const NO_HEADER: &[u8] = b"UnrecognizedFileFormat";
 
+/// What is told of an image begins so.
+const IMAGE_FRONT: &[u8] = b"a program (PE)";
+
 /// Appends what a line about a file or a channel begins with: the program, and the name.
 #[tactic(auto, unfolding(crate::specs::Reported::named_front))]
 fn push_named(form: Form, name: &str, line: &mut Vec<u8>) -> Result<(), AllocError>
@@ -186,6 +189,18 @@ impl Reported<'_> {
         }
     }
 
+    /// Returns the line for an error of an image: which database it names, if that was read, or else
+    /// what was reported.
+    fn image_line(&self, alloc: Global, report: &[u8]) -> Result<Vec<u8>, AllocError> {
+        let text = self.seen.image_text().unwrap_or(report);
+        let code = if text.starts_with(IMAGE_FRONT) {
+            "format"
+        } else {
+            "content"
+        };
+        error_line(alloc, &self.subject, code, text)
+    }
+
     /// Returns the line for an error that was reported.
     fn line(&self, alloc: Global, report: &[u8]) -> Result<Vec<u8>, AllocError> {
         if let Some(cause) = report.strip_prefix(IO_ERROR_FRONT.as_bytes()) {
@@ -193,6 +208,9 @@ impl Reported<'_> {
         }
         if report == NO_MEMORY {
             return error_line(alloc, &self.subject, "memory", b"out of memory");
+        }
+        if self.seen.is_image() {
+            return self.image_line(alloc, report);
         }
         match self.other_format(report) {
             Some(format) => error_line(alloc, &self.subject, "format", format.as_bytes()),

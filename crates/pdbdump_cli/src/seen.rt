@@ -13,11 +13,13 @@ const PAGE_SIZE_AT: usize = 32;
 
 const PAGES_AT: usize = 40;
 
-/// The first bytes of a file, and its size as far as it was read.
+/// The first bytes of a file, its size as far as it was read, and of an image what is told of it by
+/// a command that reads program databases.
 #[derive(Drop)]
 pub(crate) struct Seen {
     front: Vec<u8>,
     size: u64,
+    image_text: Option<Vec<u8>>,
 }
 
 impl Seen {
@@ -26,6 +28,7 @@ impl Seen {
         Seen {
             front: Vec::new(alloc),
             size: 0,
+            image_text: None,
         }
     }
 
@@ -55,9 +58,24 @@ impl Seen {
         Format::of(&self.front)
     }
 
-    /// Returns whether the file is no program database, whatever follows.
+    /// Returns whether the file begins as an image.
+    pub(crate) fn is_image(&self) -> bool {
+        self.format() == Format::Image
+    }
+
+    /// Sets what is told of an image.
+    pub(crate) fn set_image_text(&mut self, text: Vec<u8>) {
+        self.image_text = Some(text);
+    }
+
+    /// Returns what is told of an image, if it was read.
+    pub(crate) fn image_text(&self) -> Option<&[u8]> {
+        self.image_text.as_deref()
+    }
+
+    /// Returns whether the file is neither a program database nor an image, whatever follows.
     fn is_other(&self) -> bool {
-        self.front.len() >= FRONT_SIZE && self.format() != Format::Msf7
+        self.front.len() >= FRONT_SIZE && self.format() != Format::Msf7 && !self.is_image()
     }
 
     /// Returns the size of the file.
@@ -89,8 +107,8 @@ impl Seen {
     }
 }
 
-/// An input, and what is seen of it. If it begins as no program database does, it ends behind the
-/// first bytes, so that an input without an end isn't read on.
+/// An input, and what is seen of it. If it begins as no program database or image does, it ends
+/// behind the first bytes, so that an input without an end isn't read on.
 #[derive(Drop)]
 pub(crate) struct Watched<R: Read> {
     input: R,

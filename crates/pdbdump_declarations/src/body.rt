@@ -1,13 +1,13 @@
 //! The body of the definition of a class.
 
 use crate::group::Group;
-use crate::memory::AllocResult;
 use crate::piece::{Piece, align_up};
 use crate::sketch::push_number;
+use pdbdump_types::TextBuffer;
 use std::alloc::Global;
 
 /// How far a line is indented.
-const WIDTH: usize = 4;
+const INDENT: &[u8] = b"    ";
 
 /// What is written of a class.
 #[derive(Drop)]
@@ -25,48 +25,50 @@ pub(crate) struct Body<'s> {
     pub(crate) at: u64,
 }
 
+/// Appends the spaces before a line that is so deep.
+fn push_indent(depth: usize, out: &mut TextBuffer) {
+    for _ in 0..depth {
+        out.push(INDENT);
+    }
+}
+
 /// Appends lines that are so deep.
-///
-/// # Errors
-/// Fails if an allocation fails.
-pub(crate) fn push_lines(depth: usize, lines: &[u8], out: &mut Vec<u8>) -> AllocResult<()> {
+fn push_lines(depth: usize, lines: &[u8], out: &mut TextBuffer) {
     for line in lines.split(|byte| *byte == b'\n') {
         if line.is_empty() {
             continue;
         }
-        for _ in 0..depth {
-            for _ in 0..WIDTH {
-                out.push(b' ')?;
-            }
-        }
-        out.extend_from_slice(line)?;
-        out.push(b'\n')?;
+        push_indent(depth, out);
+        out.push(line);
+        out.push(b"\n");
     }
-    Ok(())
 }
 
-/// Appends an array of bytes.
+/// Appends an array of bytes that is so deep. Its name has the place where it begins, and the number
+/// of the piece behind it, if there is one.
 fn push_padding(
     alloc: Global,
     depth: usize,
-    name: &[u8],
+    start: u64,
+    number: Option<usize>,
     width: u64,
-    out: &mut Vec<u8>,
-) -> AllocResult<()> {
-    let mut line = Vec::from_slice(alloc, b"unsigned char ")?;
-    line.extend_from_slice(name)?;
-    push_number(b"[", width, &mut line)?;
-    line.extend_from_slice(b"];")?;
-    push_lines(depth, &line, out)
+    out: &mut TextBuffer,
+) {
+    push_indent(depth, out);
+    out.push(b"unsigned char pad_0x");
+    out.push_hexadecimal(alloc, start);
+    if let Some(number) = number {
+        push_number(b"_", number as u64, out);
+    }
+    push_number(b"[", width, out);
+    out.push(b"];\n");
 }
 
 /// Appends an array of bytes for those of a class from a place up to another, if there are some.
-fn push_gap(alloc: Global, start: u64, end: u64, out: &mut Vec<u8>) -> AllocResult<()> {
-    if start >= end {
-        return Ok(());
+fn push_gap(alloc: Global, start: u64, end: u64, out: &mut TextBuffer) {
+    if start < end {
+        push_padding(alloc, 1, start, None, end - start, out);
     }
-    let name = format!(in alloc; "pad_0x{start:x}")?;
-    push_padding(alloc, 1, name.as_bytes(), end - start, out)
 }
 
 impl<'s> Body<'s> {
@@ -85,27 +87,27 @@ impl<'s> Body<'s> {
         pieces: &[Piece],
         first: usize,
         start: u64,
-        out: &mut Vec<u8>,
-    ) -> AllocResult<()> {
+        out: &mut TextBuffer,
+    ) {
         if let [piece] = pieces {
             if !piece.is_many && piece.start == start {
-                return push_lines(depth, &piece.text, out);
+                push_lines(depth, &piece.text, out);
+                return;
             }
         }
         let within = depth.saturating_add(1);
-        push_lines(depth, b"struct {", out)?;
+        push_lines(depth, b"struct {", out);
         let mut at = start;
         for (number, piece) in pieces.iter().enumerate() {
             if self.needs_padding(at, piece.start, piece.alignment) {
                 let number = first.saturating_add(number);
-                let name = format!(in alloc; "pad_0x{at:x}_{number}")?;
                 let width = piece.start.saturating_sub(at);
-                push_padding(alloc, within, name.as_bytes(), width, out)?;
+                push_padding(alloc, within, at, Some(number), width, out);
             }
-            push_lines(within, &piece.text, out)?;
+            push_lines(within, &piece.text, out);
             at = piece.end;
         }
-        push_lines(depth, b"};", out)
+        push_lines(depth, b"};", out);
     }
 
     /// Appends the alternatives of a union that begins at a place.
@@ -115,14 +117,14 @@ impl<'s> Body<'s> {
         depth: usize,
         pieces: &[Piece],
         start: u64,
-        out: &mut Vec<u8>,
-    ) -> AllocResult<()> {
+        out: &mut TextBuffer,
+    ) {
         let mut first: usize = 0;
         let mut end = start;
         for (number, piece) in pieces.iter().enumerate() {
             if piece.start < end {
                 if let Some(alternative) = pieces.get(first..number) {
-                    self.push_alternative(alloc, depth, alternative, first, start, out)?;
+                    self.push_alternative(alloc, depth, alternative, first, start, out);
                 }
                 first = number;
             }
@@ -130,47 +132,45 @@ impl<'s> Body<'s> {
         }
         match pieces.get(first..) {
             Some(last) if !last.is_empty() => {
-                self.push_alternative(alloc, depth, last, first, start, out)
+                self.push_alternative(alloc, depth, last, first, start, out);
             }
-            _ => Ok(()),
+            _ => {}
         }
     }
 
     /// Appends a group.
-    fn push_group(&self, alloc: Global, group: &Group, out: &mut Vec<u8>) -> AllocResult<()> {
+    fn push_group(&self, alloc: Global, group: &Group, out: &mut TextBuffer) {
         if self.needs_padding(self.at, group.start, group.alignment) {
-            push_gap(alloc, self.at, group.start, out)?;
+            push_gap(alloc, self.at, group.start, out);
         }
         let Some(pieces) = self.pieces.get(group.first..group.behind) else {
-            return Ok(());
+            return;
         };
         if let [piece] = pieces {
-            return push_lines(1, &piece.text, out);
+            push_lines(1, &piece.text, out);
+            return;
         }
-        push_lines(1, b"union {", out)?;
-        self.push_alternatives(alloc, 2, pieces, group.start, out)?;
-        push_lines(1, b"};", out)
+        push_lines(1, b"union {", out);
+        self.push_alternatives(alloc, 2, pieces, group.start, out);
+        push_lines(1, b"};", out);
     }
 
     /// Appends the groups from one on, and what is behind them up to the size of the class.
-    ///
-    /// # Errors
-    /// Fails if an allocation fails.
     pub(crate) fn push_groups(
         &mut self,
         alloc: Global,
         skip: usize,
         size: u64,
         alignment: u64,
-        out: &mut Vec<u8>,
-    ) -> AllocResult<()> {
+        out: &mut TextBuffer,
+    ) {
         for group in self.groups.iter().skip(skip) {
-            self.push_group(alloc, group, out)?;
+            self.push_group(alloc, group, out);
             self.at = group.laid_end(self.is_natural);
         }
         if self.is_natural && align_up(self.at, alignment) == size && self.at > 0 {
-            return Ok(());
+            return;
         }
-        push_gap(alloc, self.at, size, out)
+        push_gap(alloc, self.at, size, out);
     }
 }

@@ -1,6 +1,6 @@
 //! The definition of a class or a union.
 
-use crate::body::{Body, push_lines};
+use crate::body::Body;
 use crate::comment::push_quoted;
 use crate::context::{Context, Target};
 use crate::group::{Group, greatest_alignment, groups_of, is_natural};
@@ -12,6 +12,7 @@ use crate::sketch::{Sketch, Sketcher, push_number};
 use crate::table_walk::Word;
 use pdb_base::Result;
 use pdb_types::Layout;
+use pdbdump_types::TextBuffer;
 use std::alloc::Global;
 
 /// How a class is laid out in a header.
@@ -97,27 +98,22 @@ fn plan_of(
 }
 
 /// Appends the base classes behind the name of a class.
-fn push_bases(
-    context: &Context<'_, '_>,
-    sketch: &Sketch,
-    plan: &Plan,
-    out: &mut Vec<u8>,
-) -> AllocResult<()> {
+fn push_bases(context: &Context<'_, '_>, sketch: &Sketch, plan: &Plan, out: &mut TextBuffer) {
     let mut mark: &[u8] = b" : ";
     for piece in sketch.pieces.iter().take(plan.bases) {
         if let Some(base) = &piece.base {
-            out.extend_from_slice(mark)?;
-            out.extend_from_slice(base)?;
+            out.push(mark);
+            out.push(base);
             mark = b", ";
         }
     }
     let has_base = sketch.pieces.iter().any(|piece| piece.base.is_some());
     match sketch.empty_bases.as_slice() {
         [base] if !has_base && !context.is_c() => {
-            out.extend_from_slice(b" : ")?;
-            out.extend_from_slice(base)
+            out.push(b" : ");
+            out.push(base);
         }
-        _ => Ok(()),
+        _ => {}
     }
 }
 
@@ -129,8 +125,8 @@ fn push_body(
     sketch: &Sketch,
     plan: &Plan,
     size: u64,
-    out: &mut Vec<u8>,
-) -> AllocResult<()> {
+    out: &mut TextBuffer,
+) {
     let mut body = Body {
         pieces: &sketch.pieces,
         groups: &plan.groups,
@@ -138,61 +134,50 @@ fn push_body(
         at: 0,
     };
     if word == Word::Union {
-        body.push_alternatives(alloc, 1, &sketch.pieces, 0, out)?;
+        body.push_alternatives(alloc, 1, &sketch.pieces, 0, out);
         let end = plan.groups.first().map(|group| group.end).unwrap_or(0);
         if align_up(end, plan.alignment) < size {
-            push_number(b"    unsigned char pad_0x0[", size, out)?;
-            out.extend_from_slice(b"];\n")?;
+            push_number(b"    unsigned char pad_0x0[", size, out);
+            out.push(b"];\n");
         }
-        return Ok(());
+        return;
     }
     if sketch.pieces.is_empty() && size == 1 && !context.is_c() {
-        return Ok(());
+        return;
     }
     for group in plan.groups.iter().take(plan.bases) {
         body.at = group.end;
     }
-    body.push_groups(alloc, plan.bases, size, plan.alignment, out)
+    body.push_groups(alloc, plan.bases, size, plan.alignment, out);
 }
 
 /// Appends a comment with the name and the index of a type as the file has them.
-///
-/// # Errors
-/// Fails if an allocation fails.
-pub(crate) fn push_origin(
-    alloc: Global,
-    target: &Target<'_>,
-    out: &mut Vec<u8>,
-) -> AllocResult<()> {
-    let number = target.index.0;
-    let mark = format!(in alloc; "// 0x{number:x} ")?;
-    out.extend_from_slice(mark.as_bytes())?;
-    push_quoted(alloc, target.named.name.as_bytes(), out)?;
-    out.push(b'\n')?;
-    Ok(())
+pub(crate) fn push_origin(alloc: Global, target: &Target<'_>, out: &mut TextBuffer) {
+    out.push(b"// 0x");
+    out.push_hexadecimal(alloc, target.index.0 as u64);
+    out.push(b" ");
+    push_quoted(alloc, target.named.name.as_bytes(), out);
+    out.push(b"\n");
 }
 
 /// Appends the assertion of the size of a type.
-///
-/// # Errors
-/// Fails if an allocation fails.
 pub(crate) fn push_size(
     context: &Context<'_, '_>,
     target: &Target<'_>,
     size: u64,
-    out: &mut Vec<u8>,
-) -> AllocResult<()> {
+    out: &mut TextBuffer,
+) {
     let word = if context.is_c() {
         "_Static_assert(sizeof("
     } else {
         "static_assert(sizeof("
     };
-    out.extend_from_slice(word.as_bytes())?;
-    push_mention(context, target, false, out)?;
-    push_number(b") == ", size, out)?;
-    out.extend_from_slice(b", \"")?;
-    target.name.push_to(out)?;
-    out.extend_from_slice(b"\");\n")
+    out.push(word.as_bytes());
+    push_mention(context, target, false, out);
+    push_number(b") == ", size, out);
+    out.push(b", \"");
+    target.name.push_to(out);
+    out.push(b"\");\n");
 }
 
 /// Appends the definition of a class from what it is made of.
@@ -203,26 +188,25 @@ fn push_definition(
     sketch: &Sketch,
     plan: &Plan,
     size: u64,
-    out: &mut Vec<u8>,
-) -> AllocResult<()> {
+    out: &mut TextBuffer,
+) {
     if !plan.is_natural {
-        out.extend_from_slice(b"#pragma pack(push, 1)\n")?;
+        out.push(b"#pragma pack(push, 1)\n");
     }
-    push_mention(context, target, false, out)?;
-    push_bases(context, sketch, plan, out)?;
-    out.extend_from_slice(b" {\n")?;
-    push_lines(1, &sketch.notes, out)?;
+    push_mention(context, target, false, out);
+    push_bases(context, sketch, plan, out);
+    out.push(b" {\n");
+    out.push_text(&sketch.notes);
     for base in &sketch.empty_bases {
-        out.extend_from_slice(b"    // a base without members: ")?;
-        out.extend_from_slice(base)?;
-        out.push(b'\n')?;
+        out.push(b"    // a base without members: ");
+        out.push(base);
+        out.push(b"\n");
     }
-    push_body(alloc, context, target.named.word, sketch, plan, size, out)?;
-    out.extend_from_slice(b"};\n")?;
+    push_body(alloc, context, target.named.word, sketch, plan, size, out);
+    out.push(b"};\n");
     if !plan.is_natural {
-        out.extend_from_slice(b"#pragma pack(pop)\n")?;
+        out.push(b"#pragma pack(pop)\n");
     }
-    Ok(())
 }
 
 /// Returns the definition of a class or a union, with the declarations before it that it needs and
@@ -242,24 +226,25 @@ pub(crate) fn class_text<'t>(
         known,
         target,
         sketch: Sketch {
-            before: Vec::new(alloc),
-            notes: Vec::new(alloc),
+            before: TextBuffer::new(alloc),
+            notes: TextBuffer::new(alloc),
             pieces: Vec::new(alloc),
             empty_bases: Vec::new(alloc),
-            assertions: Vec::new(alloc),
+            assertions: TextBuffer::new(alloc),
         },
     };
     sketcher.add_fields(alloc, layout)?;
     let Sketcher { known, sketch, .. } = sketcher;
-    let mut text = Vec::from_slice(alloc, &sketch.before)?;
-    push_origin(alloc, target, &mut text)?;
+    let mut text = TextBuffer::new(alloc);
+    text.push_text(&sketch.before);
+    push_origin(alloc, target, &mut text);
     if layout.size == 0 || !target.name.scope.is_empty() {
         push_declaration(alloc, context, target, known, &mut text)?;
     }
     known.declare(target.index);
     if layout.size == 0 {
-        text.extend_from_slice(b"// It has no bytes, so there is no definition.\n\n")?;
-        return Ok(text);
+        text.push(b"// It has no bytes, so there is no definition.\n\n");
+        return Ok(text.finish()?);
     }
     let plan = plan_of(alloc, context, target.named.word, &sketch, layout.size)?;
     push_definition(
@@ -270,11 +255,11 @@ pub(crate) fn class_text<'t>(
         &plan,
         layout.size,
         &mut text,
-    )?;
-    push_size(context, target, layout.size, &mut text)?;
-    text.extend_from_slice(&sketch.assertions)?;
-    text.push(b'\n')?;
+    );
+    push_size(context, target, layout.size, &mut text);
+    text.push_text(&sketch.assertions);
+    text.push(b"\n");
     let is_empty = sketch.pieces.is_empty() && layout.size == 1;
     known.define(target.index, plan.alignment, is_empty);
-    Ok(text)
+    Ok(text.finish()?)
 }

@@ -2,47 +2,15 @@
 
 use crate::class_text::{push_origin, push_size};
 use crate::context::{Context, Target};
-use crate::integer::{constant, is_int};
+use crate::integer::{is_int, push_constant};
 use crate::known::Known;
 use crate::member_names::distinct_names;
 use crate::memory::AllocResult;
 use crate::mention::{push_declaration, underlying_text};
-use pdb_base::{RawString, Result, TypeIndex, Variant};
-use pdb_types::enumerator_value;
-use pdb_values::{EnumerationType, TypeData};
+use pdb_base::Result;
+use pdb_values::EnumerationType;
+use pdbdump_types::{Enumerator, TextBuffer, enumerators_of};
 use std::alloc::Global;
-
-/// An enumerator.
-#[derive(Clone, Copy)]
-struct Enumerator<'t> {
-    name: RawString<'t>,
-    value: Variant,
-}
-
-/// Returns the enumerators of an enumeration.
-fn enumerators_of<'t>(
-    alloc: Global,
-    context: &Context<'_, 't>,
-    enumeration: &EnumerationType<'t>,
-) -> Result<Vec<Enumerator<'t>>> {
-    let mut all = Vec::new(alloc);
-    if enumeration.fields == TypeIndex(0) {
-        return Ok(all);
-    }
-    for field in &context
-        .definitions
-        .types()
-        .fields(alloc, enumeration.fields)?
-    {
-        if let TypeData::Enumerate(it) = field {
-            all.push(Enumerator {
-                name: it.name,
-                value: enumerator_value(it.value, enumeration.underlying_type),
-            })?;
-        }
-    }
-    Ok(all)
-}
 
 /// Returns the names of enumerators in a header.
 fn names_of(alloc: Global, all: &[Enumerator<'_>]) -> AllocResult<Vec<Vec<u8>>> {
@@ -53,55 +21,46 @@ fn names_of(alloc: Global, all: &[Enumerator<'_>]) -> AllocResult<Vec<Vec<u8>>> 
     distinct_names(alloc, &names, b"")
 }
 
-/// Appends the enumerators in C++.
+/// Appends enumerators with these names, over a type, in C++.
 fn push_cpp(
-    alloc: Global,
-    context: &Context<'_, '_>,
     target: &Target<'_>,
     all: &[Enumerator<'_>],
-    out: &mut Vec<u8>,
-) -> Result<()> {
-    out.extend_from_slice(b"enum class ")?;
-    target.name.push_to(out)?;
-    out.extend_from_slice(b" : ")?;
-    out.extend_from_slice(&underlying_text(alloc, context, target.named.underlying)?)?;
-    out.extend_from_slice(b" {\n")?;
-    let names = names_of(alloc, all)?;
+    names: &[Vec<u8>],
+    underlying: &[u8],
+    out: &mut TextBuffer,
+) {
+    out.push(b"enum class ");
+    target.name.push_to(out);
+    out.push(b" : ");
+    out.push(underlying);
+    out.push(b" {\n");
     for (enumerator, name) in all.iter().zip(names.iter()) {
-        out.extend_from_slice(b"    ")?;
-        out.extend_from_slice(name)?;
-        out.extend_from_slice(b" = ")?;
-        out.extend_from_slice(&constant(alloc, enumerator.value)?)?;
-        out.extend_from_slice(b",\n")?;
+        out.push(b"    ");
+        out.push(name);
+        out.push(b" = ");
+        push_constant(enumerator.value, out);
+        out.push(b",\n");
     }
-    out.extend_from_slice(b"};\n")?;
-    Ok(())
+    out.push(b"};\n");
 }
 
-/// Appends the enumerators in C, where their names have that of the enumeration before them: as an
+/// Appends enumerators with these names in C, where that of the enumeration is before each: as an
 /// enumeration of those that are an `int`, and as macros.
-fn push_c(
-    alloc: Global,
-    target: &Target<'_>,
-    all: &[Enumerator<'_>],
-    out: &mut Vec<u8>,
-) -> AllocResult<()> {
-    let names = names_of(alloc, all)?;
+fn push_c(target: &Target<'_>, all: &[Enumerator<'_>], names: &[Vec<u8>], out: &mut TextBuffer) {
     for (enumerator, name) in all.iter().zip(names.iter()) {
         let (before, between, behind) = if is_int(enumerator.value) {
             ("enum { ", " = ", " };\n")
         } else {
             ("#define ", " ", "\n")
         };
-        out.extend_from_slice(before.as_bytes())?;
-        target.name.push_to(out)?;
-        out.extend_from_slice(b"__")?;
-        out.extend_from_slice(name)?;
-        out.extend_from_slice(between.as_bytes())?;
-        out.extend_from_slice(&constant(alloc, enumerator.value)?)?;
-        out.extend_from_slice(behind.as_bytes())?;
+        out.push(before.as_bytes());
+        target.name.push_to(out);
+        out.push(b"__");
+        out.push(name);
+        out.push(between.as_bytes());
+        push_constant(enumerator.value, out);
+        out.push(behind.as_bytes());
     }
-    Ok(())
 }
 
 /// Returns the definition of an enumeration, with the assertion of its size.
@@ -115,24 +74,25 @@ pub(crate) fn enumeration_text<'t>(
     enumeration: &EnumerationType<'t>,
     known: &mut Known,
 ) -> Result<Vec<u8>> {
-    let all = enumerators_of(alloc, context, enumeration)?;
-    let mut text = Vec::new(alloc);
-    push_origin(alloc, target, &mut text)?;
+    let definitions = context.definitions;
+    let underlying = enumeration.underlying_type;
+    let all = enumerators_of(alloc, definitions, enumeration.fields, underlying)?;
+    let names = names_of(alloc, &all)?;
+    let mut text = TextBuffer::new(alloc);
+    push_origin(alloc, target, &mut text);
     if context.is_c() || !target.name.scope.is_empty() {
         push_declaration(alloc, context, target, known, &mut text)?;
     }
     known.declare(target.index);
     if context.is_c() {
-        push_c(alloc, target, &all, &mut text)?;
+        push_c(target, &all, &names, &mut text);
     } else {
-        push_cpp(alloc, context, target, &all, &mut text)?;
+        let underlying = underlying_text(alloc, context, target.named.underlying)?;
+        push_cpp(target, &all, &names, &underlying, &mut text);
     }
-    let size = context
-        .definitions
-        .size_of(alloc, target.index)?
-        .unwrap_or(0);
-    push_size(context, target, size, &mut text)?;
-    text.push(b'\n')?;
+    let size = definitions.size_of(alloc, target.index)?.unwrap_or(0);
+    push_size(context, target, size, &mut text);
+    text.push(b"\n");
     known.define(target.index, size, false);
-    Ok(text)
+    Ok(text.finish()?)
 }

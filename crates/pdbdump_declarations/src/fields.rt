@@ -8,6 +8,7 @@ use crate::sketch::{Declared, Sketcher, push_number};
 use crate::units::Unit;
 use pdb_base::Result;
 use pdb_types::{Extent, FieldKind, Layout, LayoutField};
+use pdbdump_types::TextBuffer;
 use std::alloc::Global;
 
 /// Why a field is an array of bytes.
@@ -173,13 +174,14 @@ impl<'s, 'd, 't> Sketcher<'s, 'd, 't> {
     ) -> Result<()> {
         let index = field.place.field_type;
         let target = self.context.target(alloc, index)?;
-        let mut base = Vec::new(alloc);
+        let mut base = TextBuffer::new(alloc);
         let mut is_empty = false;
         if let Some(target) = &target {
-            base.extend_from_slice(b"::")?;
-            target.name.push_to(&mut base)?;
+            base.push(b"::");
+            target.name.push_to(&mut base);
             is_empty = self.known.is_empty(target.index);
         }
+        let base = base.finish()?;
         if is_empty {
             self.sketch.empty_bases.push(base)?;
             return Ok(());
@@ -200,7 +202,8 @@ impl<'s, 'd, 't> Sketcher<'s, 'd, 't> {
         let start = field.place.offset;
         let size = self.context.definitions.size_of(alloc, index)?;
         let Some(width) = end.checked_sub(start) else {
-            return Ok(self.push_note(alloc, BEYOND, name)?);
+            self.push_note(alloc, BEYOND, name);
+            return Ok(());
         };
         let is_base = base.is_some();
         let declared = if size == Some(width) {
@@ -209,7 +212,7 @@ impl<'s, 'd, 't> Sketcher<'s, 'd, 't> {
             None
         };
         if !is_base && (declared.is_some() || width > 0) {
-            self.push_assertion(name, start)?;
+            self.push_assertion(name, start);
         }
         match declared {
             Some(declared) => self.push_piece(start, width, declared, base)?,
@@ -252,28 +255,30 @@ impl<'s, 'd, 't> Sketcher<'s, 'd, 't> {
         why: &str,
     ) -> Result<()> {
         if width == 0 {
-            return Ok(self.push_note(alloc, BEYOND, name)?);
+            self.push_note(alloc, BEYOND, name);
+            return Ok(());
         }
-        let mut text = Vec::from_slice(alloc, b"unsigned char ")?;
-        text.extend_from_slice(name)?;
-        push_number(b"[", width, &mut text)?;
-        text.extend_from_slice(b"];  // bytes ")?;
-        text.extend_from_slice(why.as_bytes())?;
-        text.extend_from_slice(b": ")?;
         let own = self.known.texts.bytes(
             alloc,
             self.context.definitions,
             field.place.field_type,
             b"",
         )?;
-        push_quoted(alloc, &own, &mut text)?;
-        text.push(b'\n')?;
+        let mut text = TextBuffer::new(alloc);
+        text.push(b"unsigned char ");
+        text.push(name);
+        push_number(b"[", width, &mut text);
+        text.push(b"];  // bytes ");
+        text.push(why.as_bytes());
+        text.push(b": ");
+        push_quoted(alloc, &own, &mut text);
+        text.push(b"\n");
         let start = field.place.offset;
         self.sketch.pieces.push(Piece {
             start,
             end: start.saturating_add(width),
             alignment: 1,
-            text,
+            text: text.finish()?,
             is_many: false,
             base: None,
         })?;

@@ -2,7 +2,7 @@
 
 ghost use Rattle.std.specs.Prelude.{◌≡◌, OnOk};
 ghost use Rattle.pdb_base.specs.Memory.{FailsOnlyForMemory};
-ghost use Rattle.pdbdump_layouts.specs.Shown.{IsShowResult, IsStopped, StaysAccounted};
+ghost use Rattle.pdbdump_types.specs.Shown.{IsShowResult, IsStopped, StaysAccounted};
 
 use crate::class_text::class_text;
 use crate::context::Context;
@@ -13,12 +13,13 @@ use crate::naming::Naming;
 use crate::needed::limit_types;
 use crate::options::{Language, Options};
 use crate::roots::{first_types, types_named};
+use crate::sketch::push_number;
 use crate::table_walk::{Walked, type_at, walk};
 use pdb_base::{Error, Stream, TypeIndex};
 use pdb_output::Output;
 use pdb_types::{DeclarationOrder, Definitions};
 use pdb_values::TypeData;
-use pdbdump_layouts::{Progress, learn_table, tell, tell_fault, tell_index};
+use pdbdump_types::{Progress, TextBuffer, learn_table, tell, tell_fault, tell_index};
 use std::alloc::Global;
 use std::io::Write;
 
@@ -33,13 +34,17 @@ fn head_text(alloc: Global, language: Language, pointer_size: u64) -> AllocResul
         Language::Cpp => ("C++", "#include <stddef.h>\n\n"),
         Language::C => ("C", "#include <stdbool.h>\n#include <stddef.h>\n\n"),
     };
-    let bits = pointer_size.saturating_mul(8);
-    let text = format!(in alloc;
-        "// Types of a program database, in {word} for a program of {bits} bits.\n#pragma once\n"
-    )?;
-    let mut text = text.into_bytes();
-    text.extend_from_slice(includes.as_bytes())?;
-    Ok(text)
+    let mut text = TextBuffer::new(alloc);
+    text.push(b"// Types of a program database, in ");
+    text.push(word.as_bytes());
+    push_number(
+        b" for a program of ",
+        pointer_size.saturating_mul(8),
+        &mut text,
+    );
+    text.push(b" bits.\n#pragma once\n");
+    text.push(includes.as_bytes());
+    text.finish()
 }
 
 /// Returns the definition of a type, with what it needs.

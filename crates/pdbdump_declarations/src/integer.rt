@@ -1,8 +1,7 @@
 //! Integers as C and C++ write them.
 
-use crate::memory::AllocResult;
-use pdb_base::Variant;
-use std::alloc::Global;
+use crate::sketch::push_number;
+use pdbdump_types::TextBuffer;
 
 /// Returns the type without a sign that has so many bytes.
 pub(crate) fn unsigned_type(size: u64) -> Option<&'static str> {
@@ -15,41 +14,30 @@ pub(crate) fn unsigned_type(size: u64) -> Option<&'static str> {
     }
 }
 
-/// Returns the number below 0 that a value is, or else the number from 0 on.
-fn signed_of(value: Variant) -> Result<u64, i64> {
-    let signed = match value {
-        Variant::U8(n) => return Ok(n as u64),
-        Variant::U16(n) => return Ok(n as u64),
-        Variant::U32(n) => return Ok(n as u64),
-        Variant::U64(n) => return Ok(n),
-        Variant::I8(n) => i64::from(n),
-        Variant::I16(n) => i64::from(n),
-        Variant::I32(n) => i64::from(n),
-        Variant::I64(n) => n,
-    };
-    u64::try_from(signed).map_err(|_| signed)
-}
-
 /// Returns whether a value is an `int`.
-pub(crate) fn is_int(value: Variant) -> bool {
-    match signed_of(value) {
-        Ok(number) => number <= 0x7fff_ffff,
-        Err(number) => number >= -0x8000_0000,
-    }
+pub(crate) fn is_int(value: i128) -> bool {
+    i32::try_from(value).is_ok()
 }
 
-/// Returns a value as a constant of C and C++.
-///
-/// # Errors
-/// Fails if an allocation fails.
-pub(crate) fn constant(alloc: Global, value: Variant) -> AllocResult<Vec<u8>> {
-    let text = match signed_of(value) {
-        Ok(number) if number <= 0x7fff_ffff => format!(in alloc; "{number}")?,
-        Ok(number) if number <= 0xffff_ffff => format!(in alloc; "{number}u")?,
-        Ok(number) => format!(in alloc; "{number}ull")?,
-        Err(number) if number > -0x8000_0000 => format!(in alloc; "{number}")?,
-        Err(i64::MIN) => format!(in alloc; "(-0x7fffffffffffffffll - 1)")?,
-        Err(number) => format!(in alloc; "{number}ll")?,
+/// Appends a value of at most 64 bits as a constant of C and C++.
+pub(crate) fn push_constant(value: i128, out: &mut TextBuffer) {
+    if value == i64::MIN as i128 {
+        out.push(b"(-0x7fffffffffffffffll - 1)");
+        return;
+    }
+    if value < 0 {
+        out.push(b"-");
+    }
+    push_number(
+        b"",
+        u64::try_from(value.unsigned_abs()).unwrap_or(u64::MAX),
+        out,
+    );
+    let suffix: &[u8] = match value {
+        -0x7fff_ffff..=0x7fff_ffff => b"",
+        0x8000_0000..=0xffff_ffff => b"u",
+        0.. => b"ull",
+        _ => b"ll",
     };
-    Ok(text.into_bytes())
+    out.push(suffix);
 }

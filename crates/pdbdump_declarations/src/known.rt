@@ -2,7 +2,7 @@
 
 use crate::memory::AllocResult;
 use pdb_base::TypeIndex;
-use pdbdump_layouts::TextAllowance;
+use pdbdump_types::TextAllowance;
 use std::alloc::Global;
 
 /// What a header has of a type.

@@ -2,10 +2,10 @@
 
 use crate::context::{Context, Target};
 use crate::known::Known;
-use crate::memory::AllocResult;
 use crate::naming::Name;
 use crate::table_walk::Word;
 use pdb_base::{Result, TypeIndex};
+use pdbdump_types::TextBuffer;
 use std::alloc::Global;
 
 /// How many bytes the declaration of a member has at most.
@@ -29,37 +29,64 @@ pub(crate) fn underlying_text(
 }
 
 /// Appends the name of a type as a declaration of C or C++ mentions it, with the word for what it is.
-///
-/// # Errors
-/// Fails if an allocation fails.
 pub(crate) fn push_mention(
     context: &Context<'_, '_>,
     target: &Target<'_>,
     is_scoped: bool,
-    out: &mut Vec<u8>,
-) -> AllocResult<()> {
+    out: &mut TextBuffer,
+) {
     if !(context.is_c() && target.named.word == Word::Enum) {
-        out.extend_from_slice(target.named.word.text().as_bytes())?;
-        out.push(b' ')?;
+        out.push(target.named.word.text().as_bytes());
+        out.push(b" ");
     }
     if is_scoped {
-        out.extend_from_slice(b"::")?;
+        out.push(b"::");
     }
-    target.name.push_to(out)
+    target.name.push_to(out);
 }
 
 /// Appends the namespaces of a name with their braces, and returns how many they are.
-fn push_namespaces(name: &Name, out: &mut Vec<u8>) -> AllocResult<u64> {
+fn push_namespaces(name: &Name, out: &mut TextBuffer) -> u64 {
     let mut count: u64 = 0;
     for scope in name.scope.split(|byte| *byte == b':') {
         if !scope.is_empty() {
-            out.extend_from_slice(b"namespace ")?;
-            out.extend_from_slice(scope)?;
-            out.extend_from_slice(b" { ")?;
+            out.push(b"namespace ");
+            out.push(scope);
+            out.push(b" { ");
             count = count.saturating_add(1);
         }
     }
-    Ok(count)
+    count
+}
+
+/// Appends the declaration of an enumeration over a type, in C.
+fn push_alias(target: &Target<'_>, underlying: &[u8], out: &mut TextBuffer) {
+    out.push(b"typedef ");
+    out.push(underlying);
+    out.push(b" ");
+    target.name.push_to(out);
+    out.push(b";\n");
+}
+
+/// Appends the declaration of a class, a union, or in C++ an enumeration over a type.
+fn push_forward(target: &Target<'_>, underlying: Option<&[u8]>, out: &mut TextBuffer) {
+    let count = push_namespaces(&target.name, out);
+    out.push(target.named.word.text().as_bytes());
+    out.push(if underlying.is_some() {
+        b" class "
+    } else {
+        b" "
+    });
+    out.push(&target.name.identifier);
+    if let Some(underlying) = underlying {
+        out.push(b" : ");
+        out.push(underlying);
+    }
+    out.push(b";");
+    for _ in 0..count {
+        out.push(b" }");
+    }
+    out.push(b"\n");
 }
 
 /// Appends the declaration of a type that isn't declared yet.
@@ -71,33 +98,21 @@ pub(crate) fn push_declaration(
     context: &Context<'_, '_>,
     target: &Target<'_>,
     known: &mut Known,
-    out: &mut Vec<u8>,
+    out: &mut TextBuffer,
 ) -> Result<()> {
     if known.declare(target.index) {
         return Ok(());
     }
-    let is_enum = target.named.word == Word::Enum;
-    if is_enum && context.is_c() {
-        out.extend_from_slice(b"typedef ")?;
-        out.extend_from_slice(&underlying_text(alloc, context, target.named.underlying)?)?;
-        out.push(b' ')?;
-        target.name.push_to(out)?;
-        out.extend_from_slice(b";\n")?;
+    if target.named.word != Word::Enum {
+        push_forward(target, None, out);
         return Ok(());
     }
-    let count = push_namespaces(&target.name, out)?;
-    out.extend_from_slice(target.named.word.text().as_bytes())?;
-    out.extend_from_slice(if is_enum { b" class " } else { b" " })?;
-    out.extend_from_slice(&target.name.identifier)?;
-    if is_enum {
-        out.extend_from_slice(b" : ")?;
-        out.extend_from_slice(&underlying_text(alloc, context, target.named.underlying)?)?;
+    let underlying = underlying_text(alloc, context, target.named.underlying)?;
+    if context.is_c() {
+        push_alias(target, &underlying, out);
+    } else {
+        push_forward(target, Some(&underlying), out);
     }
-    out.push(b';')?;
-    for _ in 0..count {
-        out.extend_from_slice(b" }")?;
-    }
-    out.push(b'\n')?;
     Ok(())
 }
 
@@ -124,7 +139,7 @@ pub(crate) fn declared_text(
     name: &[u8],
     is_scoped: bool,
     known: &mut Known,
-    before: &mut Vec<u8>,
+    before: &mut TextBuffer,
 ) -> Result<Option<Vec<u8>>> {
     if known.texts.is_spent() {
         return Ok(None);
@@ -133,11 +148,11 @@ pub(crate) fn declared_text(
         return Ok(None);
     };
     known.texts.take(marked.len());
-    let mut text = Vec::new(alloc);
+    let mut text = TextBuffer::new(alloc);
     let mut is_first = true;
     for part in marked.split(|byte| *byte == b'@') {
         if is_first {
-            text.extend_from_slice(part)?;
+            text.push(part);
             is_first = false;
             continue;
         }
@@ -146,12 +161,12 @@ pub(crate) fn declared_text(
         if let Some(target) = context.target(alloc, index_of(digits))? {
             known.texts.take(target.named.name.len());
             push_declaration(alloc, context, &target, known, before)?;
-            push_mention(context, &target, is_scoped, &mut text)?;
+            push_mention(context, &target, is_scoped, &mut text);
         }
-        text.extend_from_slice(behind)?;
-        if text.len() > MOST_BYTES {
+        text.push(behind);
+        if text.as_bytes().len() > MOST_BYTES {
             return Ok(None);
         }
     }
-    Ok(Some(text))
+    Ok(Some(text.finish()?))
 }

@@ -6,6 +6,7 @@ use crate::options::Language;
 use crate::scopes::parts_of;
 use crate::table_walk::{Found, Named, Walked};
 use pdb_base::TypeIndex;
+use pdbdump_types::TextBuffer;
 use std::alloc::Global;
 
 /// How many bytes the namespaces of a name have at most, since each member of a class repeats them.
@@ -26,12 +27,9 @@ pub(crate) struct Name {
 
 impl Name {
     /// Appends the name with its namespaces.
-    ///
-    /// # Errors
-    /// Fails if an allocation fails.
-    pub(crate) fn push_to(&self, out: &mut Vec<u8>) -> AllocResult<()> {
-        out.extend_from_slice(&self.scope)?;
-        out.extend_from_slice(&self.identifier)
+    pub(crate) fn push_to(&self, out: &mut TextBuffer) {
+        out.push(&self.scope);
+        out.push(&self.identifier);
     }
 
     /// Returns the hash of the name with its namespaces.

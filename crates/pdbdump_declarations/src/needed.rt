@@ -2,13 +2,13 @@
 
 ghost use Rattle.std.specs.Prelude.{◌≡◌, ◌⊎◌, false, OnOk};
 ghost use Rattle.pdb_base.specs.Memory.{FailsOnlyForMemory};
-ghost use Rattle.pdbdump_layouts.specs.Shown.{StaysAccounted};
+ghost use Rattle.pdbdump_types.specs.Shown.{StaysAccounted};
 
 use crate::memory::AllocResult;
 use pdb_base::{Error, TypeIndex};
 use pdb_output::Output;
 use pdb_types::Definitions;
-use pdbdump_layouts::{Progress, TOO_MANY, tell_index};
+use pdbdump_types::{Progress, TOO_MANY, tell_index};
 use std::alloc::{AllocError, Global};
 use std::io::Write;
 

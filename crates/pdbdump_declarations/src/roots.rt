@@ -6,7 +6,7 @@ use crate::memory::AllocResult;
 use crate::table_walk::{Found, Walked};
 use pdb_base::{Error, TypeIndex};
 use pdb_types::Definitions;
-use pdbdump_layouts::{index_named, is_pattern, matches};
+use pdbdump_types::{index_named, is_pattern, matches};
 use std::alloc::{AllocError, Global};
 
 /// Returns whether the name of a type matches a pattern, if there is one.

@@ -3,20 +3,20 @@
 use crate::comment::push_quoted;
 use crate::context::{Context, Target};
 use crate::known::Known;
-use crate::memory::AllocResult;
 use crate::mention::{declared_text, push_mention};
 use crate::piece::Piece;
 use pdb_base::{Result, TypeIndex};
+use pdbdump_types::TextBuffer;
 use std::alloc::Global;
 
 /// What the definition of a class is made of.
 #[derive(Drop)]
 pub(crate) struct Sketch {
     /// The declarations of other types that it needs.
-    pub(crate) before: Vec<u8>,
+    pub(crate) before: TextBuffer,
 
     /// Lines of comments on what isn't declared.
-    pub(crate) notes: Vec<u8>,
+    pub(crate) notes: TextBuffer,
 
     /// Its pieces, in the order of the records.
     pub(crate) pieces: Vec<Piece>,
@@ -25,7 +25,7 @@ pub(crate) struct Sketch {
     pub(crate) empty_bases: Vec<Vec<u8>>,
 
     /// The assertions of where its members are.
-    pub(crate) assertions: Vec<u8>,
+    pub(crate) assertions: TextBuffer,
 }
 
 /// How a member is declared.
@@ -88,43 +88,39 @@ impl<'s, 'd, 't> Sketcher<'s, 'd, 't> {
     }
 
     /// Adds a line of comment on a member that isn't declared.
-    pub(crate) fn push_note(&mut self, alloc: Global, why: &str, what: &[u8]) -> AllocResult<()> {
+    pub(crate) fn push_note(&mut self, alloc: Global, why: &str, what: &[u8]) {
         let notes = &mut self.sketch.notes;
-        notes.extend_from_slice(b"// ")?;
-        notes.extend_from_slice(why.as_bytes())?;
-        notes.extend_from_slice(b": ")?;
-        push_quoted(alloc, what, notes)?;
-        notes.push(b'\n')?;
-        Ok(())
+        notes.push(b"    // ");
+        notes.push(why.as_bytes());
+        notes.push(b": ");
+        push_quoted(alloc, what, notes);
+        notes.push(b"\n");
     }
 
     /// Adds the assertion of where a member begins.
-    pub(crate) fn push_assertion(&mut self, name: &[u8], offset: u64) -> AllocResult<()> {
+    pub(crate) fn push_assertion(&mut self, name: &[u8], offset: u64) {
         let word = if self.context.is_c() {
             "_Static_assert(offsetof("
         } else {
             "static_assert(offsetof("
         };
         let text = &mut self.sketch.assertions;
-        text.extend_from_slice(word.as_bytes())?;
-        push_mention(self.context, self.target, false, text)?;
-        text.extend_from_slice(b", ")?;
-        text.extend_from_slice(name)?;
-        push_number(b") == ", offset, text)?;
-        text.extend_from_slice(b", \"")?;
-        self.target.name.push_to(text)?;
-        text.push(b'.')?;
-        text.extend_from_slice(name)?;
-        text.extend_from_slice(b"\");\n")
+        text.push(word.as_bytes());
+        push_mention(self.context, self.target, false, text);
+        text.push(b", ");
+        text.push(name);
+        push_number(b") == ", offset, text);
+        text.push(b", \"");
+        self.target.name.push_to(text);
+        text.push(b".");
+        text.push(name);
+        text.push(b"\");\n");
     }
 }
 
 /// Appends a text and a number in decimal behind it.
-///
-/// # Errors
-/// Fails if an allocation fails.
-pub(crate) fn push_number(before: &[u8], number: u64, out: &mut Vec<u8>) -> AllocResult<()> {
+pub(crate) fn push_number(before: &[u8], number: u64, out: &mut TextBuffer) {
     let mut buffer = itoa::Buffer::new();
-    out.extend_from_slice(before)?;
-    out.extend_from_slice(buffer.format(number).as_bytes())
+    out.push(before);
+    out.push(buffer.format(number).as_bytes());
 }

@@ -7,6 +7,7 @@ use crate::sketch::{Sketcher, push_number};
 use pdb_base::Result;
 use pdb_types::LayoutField;
 use pdb_values::BitfieldType;
+use pdbdump_types::TextBuffer;
 use std::alloc::Global;
 
 /// The bit fields of one unit.
@@ -15,7 +16,7 @@ pub(crate) struct Unit {
     start: u64,
     size: u64,
     next_bit: u64,
-    text: Vec<u8>,
+    text: TextBuffer,
 }
 
 impl Unit {
@@ -25,20 +26,19 @@ impl Unit {
             start,
             size,
             next_bit: 0,
-            text: Vec::new(alloc),
+            text: TextBuffer::new(alloc),
         }
     }
 
     /// Declares bits without a name up to a bit.
-    fn fill(&mut self, end: u64) -> AllocResult<()> {
+    fn fill(&mut self, end: u64) {
         let word = unsigned_type(self.size).unwrap_or("int");
         if self.next_bit < end {
-            self.text.extend_from_slice(word.as_bytes())?;
-            push_number(b" : ", end - self.next_bit, &mut self.text)?;
-            self.text.extend_from_slice(b";\n")?;
+            self.text.push(word.as_bytes());
+            push_number(b" : ", end - self.next_bit, &mut self.text);
+            self.text.push(b";\n");
             self.next_bit = end;
         }
-        Ok(())
     }
 
     /// Returns whether a bit field may stand behind those of the unit.
@@ -47,26 +47,25 @@ impl Unit {
     }
 
     /// Declares a bit field behind those that are there.
-    fn push(&mut self, declaration: &[u8], field: BitfieldType) -> AllocResult<()> {
-        self.fill(field.position as u64)?;
-        self.text.extend_from_slice(declaration)?;
-        push_number(b" : ", field.length as u64, &mut self.text)?;
-        self.text.extend_from_slice(b";\n")?;
+    fn push(&mut self, declaration: &[u8], field: BitfieldType) {
+        self.fill(field.position as u64);
+        self.text.push(declaration);
+        push_number(b" : ", field.length as u64, &mut self.text);
+        self.text.push(b";\n");
         self.next_bit = (field.position as u64).saturating_add(field.length as u64);
-        Ok(())
     }
 
     /// Returns the unit as a piece, filled up, so that what comes next begins another one.
     fn into_piece(self) -> AllocResult<Piece> {
         let mut unit = self;
         let size = unit.size;
-        unit.fill(size.saturating_mul(8))?;
+        unit.fill(size.saturating_mul(8));
         let Unit { start, text, .. } = unit;
         Ok(Piece {
             start,
             end: start.saturating_add(size),
             alignment: size,
-            text,
+            text: text.finish()?,
             is_many: true,
             base: None,
         })
@@ -107,7 +106,7 @@ impl<'s, 'd, 't> Sketcher<'s, 'd, 't> {
         let is_unit = unsigned_type(size).is_some() && is_within(bits, size);
         let declared = self.declared(alloc, bits.underlying_type, name)?;
         let (true, Some(declared)) = (is_unit, declared) else {
-            self.push_note(alloc, "bits that C can't say", name)?;
+            self.push_note(alloc, "bits that C can't say", name);
             return Ok(unit);
         };
         let start = field.place.offset;
@@ -118,7 +117,7 @@ impl<'s, 'd, 't> Sketcher<'s, 'd, 't> {
                 Unit::new(alloc, start, size)
             }
         };
-        unit.push(&declared.text, bits)?;
+        unit.push(&declared.text, bits);
         Ok(Some(unit))
     }
 }

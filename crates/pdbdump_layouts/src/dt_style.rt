@@ -1,13 +1,13 @@
 //! Layouts in the style of WinDbg's `dt`.
 
-use crate::classes::Class;
 use crate::dt_type::dt_type;
-use crate::expanded::{Expansion, ShownRow};
+use crate::expanded::ShownRow;
 use crate::layout_row::LayoutRow;
-use crate::text::{escape_text, plural, push_indent, push_named};
-use crate::text_allowance::TextAllowance;
+use crate::other_member::{OtherMember, OtherRole};
+use crate::shown_class::ShownClass;
 use pdb_base::Result;
 use pdb_types::{Definitions, Extent, FieldKind, LayoutField};
+use pdbdump_types::{TextAllowance, escape_text, plural, push_indent, push_named};
 use std::alloc::Global;
 
 /// How wide the fields of a class are indented.
@@ -77,26 +77,54 @@ fn push_row<'t>(
     Ok(())
 }
 
+/// Returns what the line of a member begins with that takes no place.
+fn other_mark(role: OtherRole) -> &'static [u8] {
+    match role {
+        OtherRole::Method | OtherRole::VirtualMethod => b"=method",
+        OtherRole::StaticMethod | OtherRole::StaticMember => b"=static",
+        OtherRole::NestedType => b"=type  ",
+    }
+}
+
+/// Appends the line of a member that takes no place.
+fn push_other(
+    alloc: Global,
+    definitions: &Definitions<'_>,
+    other: &OtherMember<'_>,
+    texts: &mut TextAllowance,
+    text: &mut Vec<u8>,
+) -> Result<()> {
+    let mut place = Vec::new(alloc);
+    push_indent(1, WIDTH, &mut place)?;
+    place.extend_from_slice(other_mark(other.role))?;
+    let name = escape_text(alloc, other.name.as_bytes())?;
+    let type_text = dt_type(alloc, definitions, other.type_index, texts)?;
+    push_named(&place, &name, &type_text, text)?;
+    Ok(())
+}
+
 /// Returns a layout in the style of WinDbg's `dt`: the name of the class, and a line for each
 /// field.
 pub(crate) fn dt_text<'t>(
     alloc: Global,
     definitions: &Definitions<'t>,
-    class: Option<&Class<'t>>,
-    expansion: &Expansion<'t>,
+    shown: &ShownClass<'_, 't>,
     texts: &mut TextAllowance,
 ) -> Result<Vec<u8>> {
     let mut text = Vec::new(alloc);
-    if let Some(class) = class {
+    if let Some(class) = &shown.class {
         text.extend_from_slice(&escape_text(alloc, class.name.as_bytes())?)?;
         text.push(b'\n')?;
     }
-    for row in &expansion.rows {
+    for row in &shown.expansion.rows {
         push_row(alloc, definitions, row, texts, &mut text)?;
     }
-    if expansion.is_cut {
+    if shown.expansion.is_cut {
         push_indent(1, WIDTH, &mut text)?;
         text.extend_from_slice(b"..\n")?;
+    }
+    for other in &shown.others {
+        push_other(alloc, definitions, other, texts, &mut text)?;
     }
     Ok(text)
 }

@@ -1,12 +1,10 @@
 //! Types as WinDbg's `dt` writes them.
 
-use crate::classes::type_at;
-use crate::text::escape_text;
-use crate::text_allowance::TextAllowance;
 use pdb_base::{Result, TypeIndex};
 use pdb_flags::PointerMode;
 use pdb_types::Definitions;
 use pdb_values::{ArrayType, Indirection, PointerType, PrimitiveKind, PrimitiveType, TypeData};
+use pdbdump_types::{TextAllowance, escape_text, type_at};
 use std::alloc::Global;
 
 /// How many types one text goes through at most.

@@ -2,11 +2,10 @@
 
 ghost use Rattle.std.specs.Prelude.{◌<◌, ◌≤◌, IsTrue};
 
-use crate::allowance::Allowance;
-use crate::classes::class_layout;
 use crate::layout_row::{LayoutRow, rows_of};
 use pdb_base::{Result, TypeIndex};
 use pdb_types::{Definitions, Extent, FieldKind, Layout};
+use pdbdump_types::{Allowance, class_layout};
 use std::alloc::Global;
 
 /// How deep classes within a class are shown at most.
@@ -108,8 +107,8 @@ fn inner_start(start: u64, row: &LayoutRow<'_>) -> u64 {
 /// virtual bases of a base class, which the derived class holds elsewhere.
 fn is_within(outer: &LayoutRow<'_>, row: &LayoutRow<'_>) -> bool {
     match (outer, row) {
-        (LayoutRow::Field(field), LayoutRow::Gap(gap)) => match field.extent {
-            Extent::Bytes(size) => gap.bits.start < size as u128 * 8,
+        (LayoutRow::Field(field), LayoutRow::Gap(named)) => match field.extent {
+            Extent::Bytes(size) => named.gap.bits.start < size as u128 * 8,
             _ => true,
         },
         _ => true,

@@ -1,10 +1,8 @@
 //! The line with which the declaration of a class begins.
 
-use crate::classes::Class;
-use crate::text::escape_text;
-use crate::text_allowance::TextAllowance;
 use pdb_base::{Result, TypeIndex};
 use pdb_types::{Definitions, FieldKind, LayoutField};
+use pdbdump_types::{Class, TextAllowance, escape_text};
 use std::alloc::Global;
 
 /// Returns the base class of which a field tells, with the word `virtual` before a virtual one. A

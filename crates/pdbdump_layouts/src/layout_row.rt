@@ -1,7 +1,15 @@
 //! The fields of a layout and its gaps, in the order of their places.
 
 use pdb_types::{Gap, Layout, LayoutField, Span};
+use pdbdump_types::{GapRole, fields_end, gap_role};
 use std::alloc::{AllocError, Global};
+
+/// A gap, and what it is called.
+#[derive(Clone, Copy)]
+pub(crate) struct NamedGap {
+    pub(crate) gap: Gap,
+    pub(crate) role: GapRole,
+}
 
 /// A field or a gap of a layout.
 #[derive(Clone, Copy)]
@@ -10,15 +18,15 @@ pub(crate) enum LayoutRow<'t> {
     Field(LayoutField<'t>),
 
     /// Bits that no field takes.
-    Gap(Gap),
+    Gap(NamedGap),
 }
 
 impl<'t> LayoutRow<'t> {
     /// Returns the bits of the field or the gap, counted from the start of the class.
-    fn bits(&self) -> Span {
+    pub(crate) fn bits(&self) -> Span {
         match self {
             LayoutRow::Field(field) => field.bits(),
-            LayoutRow::Gap(gap) => gap.bits,
+            LayoutRow::Gap(named) => named.gap.bits,
         }
     }
 }
@@ -36,8 +44,12 @@ pub(crate) fn rows_of<'t>(
     for field in &layout.fields {
         rows.push(LayoutRow::Field(*field))?;
     }
+    let end = fields_end(&layout.fields);
     for gap in &layout.gaps {
-        rows.push(LayoutRow::Gap(*gap))?;
+        rows.push(LayoutRow::Gap(NamedGap {
+            gap: *gap,
+            role: gap_role(gap, end),
+        }))?;
     }
     rows.sort_by_key(|row| row.bits().start)?;
     Ok(rows)

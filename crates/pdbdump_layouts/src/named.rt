@@ -2,26 +2,17 @@
 
 ghost use Rattle.pdb_base.specs.Memory.{FailsOnlyForMemory};
 
-use crate::allowance::Allowance;
-use crate::classes::{Wanted, class_of, classes_in, steps_behind, type_at};
-use crate::member_path::{FoundMember, member_at, member_text};
-use crate::pattern::is_pattern;
+use crate::member_path::{Path, PathEnd, follow};
 use pdb_base::{Result, TypeIndex};
 use pdb_types::Definitions;
-use pdbdump_rows::Form;
+use pdbdump_types::{
+    Allowance, LetterCase, Wanted, class_of, classes_in, index_named, is_pattern, steps_behind,
+    type_at,
+};
 use std::alloc::Global;
 
-/// Returns the index that a name spells in hexadecimal digits behind `0x`, if it spells one.
-pub fn index_named(name: &str) -> Option<TypeIndex> {
-    let digits = name.strip_prefix("0x")?;
-    if !digits.bytes().all(|digit| digit.is_ascii_hexdigit()) {
-        return None;
-    }
-    u32::from_str_radix(digits, 16).ok().map(TypeIndex)
-}
-
-/// Returns the types that a name means: that of an index such as `0x1026`, the classes of a pattern
-/// with `*` or `?`, or the definitions of the name.
+/// Returns the types that a name means: that of an index such as `0x1026`, those of a pattern with
+/// `*` or `?`, or the definitions of the name.
 ///
 /// # Errors
 /// Fails with `OutOfMemory` if an allocation fails.
@@ -29,85 +20,77 @@ pub(crate) fn types_named(
     alloc: Global,
     definitions: &Definitions<'_>,
     name: &str,
+    case: LetterCase,
 ) -> Result<Vec<TypeIndex>>
     ensures { FailsOnlyForMemory result }
 {
     if let Some(index) = index_named(name) {
         return Ok(vec![in alloc; index]?);
     }
-    if is_pattern(name.as_bytes()) {
-        let classes = classes_in(alloc, definitions.types(), Wanted::Meant(name.as_bytes()))?;
-        return Ok(classes);
+    let name = name.as_bytes();
+    match case {
+        LetterCase::Exact if !is_pattern(name) => definitions.all_definitions(alloc, name),
+        _ => Ok(classes_in(alloc, definitions.types(), Wanted::Meant(name, case))?),
     }
-    definitions.all_definitions(alloc, name.as_bytes())
 }
 
-/// A class with whose name a path begins.
-#[derive(Clone, Copy)]
-struct Start<'p> {
-    /// The class.
-    class: TypeIndex,
-
-    /// The path behind the name and a point.
-    steps: &'p [u8],
-}
-
-/// Returns the classes with whose names and a point a path begins, those with the longest names
+/// Returns the paths that begin with the name of a class and a point, those with the longest names
 /// first.
-fn starts_of<'p>(
+fn paths_of<'p>(
     alloc: Global,
     definitions: &Definitions<'_>,
     path: &'p [u8],
-) -> Result<Vec<Start<'p>>> {
-    let mut starts = Vec::new(alloc);
-    let classes = classes_in(alloc, definitions.types(), Wanted::Before(path))?;
-    for index in &classes {
-        let value = type_at(alloc, definitions.types(), *index)?;
-        let steps = class_of(&value).and_then(|class| steps_behind(path, class.name.as_bytes()));
+    case: LetterCase,
+) -> Result<Vec<Path<'p>>> {
+    let mut paths = Vec::new(alloc);
+    let classes = classes_in(alloc, definitions.types(), Wanted::Before(path, case))?;
+    for class in &classes {
+        let value = type_at(alloc, definitions.types(), *class)?;
+        let name = class_of(&value).map(|class| class.name);
+        let steps = name.and_then(|name| steps_behind(path, name.as_bytes(), case));
         if let Some(steps) = steps {
-            starts.push(Start {
-                class: *index,
+            paths.push(Path {
+                class: *class,
+                bytes: path,
                 steps,
+                case,
             })?;
         }
     }
-    starts.sort_by_key(|start| start.steps.len())?;
-    Ok(starts)
+    paths.sort_by_key(|path| path.steps.len())?;
+    Ok(paths)
 }
 
-/// Returns the member that a path leads to: from the first definition of the longest name before a
-/// point for which there is one.
-fn member_named<'t>(
-    alloc: Global,
-    definitions: &Definitions<'t>,
-    path: &[u8],
-    records: &mut Allowance,
-) -> Result<Option<FoundMember<'t>>> {
-    let starts = starts_of(alloc, definitions, path)?;
-    for start in &starts {
-        let member = member_at(alloc, definitions, start.class, start.steps, records)?;
-        if member.is_some() {
-            return Ok(member);
-        }
+/// Returns whether a path leads to a member.
+fn is_member(end: &PathEnd<'_, '_>) -> bool {
+    match end {
+        PathEnd::Member(_) => true,
+        _ => false,
     }
-    Ok(None)
 }
 
-/// Returns the line of the member that a path leads to, such as `Derived.inner.tag`, or None if the
-/// path leads to none.
+/// Returns where a path ends such as `Derived.inner.tag`, from the first definition of the longest
+/// name before a point from which it leads to a member, or else where it ends from the first; or None
+/// if no class has a name before a point.
 ///
 /// # Errors
-/// Fails as `member_at` does for a class with whose name the path begins, as `Definitions::type_text`
-/// does for the type of the member, and with `OutOfMemory` if an allocation fails.
-pub(crate) fn member_line(
+/// Fails as `follow` does for a class with whose name the path begins, and with `OutOfMemory` if an
+/// allocation fails.
+pub(crate) fn path_end<'t, 'p>(
     alloc: Global,
-    definitions: &Definitions<'_>,
-    path: &[u8],
-    form: Form,
+    definitions: &Definitions<'t>,
+    path: &'p [u8],
+    case: LetterCase,
     records: &mut Allowance,
-) -> Result<Option<Vec<u8>>> {
-    match member_named(alloc, definitions, path, records)? {
-        Some(member) => Ok(Some(member_text(alloc, definitions, path, &member, form)?)),
-        None => Ok(None),
+) -> Result<Option<PathEnd<'t, 'p>>> {
+    let mut first = None;
+    let paths = paths_of(alloc, definitions, path, case)?;
+    for path in &paths {
+        let end = follow(alloc, definitions, path, records)?;
+        if is_member(&end) {
+            return Ok(Some(end));
+        }
+        first = first.or(Some(end));
     }
+    Ok(first)
 }

@@ -1,5 +1,7 @@
 //! How layouts are shown.
 
+use pdbdump_types::LetterCase;
+
 /// How a layout is written as text.
 #[derive(Clone, Copy)]
 pub enum Style {
@@ -42,4 +44,14 @@ pub struct Options {
 
     /// Whether all classes of the file are shown.
     pub all: bool,
+
+    /// Whether the case of letters counts in names.
+    pub case: LetterCase,
+
+    /// Whether methods, static members and nested types are shown behind the fields.
+    pub has_all_members: bool,
+
+    /// How many bytes the lines of a cache have, if their ends are shown, which are only in a
+    /// declaration in C++.
+    pub line_size: Option<u32>,
 }

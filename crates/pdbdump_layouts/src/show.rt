@@ -4,24 +4,28 @@ ghost use Rattle.std.specs.Prelude.{◌≡◌, ◌⊎◌, false, OnOk};
 ghost use Rattle.pdb_base.specs.Answer.{Answers};
 ghost use Rattle.pdb_base.specs.Memory.{FailsOnlyForMemory};
 ghost use Rattle.pdb_tpi.specs.Table.{table_of};
-ghost use Rattle.pdbdump_layouts.specs.Shown.{IsShowResult, IsStopped, StaysAccounted};
+ghost use Rattle.pdbdump_types.specs.Shown.{IsShowResult, IsStopped, StaysAccounted};
 
-use crate::allowance::Allowance;
 use crate::c_style::c_text;
-use crate::classes::{Wanted, class_layout, class_of, classes_in, type_at};
 use crate::dt_style::dt_text;
+use crate::enumeration::enumeration_text;
 use crate::expanded::expand;
 use crate::json::json_text;
-use crate::named::{member_line, types_named};
+use crate::member_line::{PathLine, path_line};
+use crate::named::types_named;
 use crate::options::{Options, Order, Style};
-use crate::progress::{Progress, tell, tell_fault, tell_index, write_layout};
-use crate::text_allowance::TextAllowance;
+use crate::other_member::{OtherMember, others_of};
+use crate::shown_class::ShownClass;
 use crate::totals::totals_of;
 use pdb_base::{Error, Stream, TypeIndex};
 use pdb_output::Output;
 use pdb_tpi::{OpenTable, TypeInformation};
 use pdb_types::{Definitions, Layout};
 use pdbdump_rows::{Form, error_text};
+use pdbdump_types::{
+    Allowance, LetterCase, Progress, TOO_MANY, TextAllowance, Wanted, class_layout, class_of,
+    classes_in, learn_table, tell, tell_fault, tell_index, type_at, write_layout,
+};
 use std::alloc::{AllocError, Global};
 use std::io::Write;
 
@@ -33,16 +37,26 @@ struct Rank<'t> {
     index: TypeIndex,
 }
 
-/// Why a type has no layout, and why a name means nothing.
-const NO_CLASS: &[u8] = b"no class or union that is defined here";
-
-const NO_NAME: &[u8] = b"no class or union is called so";
-
-/// Why classes are left out.
-pub const TOO_MANY: &[u8] = b"left out with all that follow, since so many fields were read";
+/// Why a type has no layout.
+const NO_CLASS: &[u8] = b"no class, union or enumeration that is defined here";
 
 /// Why members of classes within classes are left out.
 const TOO_DEEP: &[u8] = b"more is left out, since so much was shown";
+
+/// Returns what of a class takes no place, if it is to be shown.
+fn shown_others<'t>(
+    alloc: Global,
+    definitions: &Definitions<'t>,
+    class: TypeIndex,
+    options: &Options,
+    records: &mut Allowance,
+) -> Result<Vec<OtherMember<'t>>, Error> {
+    if options.has_all_members {
+        others_of(alloc, definitions, class, records)
+    } else {
+        Ok(Vec::new(alloc))
+    }
+}
 
 /// Returns a layout as text or JSON.
 fn layout_text<'t>(
@@ -51,22 +65,28 @@ fn layout_text<'t>(
     layout: &Layout<'t>,
     options: &Options,
     form: Form,
+    records: &mut Allowance,
     rows: &mut Allowance,
     texts: &mut TextAllowance,
 ) -> Result<Vec<u8>, Error> {
     let class = class_of(&type_at(alloc, definitions.types(), layout.index)?);
-    let class = class.as_ref();
-    let expansion = expand(alloc, definitions, layout, options.depth, rows)?;
+    let shown = ShownClass {
+        layout,
+        class,
+        expansion: expand(alloc, definitions, layout, options.depth, rows)?,
+        others: shown_others(alloc, definitions, layout.index, options, records)?,
+        line_size: options.line_size,
+    };
     match (form, options.style) {
-        (Form::Json, _) => json_text(alloc, definitions, layout, class, &expansion, texts),
-        (Form::Text, Style::C) => c_text(alloc, definitions, layout, class, &expansion, texts),
-        (Form::Text, Style::Dt) => dt_text(alloc, definitions, class, &expansion, texts),
+        (Form::Json, _) => json_text(alloc, definitions, &shown, texts),
+        (Form::Text, Style::C) => c_text(alloc, definitions, &shown, texts),
+        (Form::Text, Style::Dt) => dt_text(alloc, definitions, &shown, texts),
     }
 }
 
 /// Returns whether a layout is among those that are wanted.
 fn is_wanted(layout: &Layout<'_>, options: &Options) -> bool {
-    !options.has_holes || totals_of(&layout.gaps).holes > 0
+    !options.has_holes || totals_of(layout).holes > 0
 }
 
 /// Shows a layout that is wanted, or tells why it can't be written.
@@ -90,11 +110,52 @@ fn show_layout<O: Write, E: Write>(
         layout,
         options,
         form,
+        &mut progress.records,
         &mut progress.rows,
         &mut progress.texts,
     );
     match shown {
         Ok(text) => write_layout(&text, form, progress, out),
+        Err(fault) => tell_fault(alloc, index, &fault, progress, err),
+    }
+}
+
+/// Writes an enumeration, which has no hole.
+fn write_enumeration<O: Write>(
+    text: &[u8],
+    options: &Options,
+    form: Form,
+    progress: &mut Progress,
+    out: &mut Output<O>,
+) -> Result<(), Error>
+    ensures whole { progress.new.is_whole ≡ progress.old.is_whole }
+    ensures stopped { IsStopped out.new result }
+{
+    if options.has_holes {
+        return Ok(());
+    }
+    write_layout(text, form, progress, out)
+}
+
+/// Shows an enumeration, unless only classes with holes are shown; or tells that a type is none.
+fn show_enumeration<O: Write, E: Write>(
+    alloc: Global,
+    definitions: &Definitions<'_>,
+    index: TypeIndex,
+    options: &Options,
+    form: Form,
+    progress: &mut Progress,
+    out: &mut Output<O>,
+    err: &mut Output<E>,
+) -> Result<(), Error>
+    ensures accounted { OnOk result (StaysAccounted progress.old progress.new err.old err.new) }
+    ensures stopped { IsStopped out.new result }
+{
+    let style = options.style;
+    let texts = &mut progress.texts;
+    match enumeration_text(alloc, definitions, index, style, form, texts) {
+        Ok(Some(text)) => write_enumeration(&text, options, form, progress, out),
+        Ok(None) => tell_index(alloc, index, NO_CLASS, progress, err),
         Err(fault) => tell_fault(alloc, index, &fault, progress, err),
     }
 }
@@ -130,7 +191,7 @@ fn show_type<O: Write, E: Write>(
                 err,
             )
         }
-        Ok(None) => tell_index(alloc, index, NO_CLASS, progress, err),
+        Ok(None) => show_enumeration(alloc, definitions, index, options, form, progress, out, err),
         Err(fault) => tell_fault(alloc, index, &fault, progress, err),
     }
 }
@@ -168,7 +229,7 @@ fn show_types<O: Write, E: Write>(
 fn number_of(layout: &Layout<'_>, order: Order) -> u64 {
     match order {
         Order::Size => layout.size,
-        Order::Holes => totals_of(&layout.gaps).hole_bytes,
+        Order::Holes => totals_of(layout).hole_bytes,
         Order::Name => 0,
     }
 }
@@ -186,20 +247,34 @@ fn rank_number(
     }
     match class_layout(alloc, definitions, index) {
         Ok(Some(layout)) => Ok(number_of(&layout, order)),
+        Ok(None) if order == Order::Size => known_size(alloc, definitions, index),
         Err(Error::OutOfMemory) => Err(AllocError),
         Ok(None) | Err(_) => Ok(0),
     }
 }
 
-/// Returns the name by which a type is sorted, which is empty if it is no class or union.
+/// Returns the size of a type, which is 0 if nothing says it.
+fn known_size(
+    alloc: Global,
+    definitions: &Definitions<'_>,
+    index: TypeIndex,
+) -> Result<u64, AllocError> {
+    match definitions.size_of(alloc, index) {
+        Ok(size) => Ok(size.unwrap_or(0)),
+        Err(Error::OutOfMemory) => Err(AllocError),
+        Err(_) => Ok(0),
+    }
+}
+
+/// Returns the name by which a type is sorted, which is empty if it has none.
 fn rank_name<'t>(
     alloc: Global,
     definitions: &Definitions<'t>,
     index: TypeIndex,
 ) -> Result<&'t [u8], AllocError> {
     match type_at(alloc, definitions.types(), index) {
-        Ok(value) => match class_of(&value) {
-            Some(class) => Ok(class.name.as_bytes()),
+        Ok(value) => match value.name() {
+            Some(name) => Ok(name.as_bytes()),
             None => Ok(b""),
         },
         Err(Error::OutOfMemory) => Err(AllocError),
@@ -260,6 +335,7 @@ fn find_name<O: Write, E: Write>(
     alloc: Global,
     definitions: &Definitions<'_>,
     name: &str,
+    case: LetterCase,
     form: Form,
     found: &mut Vec<TypeIndex>,
     progress: &mut Progress,
@@ -269,21 +345,23 @@ fn find_name<O: Write, E: Write>(
     ensures accounted { OnOk result (StaysAccounted progress.old progress.new err.old err.new) }
     ensures stopped { IsStopped out.new result }
 {
-    let types = types_named(alloc, definitions, name)?;
+    let types = types_named(alloc, definitions, name, case)?;
     if !types.is_empty() {
         found.extend_from_slice(&types)?;
         return Ok(());
     }
-    let line = member_line(
+    let line = path_line(
         alloc,
         definitions,
         name.as_bytes(),
+        case,
         form,
         &mut progress.records,
+        &mut progress.texts,
     );
     match line {
-        Ok(Some(line)) => out.write(&line),
-        Ok(None) => tell(alloc, name.as_bytes(), NO_NAME, progress, err),
+        Ok(PathLine::Member(line)) => out.write(&line),
+        Ok(PathLine::Missing(why)) => tell(alloc, name.as_bytes(), &why, progress, err),
         Err(Error::OutOfMemory) => Err(Error::OutOfMemory),
         Err(fault) => {
             let why = error_text(alloc, &fault)?;
@@ -297,6 +375,7 @@ fn find_names<O: Write, E: Write>(
     alloc: Global,
     definitions: &Definitions<'_>,
     names: &[&str],
+    case: LetterCase,
     form: Form,
     found: &mut Vec<TypeIndex>,
     progress: &mut Progress,
@@ -307,7 +386,17 @@ fn find_names<O: Write, E: Write>(
     ensures stopped { IsStopped out.new result }
 {
     for name in names {
-        find_name(alloc, definitions, name, form, found, progress, out, err)?;
+        find_name(
+            alloc,
+            definitions,
+            name,
+            case,
+            form,
+            found,
+            progress,
+            out,
+            err,
+        )?;
     }
     Ok(())
 }
@@ -400,6 +489,7 @@ fn show_asked<O: Write, E: Write>(
         alloc,
         definitions,
         names,
+        options.case,
         form,
         &mut found,
         progress,
@@ -419,20 +509,6 @@ fn show_asked<O: Write, E: Write>(
         err,
     )?;
     tell_depth(alloc, progress, err)
-}
-
-/// Returns the table in a stream, which knows where all its types are.
-///
-/// # Errors
-/// Fails with the errors of `TypeInformation::parse`, and with `OutOfMemory` if an allocation fails.
-pub fn learn_table(alloc: Global, stream: Stream) -> Result<OpenTable<TypeIndex>, Error>
-    ensures { Answers (λ types. types.table) result (table_of stream) }
-{
-    let table = TypeInformation::parse(stream)?;
-    let last = table.header().maximum_index.saturating_sub(1);
-    let mut types = OpenTable::new(alloc, table)?;
-    types.learn(TypeIndex(last));
-    Ok(types)
 }
 
 /// Shows the layouts of classes of the table in a stream: of all, or of those that names mean, in

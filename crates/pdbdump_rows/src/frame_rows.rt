@@ -8,9 +8,11 @@ ghost use Rattle.std.specs.Prelude.{[]};
 use crate::line::{Line, LineResult};
 use crate::names::{
     CODE_SIZE, CODE_START, HAS_CPP_EH, HAS_STRUCTURED_EH, IS_FUNCTION_START, LOCALS_SIZE,
-    MAX_STACK_SIZE, PARAMS_SIZE, PROGRAM, PROLOG_SIZE, SAVED_REGS_SIZE, TY, USES_BASE_POINTER,
+    MAX_STACK_SIZE, PARAMS_SIZE, PROGRAM, PROGRAM_OFFSET, PROLOG_SIZE, SAVED_REGS_SIZE, TY,
+    USES_BASE_POINTER,
 };
 use crate::value::{Value, optional_number};
+use pdb_base::RawString;
 use pdb_frames::{FrameData, FrameType};
 use pdb_space::StringRef;
 
@@ -26,20 +28,27 @@ fn frame_word(kind: FrameType) -> &'static str {
     }
 }
 
-/// Returns the value of the offset of a frame's program in the string table, or `Absent` if it has
-/// none.
-fn program<'t>(place: Option<StringRef>) -> Value<'t> {
-    match place {
-        Some(place) => Value::Hexadecimal(place.0),
-        None => Value::Absent,
+/// Adds the program of a frame, if it has one: its text, or its offset in the string table if the
+/// text is not known.
+fn show_program(
+    line: &mut Line,
+    place: Option<StringRef>,
+    program: Option<RawString<'_>>,
+) -> LineResult
+    ensures { ShowsRow [] line.old line.new result }
+{
+    match (program, place) {
+        (Some(program), _) => line.field(PROGRAM, Value::Text(program)),
+        (None, Some(place)) => line.field(PROGRAM_OFFSET, Value::Hexadecimal(place.0)),
+        (None, None) => Ok(()),
     }
 }
 
-/// Adds the fields of a frame.
+/// Adds the fields of a frame, with the text of its program, if that is known.
 ///
 /// # Errors
 /// Fails if an allocation fails.
-pub fn show_frame(line: &mut Line, frame: &FrameData) -> LineResult
+pub fn show_frame(line: &mut Line, frame: &FrameData, program: Option<RawString<'_>>) -> LineResult
     ensures { ShowsRow [] line.old line.new result }
 {
     line.field(CODE_START, Value::Hexadecimal(frame.code_start.0))?;
@@ -54,6 +63,5 @@ pub fn show_frame(line: &mut Line, frame: &FrameData) -> LineResult
     line.field(HAS_CPP_EH, Value::Flag(frame.has_cpp_eh))?;
     line.field(IS_FUNCTION_START, Value::Flag(frame.is_function_start))?;
     line.field(USES_BASE_POINTER, Value::Flag(frame.uses_base_pointer))?;
-    line.field(PROGRAM, program(frame.program))?;
-    Ok(())
+    show_program(line, frame.program, program)
 }

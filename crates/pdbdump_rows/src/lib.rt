@@ -16,7 +16,9 @@ mod push;
 mod refused;
 mod section_rows;
 mod text;
+mod type_fields;
 mod type_rows;
+mod type_texts;
 mod value;
 mod words;
 
@@ -30,4 +32,5 @@ pub use refused::{error_text, show_error};
 pub use section_rows::show_section;
 pub use text::push_text;
 pub use type_rows::{show_listed_method, show_type};
+pub use type_texts::TypeTexts;
 pub use value::{Flag, Value, optional_hexadecimal, optional_number, optional_text, optional_word};

@@ -7,6 +7,7 @@ ghost use Rattle.pdbdump_rows.specs.Row.{value_shown};
 
 use crate::form::Form;
 use crate::push::{is_shown, push_end, push_line, push_next};
+use crate::type_texts::TypeTexts;
 use crate::value::Value;
 use pdb_base::Error;
 use pdb_output::Output;
@@ -28,6 +29,9 @@ pub struct Line {
     is_full: bool,
     bytes: Vec<u8>,
     is_empty: bool,
+
+    /// The texts of the types whose indexes it shows, if they are shown too.
+    pub(crate) texts: Option<TypeTexts>,
 }
 
 impl Model for Line {
@@ -53,7 +57,20 @@ impl Line {
             is_full: false,
             bytes: Vec::new(alloc),
             is_empty: true,
+            texts: None,
         }
+    }
+
+    /// Shows these texts beside the indexes of types, in this line and those that follow.
+    pub fn show_texts(&mut self, texts: TypeTexts)
+        ensures { self.new ≡ self.old }
+    {
+        self.texts = Some(texts);
+    }
+
+    /// Returns the form of the line.
+    pub(crate) fn form(&self) -> Form {
+        self.form
     }
 
     /// Begins another line. What was written so far is gone.

@@ -1,5 +1,17 @@
 //! The names of the fields of records. Each has the name of the field or the method that says it.
 
+use crate::type_fields::TypeField;
+
+/// A field with the index of a type, by its name and that of the field with its text.
+macro_rules! type_field {
+    ($name:literal, $text_name:literal) => {
+        TypeField {
+            name: $name,
+            text_name: $text_name,
+        }
+    };
+}
+
 pub const ACCESS: &str = "access";
 
 pub const ALIGNMENT: &str = "alignment";
@@ -10,9 +22,9 @@ pub const ARGUMENT_LIST: &str = "argument_list";
 
 pub const ATTRIBUTES: &str = "attributes";
 
-pub const BASE_CLASS: &str = "base_class";
+pub(crate) const BASE_CLASS: TypeField = type_field!("base_class", "base_class_text");
 
-pub const BASE_POINTER: &str = "base_pointer";
+pub(crate) const BASE_POINTER: TypeField = type_field!("base_pointer", "base_pointer_text");
 
 pub const BASE_POINTER_OFFSET: &str = "base_pointer_offset";
 
@@ -20,13 +32,16 @@ pub const CALLING_CONVENTION: &str = "calling_convention";
 
 pub const CHARACTERISTICS: &str = "characteristics";
 
-pub const CLASS_TYPE: &str = "class_type";
+pub(crate) const CLASS_TYPE: TypeField = type_field!("class_type", "class_type_text");
 
 pub const CODE_SIZE: &str = "code_size";
 
 pub const CODE_START: &str = "code_start";
 
-pub const CONTAINING_CLASS: &str = "containing_class";
+pub(crate) const CONTAINING_CLASS: TypeField = type_field!(
+    "containing_class",
+    "containing_class_text"
+);
 
 pub const CONTINUATION: &str = "continuation";
 
@@ -40,13 +55,13 @@ pub const DIMENSIONS: &str = "dimensions";
 
 pub const DIRECT: &str = "direct";
 
-pub const ELEMENT_TYPE: &str = "element_type";
+pub(crate) const ELEMENT_TYPE: TypeField = type_field!("element_type", "element_type_text");
 
 pub const ERROR: &str = "error";
 
 pub const FIELDS: &str = "fields";
 
-pub const FIELD_TYPE: &str = "field_type";
+pub(crate) const FIELD_TYPE: TypeField = type_field!("field_type", "field_type_text");
 
 pub const FUNCTION_TYPE: &str = "function_type";
 
@@ -58,7 +73,7 @@ pub const HFA: &str = "hfa";
 
 pub const INDEX: &str = "index";
 
-pub const INDEXING_TYPE: &str = "indexing_type";
+pub(crate) const INDEXING_TYPE: TypeField = type_field!("indexing_type", "indexing_type_text");
 
 pub const INDIRECTION: &str = "indirection";
 
@@ -78,7 +93,7 @@ pub const METHODS: &str = "methods";
 
 pub const METHOD_LIST: &str = "method_list";
 
-pub const METHOD_TYPE: &str = "method_type";
+pub(crate) const METHOD_TYPE: TypeField = type_field!("method_type", "method_type_text");
 
 pub const MOCOM: &str = "mocom";
 
@@ -88,7 +103,7 @@ pub const MODULE: &str = "module";
 
 pub const NAME: &str = "name";
 
-pub const NESTED_TYPE: &str = "nested_type";
+pub(crate) const NESTED_TYPE: TypeField = type_field!("nested_type", "nested_type_text");
 
 pub const NUMBER: &str = "number";
 
@@ -120,11 +135,13 @@ pub const PRIMITIVE_KIND: &str = "primitive_kind";
 
 pub const PROGRAM: &str = "program";
 
+pub const PROGRAM_OFFSET: &str = "program_offset";
+
 pub const PROLOG_SIZE: &str = "prolog_size";
 
 pub const PROPERTIES: &str = "properties";
 
-pub const RETURN_TYPE: &str = "return_type";
+pub(crate) const RETURN_TYPE: TypeField = type_field!("return_type", "return_type_text");
 
 pub const SAVED_REGS_SIZE: &str = "saved_regs_size";
 
@@ -148,13 +165,19 @@ pub const TARGET_ADDRESS: &str = "target_address";
 
 pub const THIS_ADJUSTMENT: &str = "this_adjustment";
 
-pub const THIS_POINTER_TYPE: &str = "this_pointer_type";
+pub(crate) const THIS_POINTER_TYPE: TypeField = type_field!(
+    "this_pointer_type",
+    "this_pointer_type_text"
+);
 
 pub const TY: &str = "ty";
 
 pub const UDT: &str = "udt";
 
-pub const UNDERLYING_TYPE: &str = "underlying_type";
+pub(crate) const UNDERLYING_TYPE: TypeField = type_field!(
+    "underlying_type",
+    "underlying_type_text"
+);
 
 pub const UNIQUE_NAME: &str = "unique_name";
 

@@ -14,10 +14,10 @@ abbrev pub IsIdentity : Form → List ℕ → Type 0
 IsIdentity forms.Text text = ⊤
 IsIdentity forms.Json text = IsRow (row_text forms.Json) [] text
 
--- the key of a file in upper case
-abbrev pub upper_key_of : Identity → List ℕ
-upper_key_of identity = upper_key identity.guid (age_of identity)
+-- Whether a text is the key of a GUID and an age, in either case.
+abbrev pub IsKeyOf : List ℕ → ℕ → List ℕ → Type 0
+IsKeyOf guid age word = map to_ascii_lowercase word ≡ map to_ascii_lowercase (upper_key guid age)
 
--- Whether a text is the key of a file, in either case.
+-- Whether a text is the key of a file.
 abbrev pub IsKey : List ℕ → Identity → Type 0
-IsKey word identity = map to_ascii_lowercase word ≡ map to_ascii_lowercase (upper_key_of identity)
+IsKey word identity = IsKeyOf identity.guid (age_of identity) word

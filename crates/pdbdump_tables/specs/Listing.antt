@@ -7,7 +7,7 @@ use Rattle.pdb_output.specs.Output.{OutputState}
 use Rattle.pdbdump_rows.specs.declared.form.Form.{Form}
 use Rattle.pdbdump_rows.specs.Line.{WritesWhat}
 use Rattle.pdbdump_rows.specs.Row.{ShownRow}
-use Rattle.pdbdump_rows.specs.Rows.{AreRows}
+use Rattle.pdbdump_rows.specs.Rows.{AreRows, WritesLines}
 
 -- What each row up to the first fault begins with, and the refusal behind them, if there is one.
 pub record Listing : Type 0 where
@@ -51,3 +51,7 @@ IsListed form listing old new (Ok done) =
 IsListed form listing old new (Err e) =
     ((listing.end ≡ Err (refusal_of e)) × WritesWhat (AreRows form listing.rows) old new (Ok tt))
     ⊎ WritesWhat (AreRows form listing.rows) old new (Err e)
+
+-- Lines of what was read were written; or they were cut short, as the result says.
+abbrev pub ListsLines : Form → OutputState → OutputState → Result (Unit {0}) Error → Type 0
+ListsLines form old new result = WritesLines form old new (Ok tt) ⊎ WritesLines form old new result

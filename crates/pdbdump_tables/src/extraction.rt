@@ -177,7 +177,7 @@ fn at_most(bytes: &[u8], limit: usize) -> &[u8]
 
 /// Returns a part of the bytes of a stream: those after the first `skip`, and of these at most
 /// `limit`.
-fn part_of(bytes: &[u8], skip: u32, limit: Option<u32>) -> &[u8]
+pub(crate) fn part_of(bytes: &[u8], skip: u32, limit: Option<u32>) -> &[u8]
     ensures { result.now ≡ part_of skip limit bytes.now }
 {
     let rest = after(bytes, skip as usize);

@@ -7,6 +7,7 @@ ghost use Rattle.pdbdump_tables.specs.Listing.{IsListed, whole};
 ghost use Rattle.pdbdump_tables.specs.Reading.{Reads, WritesRead};
 ghost use Rattle.pdbdump_tables.specs.Tables.{all_names, frames_listing, name_rows, sections_listing};
 
+use crate::frame_programs::Programs;
 use crate::frames::write_frames;
 use crate::names::write_table;
 use crate::sections::write_sections;
@@ -108,7 +109,8 @@ pub fn list_frames<S: Source + Drop, W: Write>(
         (λ frames. IsListed form (frames_listing frames)) out.old out.new result }
 {
     let table = file.frame_table(alloc)?;
-    write_frames(alloc, &table, form, out)
+    let mut programs = Programs::of_file(alloc, &mut file)?;
+    write_frames(alloc, &table, &mut programs, form, out)
 }
 
 /// Reads the frames of two streams, each of which may be absent.
@@ -145,5 +147,6 @@ pub fn list_frames_in<S: Source + Drop, W: Write>(
         (λ frames. IsListed form (frames_listing frames)) out.old out.new result }
 {
     let table = frame_table_in(alloc, &mut file, old, new)?;
-    write_frames(alloc, &table, form, out)
+    let mut programs = Programs::of_file(alloc, &mut file)?;
+    write_frames(alloc, &table, &mut programs, form, out)
 }

@@ -3,6 +3,7 @@
 ghost use Rattle.pdbdump_tables.specs.Listing.{IsListed};
 ghost use Rattle.pdbdump_tables.specs.Tables.{frames_listing};
 
+use crate::frame_programs::Programs;
 use pdb_base::{FallibleIterator, Result};
 use pdb_frames::FrameTable;
 use pdb_output::Output;
@@ -11,13 +12,15 @@ use std::alloc::Global;
 use std::io::Write;
 
 /// Lists the frames of a table, by their starts, as `FrameTable::iter` yields them: if an old and a
-/// new record start at the same address, only the new one.
+/// new record start at the same address, only the new one. A program is shown by its text, if that is
+/// known.
 ///
 /// # Errors
 /// Fails with `IoError` if the writer fails, and with `OutOfMemory` if an allocation fails.
-pub fn write_frames<W: Write>(
+pub(crate) fn write_frames<W: Write>(
     alloc: Global,
     table: &FrameTable,
+    programs: &mut Programs,
     form: Form,
     out: &mut Output<W>,
 ) -> Result<()>
@@ -27,7 +30,8 @@ pub fn write_frames<W: Write>(
     let mut frames = table.iter();
     while let Ok(Some(frame)) = frames.next() {
         line.begin(form);
-        let added = show_frame(&mut line, &frame);
+        let program = programs.known_text(frame.program);
+        let added = show_frame(&mut line, &frame, program);
         write_line(added, &mut line, out)?;
     }
     Ok(())

@@ -5,27 +5,29 @@
 ghost use Rattle.std.specs.Prelude.{◌≡◌, ◌↔◌, [], string_bytes, IsTrue, IfOk};
 ghost use Rattle.pdbdump_rows.specs.Line.{IsRow, ShowsRow, WritesWhat};
 ghost use Rattle.pdbdump_rows.specs.Lines.{row_text};
-ghost use Rattle.pdbdump_tables.specs.Identity.{IsIdentity, IsKey, upper_key_of};
+ghost use Rattle.pdb_identity.specs.Key.{upper_key};
+ghost use Rattle.pdbdump_tables.specs.Identity.{IsIdentity, IsKey};
 
 use pdb_base::{Error, RawString};
 use pdb_file::Features;
-use pdb_identity::Identity;
+use pdb_identity::{Identity, LowerKey, UpperKey};
 use pdb_output::Output;
 use pdbdump_rows::{Flag, Form, Line, LineResult, Value, push_text, write_line};
 use std::alloc::{AllocError, Global};
 use std::io::Write;
+use uuid::Uuid;
 
 // The names of the fields.
 
 const FEATURES: &str = "features";
 
-const NAME: &str = "name";
+pub(crate) const NAME: &str = "name";
 
-const FORMAT: &str = "format";
+pub(crate) const FORMAT: &str = "format";
 
-const GUID: &str = "guid";
+pub(crate) const GUID: &str = "guid";
 
-const AGE: &str = "age";
+pub(crate) const AGE: &str = "age";
 
 const AGE_FROM: &str = "age_from";
 
@@ -35,13 +37,13 @@ const SIGNATURE: &str = "signature";
 
 const VERSION: &str = "version";
 
-const MACHINE: &str = "machine";
+pub(crate) const MACHINE: &str = "machine";
 
-const CPU: &str = "cpu";
+pub(crate) const CPU: &str = "cpu";
 
 const STRIPPED: &str = "stripped";
 
-const KEY: &str = "key";
+pub(crate) const KEY: &str = "key";
 
 /// How the identity of a file is written as text.
 #[derive(Clone, Copy)]
@@ -72,31 +74,35 @@ fn store_path(alloc: Global, name: &str, key: &str) -> Result<Vec<u8>, AllocErro
 }
 
 /// Returns the path of a file in a symbol store as a line.
-fn upper_path(alloc: Global, name: &str, identity: &Identity) -> Result<Vec<u8>, AllocError> {
-    let key = key_text(alloc, identity)?;
+fn upper_path(alloc: Global, name: &str, key: UpperKey) -> Result<Vec<u8>, AllocError> {
+    let key = key_text(alloc, key)?;
     store_path(alloc, name, &key)
 }
 
 /// Returns the path of a file in a symbol store as a line in lower case.
-fn lower_path(alloc: Global, name: &str, identity: &Identity) -> Result<Vec<u8>, AllocError> {
+fn lower_path(alloc: Global, name: &str, key: UpperKey) -> Result<Vec<u8>, AllocError> {
     let name = name.to_ascii_lowercase(alloc)?;
-    let key = identity.lower_key();
+    let UpperKey { guid, age } = key;
+    let key = LowerKey { guid, age };
     let key = format!(in alloc; "{key}")?;
     store_path(alloc, &name, &key)
 }
 
-/// Returns the key of a file as text.
-fn key_text(alloc: Global, identity: &Identity) -> Result<String, AllocError>
-    ensures { IfOk result (λ text. string_bytes text ≡ upper_key_of identity.now) }
+/// Returns a key as text.
+pub(crate) fn key_text(alloc: Global, key: UpperKey) -> Result<String, AllocError>
+    ensures { IfOk result (λ text. string_bytes text ≡ upper_key key.guid key.age) }
 {
-    let key = identity.key();
     Ok(format!(in alloc; "{key}")?)
 }
 
 /// Returns the line of a file that its symbol file of Breakpad begins with.
-fn breakpad_line(alloc: Global, name: &str, identity: &Identity) -> Result<Vec<u8>, AllocError> {
-    let key = key_text(alloc, identity)?;
-    let cpu = identity.cpu();
+fn breakpad_line(
+    alloc: Global,
+    name: &str,
+    key: UpperKey,
+    cpu: &str,
+) -> Result<Vec<u8>, AllocError> {
+    let key = key_text(alloc, key)?;
     let mut line = format!(in alloc; "MODULE windows {cpu} {key} ")?.into_bytes();
     push_text(Form::Text, name.as_bytes(), &mut line)?;
     line.push(b'\n')?;
@@ -104,24 +110,25 @@ fn breakpad_line(alloc: Global, name: &str, identity: &Identity) -> Result<Vec<u
 }
 
 /// Returns the GUID of a file as a line.
-fn guid_line(alloc: Global, identity: &Identity) -> Result<Vec<u8>, AllocError> {
+fn guid_line(alloc: Global, guid: Uuid) -> Result<Vec<u8>, AllocError> {
     let mut buffer = [0u8; 36];
-    let guid = identity.guid.hyphenated().encode_upper(&mut buffer);
+    let guid = guid.hyphenated().encode_upper(&mut buffer);
     Ok(format!(in alloc; "{guid}\n")?.into_bytes())
 }
 
-/// Returns the line of a file's identity in a style.
-fn key_line(
+/// Returns the line of a file's key in a style. The name of the machine is that of Breakpad.
+pub(crate) fn key_line(
     alloc: Global,
     style: KeyStyle,
     name: &str,
-    identity: &Identity,
+    key: UpperKey,
+    cpu: &str,
 ) -> Result<Vec<u8>, AllocError> {
     match style {
-        KeyStyle::Key => upper_path(alloc, name, identity),
-        KeyStyle::Ssqp => lower_path(alloc, name, identity),
-        KeyStyle::Breakpad => breakpad_line(alloc, name, identity),
-        KeyStyle::Guid => guid_line(alloc, identity),
+        KeyStyle::Key => upper_path(alloc, name, key),
+        KeyStyle::Ssqp => lower_path(alloc, name, key),
+        KeyStyle::Breakpad => breakpad_line(alloc, name, key, cpu),
+        KeyStyle::Guid => guid_line(alloc, key.guid),
     }
 }
 
@@ -210,7 +217,7 @@ fn write_object<W: Write>(
 {
     let mut buffer = [0u8; 36];
     let guid = identity.guid.hyphenated().encode_upper(&mut buffer);
-    let key = key_text(alloc, identity)?;
+    let key = key_text(alloc, identity.key())?;
     let mut line = Line::new(alloc);
     line.begin(Form::Json);
     let added = show_identity(&mut line, name, identity, guid, &key);
@@ -227,7 +234,7 @@ fn write_key<W: Write>(
 ) -> Result<(), Error>
     ensures { WritesWhat (IsIdentity Form.Text) out.old out.new result }
 {
-    let line = key_line(alloc, style, name, identity)?;
+    let line = key_line(alloc, style, name, identity.key(), identity.cpu())?;
     out.write(&line)
 }
 
@@ -259,6 +266,6 @@ pub fn write_identity<W: Write>(
 pub fn is_key(alloc: Global, word: &str, identity: &Identity) -> Result<bool, AllocError>
     ensures { IfOk result (λ is_key. IsTrue is_key ↔ IsKey word.now identity.now) }
 {
-    let key = key_text(alloc, identity)?;
+    let key = key_text(alloc, identity.key())?;
     Ok(word.eq_ignore_ascii_case(&key))
 }

@@ -7,10 +7,44 @@ ghost use Rattle.pdbdump_rows.specs.Line.{EndsRow, ShowsRow, indexed};
 ghost use Rattle.pdbdump_rows.specs.Lines.{row_text};
 
 use crate::refused_record::{ItemPlace, show_refused};
-use pdb_base::{Error, IdIndex, TypeIndex};
+use pdb_base::{Error, IdIndex, Result, TypeIndex};
 use pdb_tpi::Item;
+use pdb_values::{IdData, TypeData};
 use pdbdump_rows::{Form, Line, LineResult, show_id, show_type};
 use std::alloc::{AllocError, Global};
+
+/// The head of a record, and where it is.
+#[derive(Clone, Copy)]
+pub(crate) struct RecordHead {
+    /// The index of its type or id.
+    pub(crate) index: u32,
+
+    /// The number of its kind.
+    pub(crate) leaf: u16,
+
+    /// Where it is.
+    pub(crate) place: ItemPlace,
+}
+
+/// Adds the fields of the type of a record, or of why it can't be parsed.
+///
+/// # Errors
+/// Fails if an allocation fails, or if that is why.
+pub(crate) fn show_parsed_type(
+    alloc: Global,
+    head: RecordHead,
+    parsed: &Result<TypeData<'_>>,
+    line: &mut Line,
+) -> LineResult
+    ensures { ShowsRow (indexed head.index) line.old line.new result }
+{
+    let RecordHead { index, leaf, place } = head;
+    match parsed {
+        Ok(value) => show_type(alloc, line, index, leaf, value),
+        Err(Error::OutOfMemory) => Err(AllocError),
+        Err(fault) => show_refused(alloc, line, index, leaf, place, fault),
+    }
+}
 
 /// Adds the fields of the type of an item, or of why it can't be parsed.
 fn show_type_item(
@@ -21,13 +55,13 @@ fn show_type_item(
 ) -> LineResult
     ensures { ShowsRow (indexed (index_of item.now).0) line.old line.new result }
 {
-    let index = item.index().0;
-    let leaf = item.raw_kind();
-    match item.parse(alloc) {
-        Ok(value) => show_type(alloc, line, index, leaf, &value),
-        Err(Error::OutOfMemory) => Err(AllocError),
-        Err(fault) => show_refused(alloc, line, index, leaf, place, &fault),
-    }
+    let head = RecordHead {
+        index: item.index().0,
+        leaf: item.raw_kind(),
+        place,
+    };
+    let parsed = item.parse(alloc);
+    show_parsed_type(alloc, head, &parsed, line)
 }
 
 /// Makes the line of a type.
@@ -49,6 +83,26 @@ pub(crate) fn make_type(
     line.finish(added)
 }
 
+/// Adds the fields of the id of a record, or of why it can't be parsed.
+///
+/// # Errors
+/// Fails if an allocation fails, or if that is why.
+pub(crate) fn show_parsed_id(
+    alloc: Global,
+    head: RecordHead,
+    parsed: &Result<IdData<'_>>,
+    line: &mut Line,
+) -> LineResult
+    ensures { ShowsRow (indexed head.index) line.old line.new result }
+{
+    let RecordHead { index, leaf, place } = head;
+    match parsed {
+        Ok(value) => show_id(alloc, line, index, leaf, value),
+        Err(Error::OutOfMemory) => Err(AllocError),
+        Err(fault) => show_refused(alloc, line, index, leaf, place, fault),
+    }
+}
+
 /// Adds the fields of the id of an item, or of why it can't be parsed.
 fn show_id_item(
     alloc: Global,
@@ -58,13 +112,13 @@ fn show_id_item(
 ) -> LineResult
     ensures { ShowsRow (indexed (index_of item.now).0) line.old line.new result }
 {
-    let index = item.index().0;
-    let leaf = item.raw_kind();
-    match item.parse(alloc) {
-        Ok(value) => show_id(alloc, line, index, leaf, &value),
-        Err(Error::OutOfMemory) => Err(AllocError),
-        Err(fault) => show_refused(alloc, line, index, leaf, place, &fault),
-    }
+    let head = RecordHead {
+        index: item.index().0,
+        leaf: item.raw_kind(),
+        place,
+    };
+    let parsed = item.parse(alloc);
+    show_parsed_id(alloc, head, &parsed, line)
 }
 
 /// Makes the line of an id.

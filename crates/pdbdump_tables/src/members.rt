@@ -65,13 +65,13 @@ fn push_entries(
     form: Form,
     fields: &[TypeData<'_>],
     underlying_type: Option<TypeIndex>,
+    line: &mut Line,
     lines: &mut Vec<u8>,
 ) -> Result<()>
     ensures { AddsText (AreLines form) lines.old.items lines.new.items result }
 {
-    let mut line = Line::new(alloc);
     for field in fields {
-        push_entry(alloc, form, field, underlying_type, &mut line, lines)?;
+        push_entry(alloc, form, field, underlying_type, line, lines)?;
     }
     Ok(())
 }
@@ -94,16 +94,15 @@ fn push_method(
 /// Appends a line for each method.
 #[tactic(auto, using(pdbdump_rows::proofs::lemmas::Rows::lines_none_added, pdbdump_rows::proofs::lemmas::Rows::line_added))]
 fn push_methods(
-    alloc: Global,
     form: Form,
     methods: &[MethodListEntry],
+    line: &mut Line,
     lines: &mut Vec<u8>,
 ) -> Result<()>
     ensures { AddsText (AreLines form) lines.old.items lines.new.items result }
 {
-    let mut line = Line::new(alloc);
     for method in methods {
-        push_method(form, *method, &mut line, lines)?;
+        push_method(form, *method, line, lines)?;
     }
     Ok(())
 }
@@ -116,12 +115,13 @@ fn push_list(
     types: &OpenTable<TypeIndex>,
     list: TypeIndex,
     underlying_type: Option<TypeIndex>,
+    line: &mut Line,
     lines: &mut Vec<u8>,
 ) -> Result<()>
     ensures { Pushes form result lines.old.items lines.new.items (fields_end types.now.table list.0) }
 {
     let fields = types.fields(alloc, list)?;
-    push_entries(alloc, form, fields.as_slice(), underlying_type, lines)?;
+    push_entries(alloc, form, fields.as_slice(), underlying_type, line, lines)?;
     Ok(())
 }
 
@@ -147,7 +147,7 @@ fn underlying_type(value: &TypeData<'_>) -> Option<TypeIndex> {
     }
 }
 
-/// Appends a line for each member of a type.
+/// Appends a line for each member of a type, made as this one, which shows the texts of types.
 ///
 /// # Errors
 /// Fails with the error of the lists of fields, or with `OutOfMemory` if an allocation fails.
@@ -158,16 +158,25 @@ pub(crate) fn push_members(
     types: &OpenTable<TypeIndex>,
     index: TypeIndex,
     value: &TypeData<'_>,
+    line: &mut Line,
     lines: &mut Vec<u8>,
 ) -> Result<()>
     ensures { Pushes form result lines.old.items lines.new.items
         (members_end types.now.table index.0 (type_value value.now)) }
 {
     if let TypeData::MethodList(list) = value {
-        return push_methods(alloc, form, &list.methods, lines);
+        return push_methods(form, &list.methods, line, lines);
     }
     match list_of_fields(index, value) {
-        Some(list) => push_list(alloc, form, types, list, underlying_type(value), lines),
+        Some(list) => push_list(
+            alloc,
+            form,
+            types,
+            list,
+            underlying_type(value),
+            line,
+            lines,
+        ),
         None => Ok(()),
     }
 }

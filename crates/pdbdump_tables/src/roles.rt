@@ -87,17 +87,25 @@ fn header_role(headers: &Headers, number: u32) -> Option<&'static str> {
     hash_role(headers, number)
 }
 
-/// Returns the role of a stream, if it has one. The roles of streams 1 to 4 are fixed, and the
-/// debug header and other headers give those of others.
-pub fn role_of(roles: &DBIExtraStreams, headers: &Headers, number: u32) -> Option<&'static str> {
+/// Returns the role of a stream whose role is fixed.
+pub(crate) fn fixed_role(number: u32) -> Option<&'static str> {
     match number {
         1 => Some("pdb_information"),
         2 => Some("types"),
         3 => Some("debug_information"),
         4 => Some("ids"),
-        _ => match listed_role(roles, number) {
-            Some(role) => Some(role),
-            None => header_role(headers, number),
-        },
+        _ => None,
+    }
+}
+
+/// Returns the role of a stream, if it has one. The roles of streams 1 to 4 are fixed, and the
+/// debug header and other headers give those of others.
+pub fn role_of(roles: &DBIExtraStreams, headers: &Headers, number: u32) -> Option<&'static str> {
+    if let Some(role) = fixed_role(number) {
+        return Some(role);
+    }
+    match listed_role(roles, number) {
+        Some(role) => Some(role),
+        None => header_role(headers, number),
     }
 }

@@ -9,8 +9,9 @@ ghost use Rattle.pdbdump_tables.specs.Records.{members_end, type_shown, type_sho
 ghost use Rattle.pdbdump_tables.specs.Listed.{IsTableListed, IsShown, IsWalked};
 
 use crate::item_line::make_type;
-use crate::members::{list_of_fields, push_members};
+use crate::members::push_members;
 use crate::refused_record::{ItemPlace, write_unread};
+use crate::shown_texts::texts_of;
 use pdb_base::{Error, FallibleIterator, Result, Stream, TypeIndex};
 use pdb_output::Output;
 use pdb_tpi::{OpenTable, TypeInformation};
@@ -67,34 +68,14 @@ pub fn types<W: Write>(
     list_types(alloc, &table, number, form, out)
 }
 
-/// Returns the list in which the fields of the type of an index begin.
-///
-/// # Errors
-/// Fails with the error of the look-up or the record, and with `OutOfMemory` if an allocation
-/// fails.
-fn list_at(
-    alloc: Global,
-    types: &OpenTable<TypeIndex>,
-    index: TypeIndex,
-) -> Result<Option<TypeIndex>> {
-    let value = types.item(index)?.parse(alloc)?;
-    Ok(list_of_fields(index, &value))
-}
-
-/// Opens a table for look-ups of the type of an index, and of the lists that hold its fields.
-fn open_table(
-    alloc: Global,
-    table: TypeInformation,
-    index: TypeIndex,
-) -> Result<OpenTable<TypeIndex>>
+/// Opens a table for look-ups of all its types.
+fn open_table(alloc: Global, table: TypeInformation) -> Result<OpenTable<TypeIndex>>
     ensures table { IfOk result (λ types. types.table ≡ table) }
     ensures memory { FailsOnlyForMemory result }
 {
+    let last = table.header().maximum_index.saturating_sub(1);
     let mut types = OpenTable::new(alloc, table)?;
-    types.learn(index);
-    if let Ok(Some(list)) = list_at(alloc, &types, index) {
-        types.learn(list);
-    }
+    types.learn(TypeIndex(last));
     Ok(types)
 }
 
@@ -115,7 +96,8 @@ fn make_full(
     line.finish(added)
 }
 
-/// Writes a type of a table in full, and then a line for each of its members.
+/// Writes a type of a table in full, with the texts of the types to which it refers, and then a line
+/// for each of its members.
 fn write_value<W: Write>(
     alloc: Global,
     types: &OpenTable<TypeIndex>,
@@ -129,10 +111,19 @@ fn write_value<W: Write>(
         out.old out.new result }
 {
     let mut line = Line::new(alloc);
+    line.show_texts(texts_of(alloc, types, TypeIndex(index), value, form)?);
     make_full(alloc, form, index, leaf, value, &mut line)?;
     out.write(line.as_bytes())?;
     let mut lines = Vec::new(alloc);
-    push_members(alloc, form, types, TypeIndex(index), value, &mut lines)?;
+    push_members(
+        alloc,
+        form,
+        types,
+        TypeIndex(index),
+        value,
+        &mut line,
+        &mut lines,
+    )?;
     out.write(&lines)?;
     Ok(())
 }
@@ -160,7 +151,8 @@ fn write_type<W: Write>(
 
 /// Looks up the type of an index in the table in a stream and writes it in full, and then a line
 /// for each of its members: the fields of a class, a union, an enumeration or a list of fields,
-/// through all lists that hold them, or the methods of a list.
+/// through all lists that hold them, or the methods of a list. Beside the index of a type that is no
+/// list its text is shown, if the table can be walked to its end.
 ///
 /// # Errors
 /// Fails with the error of the table or the look-up, before anything is written; with the error of
@@ -178,6 +170,6 @@ pub fn type_at<W: Write>(
     ensures { IsShown form index (type_shown_in index stream) out.old out.new result }
 {
     let table = TypeInformation::parse(stream)?;
-    let types = open_table(alloc, table, TypeIndex(index))?;
+    let types = open_table(alloc, table)?;
     write_type(alloc, &types, number, index, form, out)
 }

@@ -334,7 +334,17 @@ enum pdb_inconsistency {
     PDB_BUCKETS_CUT = 14,          /* the string table ends before its buckets do */
     PDB_NAME_OFFSET = 15,          /* a bucket's offset at which no name begins [the offset] */
     PDB_NAME_COUNT = 16,           /* the buckets hold another number of names [the table's] */
-    PDB_SECTIONS_OVERLAP = 17      /* a section begins below the end of the one before it */
+    PDB_SECTIONS_OVERLAP = 17,     /* a section begins below the end of the one before it */
+    PDB_FREE_PAGE_MAP = 18,        /* the free page map is neither 1 nor 2 [its number] */
+    PDB_PAGE_COUNT = 19,           /* more pages are in use than the file has [their number] */
+    PDB_UNKNOWN_VERSION = 20,      /* stream 1, stream 3 or a table has an unknown version [it] */
+    PDB_UNKNOWN_MACHINE = 21,      /* an unknown machine; a warning [its number] */
+    PDB_NAMED_STREAM_COUNT = 22,   /* the bits of the table of names are others [its count] */
+    PDB_RECORD_BYTES = 23,         /* the records do not end where the header says [the field] */
+    PDB_HASH_SIZE = 24,            /* no table has hashes or buckets so [the field] */
+    PDB_NO_HASH_STREAM = 25,       /* records without a hash stream; a warning */
+    PDB_HASH_PART = 26,            /* a part does not fit the hash stream [its size] */
+    PDB_NAME_UNREACHED = 27        /* the hash of a name leads to another bucket [the offset] */
 };
 
 /* What is wrong in a part of a file, and where. */
@@ -356,7 +366,8 @@ typedef struct pdb_finding {
 
 /* Writes what is wrong in a file: the first error of each part, or its first warning if it has no
  * error; or everything, unless `every` is 0. The file is whole exactly if nothing of it is an
- * error. */
+ * error: its types, ids, names, sections, addresses and frames, since modules and symbols are not
+ * read. */
 uint32_t pdb_validate(const uint8_t *file, size_t file_length, uint32_t every, pdb_finding *room,
                       size_t room_length, size_t *length, pdb_fault *fault);
 

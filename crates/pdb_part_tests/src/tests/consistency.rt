@@ -2,7 +2,7 @@
 
 use pdb_base::{Stream, TypeIndex};
 use pdb_consistency::{
-    Extent, Inconsistency, Mismatch, check_buckets, check_debug_sizes, check_hashes, check_pages,
+    Extent, Inconsistency, Mismatch, check_buckets, check_debug_header, check_hashes, check_pages,
     check_section_order, check_type_records,
 };
 use pdb_file::section_headers::section_headers;
@@ -35,9 +35,9 @@ const HASHES: &[u8] = b"\x03\0\0\0\x01\0\0\0\0\x10\0\0\0\0\0\0";
 const NAMES: &[u8] =
     b"\xfe\xef\xfe\xef\x01\0\0\0\x06\0\0\0\0a\0bc\0\x03\0\0\0\x03\0\0\0\0\0\0\0\x01\0\0\0\x02\0\0\0";
 
-/// Stream 3: a header that says that nothing follows it.
+/// Stream 3: a header of version 19990903, for x86-64, that says that nothing follows it.
 const DEBUG: &[u8] =
-    b"\xff\xff\xff\xff\0\0\0\0\0\0\0\0\0\0\0\0\0\0\0\0\0\0\0\0\0\0\0\0\0\0\0\0\0\0\0\0\0\0\0\0\0\0\0\0\0\0\0\0\0\0\0\0\0\0\0\0\0\0\0\0\0\0\0\0";
+    b"\xff\xff\xff\xff\x77\x09\x31\x01\0\0\0\0\0\0\0\0\0\0\0\0\0\0\0\0\0\0\0\0\0\0\0\0\0\0\0\0\0\0\0\0\0\0\0\0\0\0\0\0\0\0\0\0\0\0\0\0\0\0\x64\x86\0\0\0\0";
 
 /// Two sections of 0x1000 bytes each, at 0x1000 and 0x2000.
 const SECTIONS: &[u8] =
@@ -87,6 +87,8 @@ const DAMAGES: &[Damage] = rows! {
     // Within `bc`, and behind the names.
     Buckets, 0x16, 4, 5, None, 0x16, Inconsistency::NameOffset(4);
     Buckets, 0x16, 6, 5, None, 0x16, Inconsistency::NameOffset(6);
+    // The name `a` becomes `b`, whose hash leads to the first bucket, and the second one is empty.
+    Buckets, 0x0d, 0x62, 5, None, 0x1e, Inconsistency::NameUnreached(1);
     // The count of names, and one bucket more.
     Buckets, 0x22, 3, 5, None, 0x22, Inconsistency::NameCount(3);
     Buckets, 0x12, 4, 5, None, 0x26, Inconsistency::BucketsCut;
@@ -211,11 +213,37 @@ fn do_sections_overlap(rt: &impl Abort, alloc: Global) -> bool {
         && matches!(found.as_slice(), [it] if it.what == overlap && it.index == Some(1))
 }
 
-/// The changed byte is the size of the section contributions.
+/// Whether the names are where the hash of version 2 leads, and `e` in the place of `a` is not.
+fn are_newer_hashes(rt: &impl Abort, alloc: Global) -> bool {
+    let newer = stream(rt, alloc, NAMES, &[(4, 2)]);
+    let moved = stream(rt, alloc, NAMES, &[(4, 2), (0x0d, 0x65)]);
+    let whole = check_buckets(alloc, 5, newer.as_slice(), Extent::All).expect(rt, "memory");
+    let found = check_buckets(alloc, 5, moved.as_slice(), Extent::All).expect(rt, "memory");
+    let unreached = Inconsistency::NameUnreached(1);
+    whole.is_empty() && matches!(found.as_slice(), [it] if it.what == unreached)
+}
+
+/// Bytes of stream 3 that are set to others, and what is then inconsistent: nothing, the sizes once
+/// there are section contributions, the version and the machine.
+const DEBUG_DAMAGES: &[(&[(usize, u8)], Option<Inconsistency>)] = &[
+    (&[], None),
+    (&[(28, 1)], Some(Inconsistency::DebugSizes)),
+    (&[(4, 0x78)], Some(Inconsistency::UnknownVersion(19990904))),
+    (&[(58, 0x65)], Some(Inconsistency::UnknownMachine(0x8665))),
+];
+
+/// Returns what is inconsistent in the header of stream 3, of which some bytes are replaced.
+fn debug_mismatch(rt: &impl Abort, alloc: Global, edits: &[(usize, u8)]) -> Option<Inconsistency> {
+    let stream = stream(rt, alloc, DEBUG, edits);
+    let found = check_debug_header(alloc, &stream, Extent::All).expect(rt, "memory");
+    found.first().map(|mismatch| mismatch.what)
+}
+
 #[test]
 fn counts_and_sizes(rt: HostRuntime) {
     assert!(rt; has_few_hashes(&rt, rt.alloc()) && do_sections_overlap(&rt, rt.alloc()));
-    assert!(rt; check_debug_sizes(&stream(&rt, rt.alloc(), DEBUG, &[])).is_none());
-    let found = check_debug_sizes(&stream(&rt, rt.alloc(), DEBUG, &[(28, 1)]));
-    assert!(rt; matches!(found, Some(mismatch) if mismatch.what == Inconsistency::DebugSizes));
+    assert!(rt; are_newer_hashes(&rt, rt.alloc()));
+    for (edits, wanted) in DEBUG_DAMAGES {
+        assert!(rt; debug_mismatch(&rt, rt.alloc(), edits) == *wanted);
+    }
 }

@@ -93,10 +93,7 @@ enum Served {
 const MISUSED: u8 = 9;
 
 /// Returns the file in an input, which is read whole.
-pub(super) fn whole<I: Read>(
-    alloc: Global,
-    input: &mut I,
-) -> Result<InputFile<FileBytes<Vec<u8>>>> {
+fn whole<I: Read>(alloc: Global, input: &mut I) -> Result<InputFile<FileBytes<Vec<u8>>>> {
     InputFile::read_whole(alloc, input)
 }
 

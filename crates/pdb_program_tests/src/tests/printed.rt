@@ -9,10 +9,10 @@ use pdb_fixtures::{
 use std::alloc::Global;
 use std::test::Fail;
 
-pub const USAGE: &str =
+const USAGE: &str =
     "usage: pdbq stream N [LIMIT] | type S I | id S I | name S O | ranges S A B | fields S I\n";
 
-pub const ABSENT_2: &str = "The requested stream (2) is not stored in this file\n";
+pub(super) const ABSENT_2: &str = "The requested stream (2) is not stored in this file\n";
 
 const ABSENT_4: &str = "The requested stream (4) is not stored in this file\n";
 

@@ -24,7 +24,7 @@ const TYPES: &[&[u8]] = &[
 const ROLES: [u16; 11] = [10, NONE, NONE, 7, 8, 6, NONE, NONE, NONE, NONE, 5];
 
 /// The file that the uses are tried on, of whose streams the tenth is absent.
-pub(crate) fn build_file(alloc: Global) -> Result<Vec<u8>> {
+pub(super) fn build_file(alloc: Global) -> Result<Vec<u8>> {
     file_with(alloc, &ROLES, TYPES, Frames::OldAlone)
 }
 

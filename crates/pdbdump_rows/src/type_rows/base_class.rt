@@ -10,6 +10,7 @@ use crate::names::{
     ACCESS, ATTRIBUTES, BASE_CLASS, BASE_POINTER, BASE_POINTER_OFFSET, DIRECT, OFFSET, TABLE,
     VIRTUAL_BASE_OFFSET,
 };
+use crate::type_fields::show_type_field;
 use crate::value::{Value, optional_word, type_index};
 use crate::words::{access_word, field_flags};
 use pdb_values::{BaseClassType, VirtualBaseClassType, VirtualFunctionTablePointerType};
@@ -21,7 +22,7 @@ pub(crate) fn show_base_class(line: &mut Line, base: BaseClassType) -> LineResul
     let attributes = field_flags(base.attributes);
     line.field(ACCESS, optional_word(access_word(base.attributes)))?;
     line.field(ATTRIBUTES, Value::Words(&attributes))?;
-    line.field(BASE_CLASS, type_index(base.base_class))?;
+    show_type_field(line, BASE_CLASS, base.base_class)?;
     line.field(OFFSET, Value::Number(base.offset as u64))?;
     Ok(())
 }
@@ -34,8 +35,8 @@ pub(crate) fn show_virtual_base(line: &mut Line, base: VirtualBaseClassType) -> 
     line.field(DIRECT, Value::Flag(base.direct))?;
     line.field(ACCESS, optional_word(access_word(base.attributes)))?;
     line.field(ATTRIBUTES, Value::Words(&attributes))?;
-    line.field(BASE_CLASS, type_index(base.base_class))?;
-    line.field(BASE_POINTER, type_index(base.base_pointer))?;
+    show_type_field(line, BASE_CLASS, base.base_class)?;
+    show_type_field(line, BASE_POINTER, base.base_pointer)?;
     line.field(
         BASE_POINTER_OFFSET,
         Value::Number(base.base_pointer_offset as u64),

@@ -10,6 +10,7 @@ use crate::names::{
     ACCESS, ATTRIBUTES, COUNT, FIELDS, HFA, MOCOM, NAME, PROPERTIES, UNDERLYING_TYPE, UNIQUE_NAME,
     VALUE,
 };
+use crate::type_fields::show_type_field;
 use crate::value::{Value, nonzero, optional_text, optional_word, type_index};
 use crate::words::{access_word, field_flags, property_flags};
 use pdb_base::Variant;
@@ -25,7 +26,7 @@ pub(crate) fn show_enumeration(line: &mut Line, enumeration: &EnumerationType<'_
     line.field(PROPERTIES, Value::Words(&properties))?;
     line.field(HFA, nonzero(enumeration.properties.hfa()))?;
     line.field(MOCOM, nonzero(enumeration.properties.mocom()))?;
-    line.field(UNDERLYING_TYPE, type_index(enumeration.underlying_type))?;
+    show_type_field(line, UNDERLYING_TYPE, enumeration.underlying_type)?;
     line.field(FIELDS, type_index(enumeration.fields))?;
     line.field(UNIQUE_NAME, optional_text(enumeration.unique_name))?;
     Ok(())

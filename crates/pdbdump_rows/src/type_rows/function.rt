@@ -10,7 +10,8 @@ use crate::names::{
     ARGUMENT_LIST, ATTRIBUTES, CALLING_CONVENTION, CLASS_TYPE, PARAMETER_COUNT, RETURN_TYPE,
     THIS_ADJUSTMENT, THIS_POINTER_TYPE,
 };
-use crate::value::{Value, optional_type, type_index};
+use crate::type_fields::{show_optional_type, show_type_field};
+use crate::value::{Value, type_index};
 use crate::words::function_flags;
 use pdb_values::{MemberFunctionType, ProcedureType};
 
@@ -20,7 +21,7 @@ pub(crate) fn show_procedure(line: &mut Line, procedure: ProcedureType) -> LineR
 {
     let convention = procedure.attributes.calling_convention();
     let attributes = function_flags(procedure.attributes);
-    line.field(RETURN_TYPE, optional_type(procedure.return_type))?;
+    show_optional_type(line, RETURN_TYPE, procedure.return_type)?;
     line.field(CALLING_CONVENTION, Value::Number(convention as u64))?;
     line.field(ATTRIBUTES, Value::Words(&attributes))?;
     line.field(
@@ -37,9 +38,9 @@ pub(crate) fn show_member_function(line: &mut Line, function: MemberFunctionType
 {
     let convention = function.attributes.calling_convention();
     let attributes = function_flags(function.attributes);
-    line.field(RETURN_TYPE, type_index(function.return_type))?;
-    line.field(CLASS_TYPE, type_index(function.class_type))?;
-    line.field(THIS_POINTER_TYPE, optional_type(function.this_pointer_type))?;
+    show_type_field(line, RETURN_TYPE, function.return_type)?;
+    show_type_field(line, CLASS_TYPE, function.class_type)?;
+    show_optional_type(line, THIS_POINTER_TYPE, function.this_pointer_type)?;
     line.field(CALLING_CONVENTION, Value::Number(convention as u64))?;
     line.field(ATTRIBUTES, Value::Words(&attributes))?;
     line.field(

@@ -6,12 +6,13 @@ ghost use Rattle.std.specs.Prelude.{[]};
 ghost use Rattle.pdbdump_rows.specs.Line.{ShowsRow};
 
 use crate::line::{Line, LineResult};
-use crate::lists::{byte_numbers, method_numbers, type_numbers};
+use crate::lists::{byte_numbers, method_numbers};
 use crate::names::{
     ARGUMENTS, CONTINUATION, COUNT, DESCRIPTORS, DIMENSIONS, ELEMENT_TYPE, INDEXING_TYPE, METHODS,
     STRIDE,
 };
-use crate::value::{Value, optional_number, optional_type, type_index};
+use crate::type_fields::{show_type_field, show_type_list};
+use crate::value::{Value, optional_number, optional_type};
 use pdb_values::{ArgumentList, ArrayType, FieldList, MethodList, VirtualTableShapeType};
 use std::alloc::Global;
 
@@ -19,8 +20,8 @@ use std::alloc::Global;
 pub(crate) fn show_array(line: &mut Line, array: &ArrayType) -> LineResult
     ensures { ShowsRow [] line.old line.new result }
 {
-    line.field(ELEMENT_TYPE, type_index(array.element_type))?;
-    line.field(INDEXING_TYPE, type_index(array.indexing_type))?;
+    show_type_field(line, ELEMENT_TYPE, array.element_type)?;
+    show_type_field(line, INDEXING_TYPE, array.indexing_type)?;
     line.field(STRIDE, optional_number(array.stride))?;
     line.field(DIMENSIONS, Value::Numbers(&array.dimensions))?;
     Ok(())
@@ -39,9 +40,7 @@ pub(crate) fn show_field_list(line: &mut Line, list: &FieldList<'_>) -> LineResu
 pub(crate) fn show_argument_list(alloc: Global, line: &mut Line, list: &ArgumentList) -> LineResult
     ensures { ShowsRow [] line.old line.new result }
 {
-    let arguments = type_numbers(alloc, &list.arguments)?;
-    line.field(ARGUMENTS, Value::Indexes(&arguments))?;
-    Ok(())
+    show_type_list(alloc, line, ARGUMENTS, &list.arguments)
 }
 
 /// Adds the fields of a list of methods.

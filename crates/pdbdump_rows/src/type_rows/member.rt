@@ -7,7 +7,8 @@ ghost use Rattle.pdbdump_rows.specs.Line.{ShowsRow};
 
 use crate::line::{Line, LineResult};
 use crate::names::{ACCESS, ATTRIBUTES, FIELD_TYPE, NAME, NESTED_TYPE, OFFSET};
-use crate::value::{Value, optional_word, type_index};
+use crate::type_fields::show_type_field;
+use crate::value::{Value, optional_word};
 use crate::words::{access_word, field_flags};
 use pdb_values::{MemberType, NestedType, StaticMemberType};
 
@@ -19,7 +20,7 @@ pub(crate) fn show_member(line: &mut Line, member: &MemberType<'_>) -> LineResul
     line.field(NAME, Value::Text(member.name))?;
     line.field(ACCESS, optional_word(access_word(member.attributes)))?;
     line.field(ATTRIBUTES, Value::Words(&attributes))?;
-    line.field(FIELD_TYPE, type_index(member.field_type))?;
+    show_type_field(line, FIELD_TYPE, member.field_type)?;
     line.field(OFFSET, Value::Number(member.offset))?;
     Ok(())
 }
@@ -32,7 +33,7 @@ pub(crate) fn show_static_member(line: &mut Line, member: &StaticMemberType<'_>)
     line.field(NAME, Value::Text(member.name))?;
     line.field(ACCESS, optional_word(access_word(member.attributes)))?;
     line.field(ATTRIBUTES, Value::Words(&attributes))?;
-    line.field(FIELD_TYPE, type_index(member.field_type))?;
+    show_type_field(line, FIELD_TYPE, member.field_type)?;
     Ok(())
 }
 
@@ -44,6 +45,6 @@ pub(crate) fn show_nested(line: &mut Line, nested: &NestedType<'_>) -> LineResul
     line.field(NAME, Value::Text(nested.name))?;
     line.field(ACCESS, optional_word(access_word(nested.attributes)))?;
     line.field(ATTRIBUTES, Value::Words(&attributes))?;
-    line.field(NESTED_TYPE, type_index(nested.nested_type))?;
+    show_type_field(line, NESTED_TYPE, nested.nested_type)?;
     Ok(())
 }

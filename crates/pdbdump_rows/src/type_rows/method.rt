@@ -7,6 +7,7 @@ ghost use Rattle.pdbdump_rows.specs.Line.{ShowsRow};
 
 use crate::line::{Line, LineResult};
 use crate::names::{ACCESS, ATTRIBUTES, COUNT, METHOD_LIST, METHOD_TYPE, NAME, VTABLE_OFFSET};
+use crate::type_fields::show_type_field;
 use crate::value::{Value, optional_number, optional_word, type_index};
 use crate::words::{access_word, field_flags};
 use pdb_values::{MethodListEntry, MethodType, OverloadedMethodType};
@@ -32,7 +33,7 @@ pub(crate) fn show_method(line: &mut Line, method: &MethodType<'_>) -> LineResul
     line.field(NAME, Value::Text(method.name))?;
     line.field(ACCESS, optional_word(access_word(method.attributes)))?;
     line.field(ATTRIBUTES, Value::Words(&attributes))?;
-    line.field(METHOD_TYPE, type_index(method.method_type))?;
+    show_type_field(line, METHOD_TYPE, method.method_type)?;
     line.field(VTABLE_OFFSET, optional_number(method.vtable_offset))?;
     Ok(())
 }
@@ -44,7 +45,7 @@ pub fn show_listed_method(line: &mut Line, method: MethodListEntry) -> LineResul
     let attributes = field_flags(method.attributes);
     line.field(ACCESS, optional_word(access_word(method.attributes)))?;
     line.field(ATTRIBUTES, Value::Words(&attributes))?;
-    line.field(METHOD_TYPE, type_index(method.method_type))?;
+    show_type_field(line, METHOD_TYPE, method.method_type)?;
     line.field(VTABLE_OFFSET, optional_number(method.vtable_offset))?;
     Ok(())
 }

@@ -10,7 +10,8 @@ use crate::names::{
     ATTRIBUTES, CONTAINING_CLASS, LENGTH, MODIFIERS, POINTER_KIND, POINTER_MODE, POSITION, SIZE,
     UNDERLYING_TYPE,
 };
-use crate::value::{Value, optional_type, type_index};
+use crate::type_fields::{show_optional_type, show_type_field};
+use crate::value::Value;
 use crate::words::{kind_word, mode_word, modifier_flags, pointer_flags};
 use pdb_values::{BitfieldType, ModifierType, PointerType};
 
@@ -20,12 +21,12 @@ pub(crate) fn show_pointer(line: &mut Line, pointer: PointerType) -> LineResult
 {
     let word = pointer.attributes;
     let attributes = pointer_flags(word);
-    line.field(UNDERLYING_TYPE, type_index(pointer.underlying_type))?;
+    show_type_field(line, UNDERLYING_TYPE, pointer.underlying_type)?;
     line.field(POINTER_KIND, Value::Word(kind_word(word.pointer_kind())))?;
     line.field(POINTER_MODE, Value::Word(mode_word(word.pointer_mode())))?;
     line.field(ATTRIBUTES, Value::Words(&attributes))?;
     line.field(SIZE, Value::Number(word.size() as u64))?;
-    line.field(CONTAINING_CLASS, optional_type(pointer.containing_class))?;
+    show_optional_type(line, CONTAINING_CLASS, pointer.containing_class)?;
     Ok(())
 }
 
@@ -34,7 +35,7 @@ pub(crate) fn show_modifier(line: &mut Line, modifier: ModifierType) -> LineResu
     ensures { ShowsRow [] line.old line.new result }
 {
     let modifiers = modifier_flags(modifier);
-    line.field(UNDERLYING_TYPE, type_index(modifier.underlying_type))?;
+    show_type_field(line, UNDERLYING_TYPE, modifier.underlying_type)?;
     line.field(MODIFIERS, Value::Words(&modifiers))?;
     Ok(())
 }
@@ -43,7 +44,7 @@ pub(crate) fn show_modifier(line: &mut Line, modifier: ModifierType) -> LineResu
 pub(crate) fn show_bitfield(line: &mut Line, bitfield: BitfieldType) -> LineResult
     ensures { ShowsRow [] line.old line.new result }
 {
-    line.field(UNDERLYING_TYPE, type_index(bitfield.underlying_type))?;
+    show_type_field(line, UNDERLYING_TYPE, bitfield.underlying_type)?;
     line.field(LENGTH, Value::Number(bitfield.length as u64))?;
     line.field(POSITION, Value::Number(bitfield.position as u64))?;
     Ok(())

@@ -1,4 +1,4 @@
-use Rattle.std.proofs.Common.{sym, subst}
+use Rattle.std.proofs.Common.{arith, sym, subst}
 use Rattle.std.specs.Prelude.{IsTrue}
 use Rattle.pdb_msf.proofs.lemmas.Kept.{kept_then}
 use Rattle.pdb_consistency.proofs.HeaderLemmas.{layout_long}
@@ -9,7 +9,8 @@ pub of-requires-clause-header : goal.of-requires-clause-header
 of-requires-clause-header g c fixed =
     let kept = kept_then _ _ _ c.in_ok-owners.ensures.kept c.in_ok-size.ensures.kept in
     let was = subst IsTrue kept.fixed fixed in
-    rw kept.bytes (layout_long _ _ (c.requires.layout was))
+    let long = layout_long _ _ (c.requires.layout was) in
+    rw kept.bytes (omega (arith, long))
 
 pub returns : goal.returns
 returns g c =

@@ -27,3 +27,9 @@ returns-in-FramesIn g c = rw c.in-FramesIn.is c.list_frames_in.ensures
 
 pub returns-in-Extract : goal.returns-in-Extract
 returns-in-Extract g c = rw c.in-Extract.is c.extract_opened.ensures
+
+pub returns-in-BreakpadFrames : goal.returns-in-BreakpadFrames
+returns-in-BreakpadFrames g c = rw c.in-BreakpadFrames.is c.list_breakpad_frames.ensures
+
+pub returns-in-Dump : goal.returns-in-Dump
+returns-in-Dump g c = rw c.in-Dump.is c.dump_opened.ensures

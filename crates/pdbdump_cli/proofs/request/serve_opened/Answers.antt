@@ -31,3 +31,30 @@ returns-in-Declare g c = rw c.in-Declare.is (record {
 
 pub returns-in-Validate : goal.returns-in-Validate
 returns-in-Validate g c = rw c.in-Validate.is c.judge.ensures
+
+pub returns-in-Select : goal.returns-in-Select
+returns-in-Select g c = rw c.in-Select.is (record {
+  written = c.select_in-listed.new.out;
+  told = c.select_in-listed.new.err;
+  answer = c.select_in-listed.result;
+  lists = c.select_in-listed.ensures.lists;
+  accounts = c.select_in-listed.ensures.reported;
+  ends = c.end_as-in-Select.ensures;
+})
+
+pub returns-in-Locate : goal.returns-in-Locate
+returns-in-Locate g c = rw c.in-Locate.is (record {
+  written = c.locate_in-located.new.out;
+  told = c.locate_in-located.new.err;
+  answer = c.locate_in-located.result;
+  located = c.locate_in-located.ensures;
+  ends = c.end_as-in-Locate.ensures;
+})
+
+pub returns-in-Match : goal.returns-in-Match
+returns-in-Match g c = rw c.in-Match.is (record {
+  written = c.match_in-matched.new.out;
+  answer = c.match_in-matched.result;
+  matched = c.match_in-matched.ensures;
+  ends = c.end_as-in-Match.ensures;
+})

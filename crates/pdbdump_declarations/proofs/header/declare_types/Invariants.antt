@@ -1,5 +1,5 @@
 -- What was reported so far is accounted for.
-use Rattle.pdbdump_layouts.specs.Shown.{StaysAccounted}
+use Rattle.pdbdump_types.specs.Shown.{StaysAccounted}
 use Rattle.pdbdump_declarations.proofs.header.declare_types.Given as goal
 
 abbrev pub invariant-loop-index : goal.invariant-loop-index

@@ -1,7 +1,7 @@
 use Rattle.std.proofs.Common.{refl}
-use Rattle.pdbdump_layouts.proofs.ShowLemmas.{kept}
+use Rattle.pdbdump_types.proofs.ShowLemmas.{kept}
 use Rattle.pdbdump_layouts.proofs.show.find_name.Goals as goal
 
-pub returns-in-Ok-Some-clause-accounted : goal.returns-in-Ok-Some-clause-accounted
-returns-in-Ok-Some-clause-accounted g c =
+pub returns-in-Ok-Member-clause-accounted : goal.returns-in-Ok-Member-clause-accounted
+returns-in-Ok-Member-clause-accounted g c =
     kept c.args.progress.now.is_whole c.args.progress.now.is_whole c.args.err.now c.write.result refl

@@ -1,6 +1,6 @@
 use Rattle.std.proofs.Common.{sym, subst, Bool}
-use Rattle.pdbdump_layouts.proofs.ShowLemmas.{accounted_then}
-use Rattle.pdbdump_layouts.specs.Shown.{Accounts}
+use Rattle.pdbdump_types.proofs.ShowLemmas.{accounted_then}
+use Rattle.pdbdump_types.specs.Shown.{Accounts}
 use Rattle.pdbdump_layouts.proofs.show.limit_types.Goals as goal
 
 pub returns-clause-accounted : goal.returns-clause-accounted

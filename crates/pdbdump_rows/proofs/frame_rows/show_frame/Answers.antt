@@ -1,10 +1,10 @@
 -- One field behind the other.
-use Rattle.pdbdump_rows.proofs.lemmas.Line.{field_more, no_fields}
+use Rattle.pdbdump_rows.proofs.lemmas.Line.{field_more, fields_more, no_fields}
 use Rattle.pdbdump_rows.proofs.frame_rows.show_frame.Goals as goal
 
 pub returns : goal.returns
 returns c =
-    field_more _ _ _ _ _ c.in_ok-field-13.ensures
+    fields_more _ _ _ _ _ c.show_program.ensures
     (field_more _ _ _ _ _ c.in_ok-field-12.ensures
     (field_more _ _ _ _ _ c.in_ok-field-11.ensures
     (field_more _ _ _ _ _ c.in_ok-field-10.ensures

@@ -6,9 +6,13 @@ use Rattle.pdbdump_rows.proofs.lemmas.Line.{made_written}
 use Rattle.pdbdump_tables.proofs.ShownLemmas.{cut_members, cut_record, lacks_early, refuses_late, shows_whole}
 use Rattle.pdbdump_tables.proofs.type_listing.write_value.Goals as goal
 
+pub returns-in_err-texts_of : goal.returns-in_err-texts_of
+returns-in_err-texts_of g c =
+    rw (passed_on _ _ c.from_residual.ensures.1) (lacks_early _ _ _ _ _ refl)
+
 pub returns-in_err-make_full : goal.returns-in_err-make_full
 returns-in_err-make_full g c =
-    rw (passed_on _ _ c.from_residual.ensures.1) (lacks_early _ _ _ _ _ refl)
+    rw (passed_on _ _ c.from_residual-in_err-make_full.ensures.1) (lacks_early _ _ _ _ _ refl)
 
 pub returns-in_err-write : goal.returns-in_err-write
 returns-in_err-write g c =

@@ -1,13 +1,14 @@
 -- One field behind the other.
-use Rattle.pdbdump_rows.proofs.lemmas.Line.{field_more, no_fields}
+use Rattle.std.proofs.Common.{Ok}
+use Rattle.pdbdump_rows.proofs.lemmas.Line.{field_more, fields_more, no_fields}
 use Rattle.pdbdump_rows.proofs.type_rows.pointer.show_pointer.Goals as goal
 
 pub returns : goal.returns
 returns c =
-    field_more _ _ _ _ _ c.in_ok-field-6.ensures
-    (field_more _ _ _ _ _ c.in_ok-field-5.ensures
+    fields_more _ _ _ _ (Ok tt) c.in_ok-show_optional_type.ensures
     (field_more _ _ _ _ _ c.in_ok-field-4.ensures
     (field_more _ _ _ _ _ c.in_ok-field-3.ensures
     (field_more _ _ _ _ _ c.in_ok-field-2.ensures
     (field_more _ _ _ _ _ c.in_ok-field.ensures
+    (fields_more _ _ _ _ (Ok tt) c.in_ok-show_type_field.ensures
     (no_fields _))))))

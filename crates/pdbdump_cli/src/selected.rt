@@ -1,0 +1,135 @@
+//! What `types` and `ids` list of a file where they select records.
+
+ghost use Rattle.std.specs.Prelude.{Bool, false, IfOk, OnOk};
+ghost use Rattle.pdb_base.specs.Memory.{FailsOnlyForMemory};
+ghost use Rattle.pdb_output.specs.Output.{OutputState, done_of};
+ghost use Rattle.pdbdump_cli.specs.LaidOut.{stream_bytes};
+ghost use Rattle.pdbdump_tables.specs.Listing.{ListsLines};
+ghost use Rattle.pdbdump_tables.specs.Reading.{Reads, WritesRead};
+ghost use Rattle.pdbdump_types.specs.Shown.{Accounts};
+
+use crate::command::{Selected, Table};
+use crate::input_file::InputFile;
+use crate::laid_out::stream_in;
+use pdb_base::Stream;
+use pdb_container::{Result, Source};
+use pdb_output::Output;
+use pdbdump_rows::Form;
+use pdbdump_tables::{NameSearch, select_ids, select_types};
+use pdbdump_types::escape_text;
+use std::alloc::Global;
+use std::io::Write;
+
+/// Lists the records of a table in a stream that are selected.
+fn list_selected<W: Write>(
+    alloc: Global,
+    stream: Stream,
+    asked: &Selected<'_, '_>,
+    search: &mut NameSearch<'_, '_>,
+    form: Form,
+    out: &mut Output<W>,
+) -> Result<()>
+    ensures { ListsLines form out.old out.new result }
+{
+    let Selected {
+        table,
+        number,
+        selection,
+    } = asked;
+    match table {
+        Table::Types => select_types(alloc, stream, *number, selection, search, form, out),
+        Table::Ids => select_ids(alloc, stream, *number, selection, search, form, out),
+    }
+}
+
+/// Reports that a name was not found in a table.
+fn report_name<E: Write>(alloc: Global, table: Table, name: &str, err: &mut Output<E>) -> Result<()>
+    ensures reported { OnOk result ((start : OutputState) (whole : Bool) → Accounts start err.old whole
+        → Accounts start err.new false) }
+    ensures memory { FailsOnlyForMemory result }
+{
+    let front: &[u8] = match table {
+        Table::Types => b"no type is called ",
+        Table::Ids => b"no id is called ",
+    };
+    let mut line = Vec::from_slice(alloc, front)?;
+    line.extend_from_slice(&escape_text(alloc, name.as_bytes())?)?;
+    line.push(b'\n')?;
+    err.report(&line);
+    Ok(())
+}
+
+/// Reports a name unless it was found in a table, and returns whether all names so far were.
+fn report_if_missing<E: Write>(
+    alloc: Global,
+    table: Table,
+    name: &str,
+    is_found: bool,
+    has_all: bool,
+    err: &mut Output<E>,
+) -> Result<bool>
+    ensures reported { IfOk result (λ all. (start : OutputState) → Accounts start err.old has_all
+        → Accounts start err.new all) }
+    ensures memory { FailsOnlyForMemory result }
+{
+    if is_found {
+        return Ok(has_all);
+    }
+    report_name(alloc, table, name, err)?;
+    Ok(false)
+}
+
+/// Reports the names that were not found in a table, and returns whether there are none.
+fn report_missing<E: Write>(
+    alloc: Global,
+    asked: &Selected<'_, '_>,
+    search: &NameSearch<'_, '_>,
+    err: &mut Output<E>,
+) -> Result<bool>
+    ensures reported { IfOk result (Accounts err.old err.new) }
+    ensures memory { FailsOnlyForMemory result }
+{
+    let mut has_all = true;
+    for (place, name) in asked.selection.names.iter().enumerate() {
+        let is_found = search.is_found(place);
+        has_all = report_if_missing(alloc, asked.table, name, is_found, has_all, err)?;
+    }
+    Ok(has_all)
+}
+
+/// Lists the records of a table in a stream that are selected, and returns whether each name was
+/// found.
+fn select_of<O: Write, E: Write>(
+    alloc: Global,
+    stream: Stream,
+    asked: &Selected<'_, '_>,
+    form: Form,
+    out: &mut Output<O>,
+    err: &mut Output<E>,
+) -> Result<bool>
+    ensures lists { ListsLines form out.old out.new (done_of result) }
+    ensures reported { IfOk result (Accounts err.old err.new) }
+{
+    let selection = &asked.selection;
+    let mut search = NameSearch::new(alloc, selection.names, selection.ignores_case)?;
+    list_selected(alloc, stream, asked, &mut search, form, out)?;
+    report_missing(alloc, asked, &search, err)
+}
+
+/// Lists the records of a table of a file that are selected, and returns whether each name was
+/// found.
+pub(crate) fn select_in<S: Source + Drop, O: Write, E: Write>(
+    alloc: Global,
+    file: InputFile<S>,
+    asked: &Selected<'_, '_>,
+    form: Form,
+    out: &mut Output<O>,
+    err: &mut Output<E>,
+) -> Result<bool>
+    ensures lists { WritesRead (Reads (S.state file.source) (stream_bytes asked.now.number))
+        (λ stream. ListsLines form) out.old out.new (done_of result) }
+    ensures reported { IfOk result (Accounts err.old err.new) }
+{
+    let stream = stream_in(alloc, file.source, asked.number)?;
+    select_of(alloc, stream, asked, form, out, err)
+}

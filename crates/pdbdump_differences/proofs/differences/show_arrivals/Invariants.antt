@@ -1,0 +1,6 @@
+-- What was written and reported so far is accounted for.
+use Rattle.pdbdump_differences.specs.Compared.{Compares}
+use Rattle.pdbdump_differences.proofs.differences.show_arrivals.Given as goal
+
+abbrev pub invariant-loop-number : goal.invariant-loop-number
+invariant-loop-number g l = Compares l.fn.progress l.progress l.fn.out l.out l.fn.err l.err

@@ -1,0 +1,15 @@
+//! What differs between the types of two tables: definitions that went, came or changed, and the
+//! members and enumerators that make the difference.
+#![tactic(auto)]
+
+mod compared_table;
+mod difference_json;
+mod difference_text;
+mod differences;
+mod pairing;
+mod part;
+mod part_change;
+mod version;
+
+pub use compared_table::ComparedTable;
+pub use differences::{DiffOptions, Outcome, show_differences};

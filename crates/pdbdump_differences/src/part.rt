@@ -1,0 +1,92 @@
+//! The parts of a definition: the fields of a class or a union, and the enumerators of an
+//! enumeration.
+
+use crate::pairing::hash_of;
+use pdb_base::{Result, TypeIndex};
+use pdb_types::{Definitions, FieldKind, LayoutField};
+use pdbdump_types::{Defined, Enumerator, TextAllowance, enumerators_of};
+use std::alloc::Global;
+
+/// A part of a definition.
+#[derive(Clone, Copy)]
+pub(crate) enum Part<'t> {
+    /// A field of a class or a union.
+    Field(LayoutField<'t>),
+
+    /// An enumerator.
+    Enumerator(Enumerator<'t>),
+}
+
+/// Returns the enumerators of a list, over a type.
+fn enumerators<'t>(
+    alloc: Global,
+    definitions: &Definitions<'t>,
+    list: TypeIndex,
+    underlying_type: TypeIndex,
+) -> Result<Vec<Part<'t>>> {
+    let mut parts = Vec::new(alloc);
+    for enumerator in &enumerators_of(alloc, definitions, list, underlying_type)? {
+        parts.push(Part::Enumerator(*enumerator))?;
+    }
+    Ok(parts)
+}
+
+/// Returns the fields of a class or a union.
+fn fields<'t>(
+    alloc: Global,
+    definitions: &Definitions<'t>,
+    index: TypeIndex,
+) -> Result<Vec<Part<'t>>> {
+    let mut parts = Vec::new(alloc);
+    if let Some(layout) = definitions.layout_of(alloc, index)? {
+        for field in &layout.fields {
+            parts.push(Part::Field(*field))?;
+        }
+    }
+    Ok(parts)
+}
+
+/// Returns the parts of the definition with this index, in the order of their records.
+///
+/// # Errors
+/// Fails as `Definitions::layout_of` does for a class or a union, as `OpenTable::fields` does for
+/// an enumeration, and with `OutOfMemory` if an allocation fails.
+pub(crate) fn parts_of<'t>(
+    alloc: Global,
+    definitions: &Definitions<'t>,
+    index: TypeIndex,
+    defined: &Defined<'t>,
+) -> Result<Vec<Part<'t>>> {
+    match defined.enumeration {
+        Some((list, underlying_type)) => enumerators(alloc, definitions, list, underlying_type),
+        None => fields(alloc, definitions, index),
+    }
+}
+
+/// Returns the hash of what a part is called: its name, or for a base class and a pointer to a table
+/// of virtual bases that of the base class.
+///
+/// # Errors
+/// Fails as `Definitions::type_text` does for the base class.
+pub(crate) fn hash_of_part(
+    alloc: Global,
+    definitions: &Definitions<'_>,
+    part: &Part<'_>,
+    texts: &mut TextAllowance,
+) -> Result<u64> {
+    match part {
+        Part::Enumerator(enumerator) => Ok(hash_of(0, enumerator.name.as_bytes())),
+        Part::Field(field) => match field.place.kind {
+            FieldKind::Member(name) => Ok(hash_of(0, name.as_bytes())),
+            FieldKind::Base => {
+                let name = texts.bytes(alloc, definitions, field.place.field_type, b"")?;
+                Ok(hash_of(1, &name))
+            }
+            FieldKind::VirtualBasePointer(base) => {
+                let name = texts.bytes(alloc, definitions, base.base_class, b"")?;
+                Ok(hash_of(2, &name))
+            }
+            FieldKind::VirtualFunctionPointer => Ok(hash_of(3, b"")),
+        },
+    }
+}

@@ -1,3 +1,0 @@
-pub mod ComparedLemmas
-pub mod MatchLemmas
-pub mod ShowLemmas

@@ -1,5 +1,0 @@
-use Rattle.pdbdump_layouts.proofs.ShowLemmas.{reported}
-use Rattle.pdbdump_layouts.proofs.progress.tell.Goals as goal
-
-pub returns-clause-accounted : goal.returns-clause-accounted
-returns-clause-accounted g c = λ start was. reported _ _ _ _ _ was c.report.ensures

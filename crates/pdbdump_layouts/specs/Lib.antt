@@ -1,3 +1,0 @@
-pub mod Compared
-pub mod Pattern
-pub mod Shown

@@ -1,0 +1,12 @@
+-- One field behind the other.
+use Rattle.std.proofs.Common.{Ok}
+use Rattle.pdbdump_rows.proofs.lemmas.Line.{field_more, fields_more, no_fields}
+use Rattle.pdbdump_rows.proofs.type_rows.member.show_static_member.Goals as goal
+
+pub returns : goal.returns
+returns c =
+    fields_more _ _ _ _ (Ok tt) c.in_ok-show_type_field.ensures
+    (field_more _ _ _ _ _ c.in_ok-field-3.ensures
+    (field_more _ _ _ _ _ c.in_ok-field-2.ensures
+    (field_more _ _ _ _ _ c.in_ok-field.ensures
+    (no_fields _))))

@@ -1,0 +1,131 @@
+//! Fields with the indexes of types, beside which their texts are shown.
+
+#![tactic(auto, using(crate::proofs::lemmas::Line::adding))]
+
+ghost use Rattle.std.specs.Prelude.{[]};
+ghost use Rattle.pdbdump_rows.specs.Line.{ShowsRow};
+
+use crate::form::Form;
+use crate::line::{Line, LineResult};
+use crate::lists::type_numbers;
+use crate::number::push_hexadecimal;
+use crate::type_texts::TypeTexts;
+use crate::value::Value;
+use pdb_base::{RawString, TypeIndex};
+use std::alloc::{AllocError, Global};
+
+/// A field with the index of a type: its name, and that of the field with the text of the type,
+/// which only JSON shows.
+#[derive(Clone, Copy)]
+pub(crate) struct TypeField {
+    /// The name.
+    pub(crate) name: &'static str,
+
+    /// The name of the field with the text.
+    pub(crate) text_name: &'static str,
+}
+
+/// Adds a field with the index of a type, and what is shown of the type beside it, if that is known.
+fn show_beside(
+    line: &mut Line,
+    field: TypeField,
+    index: TypeIndex,
+    text: Option<&[u8]>,
+) -> LineResult
+    ensures { ShowsRow [] line.old line.new result }
+{
+    let Some(text) = text else {
+        return line.field(field.name, Value::Hexadecimal(index.0));
+    };
+    match line.form() {
+        Form::Text => line.field(field.name, Value::Text(RawString::from(text))),
+        Form::Json => {
+            line.field(field.name, Value::Hexadecimal(index.0))?;
+            line.field(field.text_name, Value::Text(RawString::from(text)))
+        }
+    }
+}
+
+/// Adds a field with the index of a type.
+///
+/// # Errors
+/// Fails if an allocation fails.
+pub(crate) fn show_type_field(line: &mut Line, field: TypeField, index: TypeIndex) -> LineResult
+    ensures { ShowsRow [] line.old line.new result }
+{
+    let Some(mut texts) = line.texts.take() else {
+        return show_beside(line, field, index, None);
+    };
+    let added = show_beside(line, field, index, texts.take(index));
+    line.texts = Some(texts);
+    added
+}
+
+/// Adds a field with the index of a type, if there is one.
+///
+/// # Errors
+/// Fails if an allocation fails.
+pub(crate) fn show_optional_type(
+    line: &mut Line,
+    field: TypeField,
+    index: Option<TypeIndex>,
+) -> LineResult
+    ensures { ShowsRow [] line.old line.new result }
+{
+    match index {
+        Some(index) => show_type_field(line, field, index),
+        None => Ok(()),
+    }
+}
+
+/// Appends the index of a type, and its text, if that is known.
+fn push_type(
+    index: TypeIndex,
+    texts: &mut TypeTexts,
+    list: &mut Vec<u8>,
+) -> Result<(), AllocError> {
+    match texts.take(index) {
+        Some(text) => list.extend_from_slice(text),
+        None => push_hexadecimal(index.0, list),
+    }
+}
+
+/// Returns a list of the indexes of types with their texts.
+fn list_text(
+    alloc: Global,
+    indexes: &[TypeIndex],
+    texts: &mut TypeTexts,
+) -> Result<Vec<u8>, AllocError> {
+    let mut list = Vec::new(alloc);
+    let mut front: &[u8] = b"[";
+    for index in indexes {
+        list.extend_from_slice(front)?;
+        push_type(*index, texts, &mut list)?;
+        front = b", ";
+    }
+    if indexes.is_empty() {
+        list.extend_from_slice(b"[")?;
+    }
+    list.extend_from_slice(b"]")?;
+    Ok(list)
+}
+
+/// Adds a field with a list of the indexes of types. JSON shows no texts of these.
+///
+/// # Errors
+/// Fails if an allocation fails.
+pub(crate) fn show_type_list(
+    alloc: Global,
+    line: &mut Line,
+    name: &'static str,
+    indexes: &[TypeIndex],
+) -> LineResult
+    ensures { ShowsRow [] line.old line.new result }
+{
+    if let (Form::Text, Some(texts)) = (line.form(), &mut line.texts) {
+        let list = list_text(alloc, indexes, texts)?;
+        return line.field(name, Value::Text(RawString::from(list.as_slice())));
+    }
+    let numbers = type_numbers(alloc, indexes)?;
+    line.field(name, Value::Indexes(&numbers))
+}

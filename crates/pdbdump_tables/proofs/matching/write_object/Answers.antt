@@ -1,0 +1,14 @@
+use Rattle.std.proofs.Common.{refl}
+use Rattle.pdb_base.proofs.lemmas.Refused.{passed_on}
+use Rattle.pdbdump_rows.proofs.lemmas.Line.{row_lacks}
+use Rattle.pdbdump_tables.proofs.matching.write_object.Goals as goal
+
+pub returns-in_err-key : goal.returns-in_err-key
+returns-in_err-key g c = rw (passed_on _ _ c.from_residual.ensures.1) (row_lacks _ _ _ _ refl)
+
+pub returns-in_err-image_key : goal.returns-in_err-image_key
+returns-in_err-image_key g c =
+    rw (passed_on _ _ c.from_residual-in_err-image_key.ensures.1) (row_lacks _ _ _ _ refl)
+
+pub returns : goal.returns
+returns g c = c.write_line.ensures.row _ _ _ c.show_match-added.ensures c.begin.ensures

@@ -1,0 +1,96 @@
+//! What an image says of its program database, as a line.
+
+#![tactic(auto, using(pdbdump_rows::proofs::lemmas::Line::adding, pdbdump_rows::proofs::lemmas::Rows::listing))]
+
+ghost use Rattle.std.specs.Prelude.{◌↔◌, [], IsTrue, IfOk};
+ghost use Rattle.pdbdump_rows.specs.Line.{IsRow, ShowsRow, WritesWhat};
+ghost use Rattle.pdbdump_rows.specs.Lines.{row_text};
+ghost use Rattle.pdbdump_tables.specs.Identity.{IsIdentity, IsKeyOf};
+
+use crate::identity::{AGE, CPU, FORMAT, GUID, KEY, KeyStyle, MACHINE, NAME, key_line, key_text};
+use pdb_base::{Error, RawString};
+use pdb_identity::CodeView;
+use pdb_output::Output;
+use pdbdump_rows::{Form, Line, LineResult, Value, write_line};
+use std::alloc::{AllocError, Global};
+use std::io::Write;
+
+/// Adds the fields of what an image says of its database, with the texts of the GUID and of the key.
+fn show_image(line: &mut Line, name: &str, image: &CodeView, guid: &str, key: &str) -> LineResult
+    ensures { ShowsRow [] line.old line.new result }
+{
+    line.field(NAME, Value::Text(RawString::from(name)))?;
+    line.field(FORMAT, Value::Word("PE"))?;
+    line.field("image", Value::Flag(true))?;
+    line.field("path", Value::Text(RawString::from(image.path.as_slice())))?;
+    line.field(GUID, Value::Text(RawString::from(guid)))?;
+    line.field(AGE, Value::Number(image.age as u64))?;
+    line.field(MACHINE, Value::Number(image.machine as u64))?;
+    line.field(CPU, Value::Word(image.cpu()))?;
+    line.field(KEY, Value::Text(RawString::from(key)))?;
+    Ok(())
+}
+
+/// Writes what an image says of its database as an object of JSON.
+fn write_object<W: Write>(
+    alloc: Global,
+    name: &str,
+    image: &CodeView,
+    out: &mut Output<W>,
+) -> Result<(), Error>
+    ensures { WritesWhat (IsRow (row_text Form.Json) []) out.old out.new result }
+{
+    let mut buffer = [0u8; 36];
+    let guid = image.guid.hyphenated().encode_upper(&mut buffer);
+    let key = key_text(alloc, image.key())?;
+    let mut line = Line::new(alloc);
+    line.begin(Form::Json);
+    let added = show_image(&mut line, name, image, guid, &key);
+    write_line(added, &mut line, out)
+}
+
+/// Writes the line of the key of an image's database in a style.
+fn write_key<W: Write>(
+    alloc: Global,
+    style: KeyStyle,
+    name: &str,
+    image: &CodeView,
+    out: &mut Output<W>,
+) -> Result<(), Error>
+    ensures { WritesWhat (IsIdentity Form.Text) out.old out.new result }
+{
+    let line = key_line(alloc, style, name, image.key(), image.cpu())?;
+    out.write(&line)
+}
+
+/// Writes what an image says of its database, which has this name: a line in the style, or an object
+/// of JSON with all of it.
+///
+/// # Errors
+/// Fails with `IoError` if the writer fails, and with `OutOfMemory` if an allocation fails.
+pub fn write_image<W: Write>(
+    alloc: Global,
+    style: KeyStyle,
+    name: &str,
+    image: &CodeView,
+    form: Form,
+    out: &mut Output<W>,
+) -> Result<(), Error>
+    ensures { WritesWhat (IsIdentity form) out.old out.new result }
+{
+    match form {
+        Form::Text => write_key(alloc, style, name, image, out),
+        Form::Json => write_object(alloc, name, image, out),
+    }
+}
+
+/// Returns whether a word is the key of an image's database, in upper or in lower case.
+///
+/// # Errors
+/// Fails if an allocation fails.
+pub fn is_key_of_image(alloc: Global, word: &str, image: &CodeView) -> Result<bool, AllocError>
+    ensures { IfOk result (λ is_key. IsTrue is_key ↔ IsKeyOf image.now.guid image.now.age word.now) }
+{
+    let key = key_text(alloc, image.key())?;
+    Ok(word.eq_ignore_ascii_case(&key))
+}

@@ -1,0 +1,5 @@
+use Rattle.pdbdump_types.proofs.ShowLemmas.{reported}
+use Rattle.pdbdump_types.proofs.progress.tell.Goals as goal
+
+pub returns-clause-accounted : goal.returns-clause-accounted
+returns-clause-accounted g c = λ start was. reported _ _ _ _ _ was c.report.ensures

@@ -1,0 +1,197 @@
+//! The fields and gaps of a layout as objects of JSON.
+
+use crate::enumerators::Enumerator;
+use crate::field_text::bit_field_text;
+use crate::names::{BIT, BITS, CUT, DECLARATION, DEPTH, TYPE, TYPE_INDEX, VIRTUAL_BASE};
+use crate::shown_gap::{GapRole, gap_place};
+use crate::text_allowance::TextAllowance;
+use pdb_base::{RawString, Result};
+use pdb_types::{Definitions, Extent, FieldKind, Gap, LayoutField, TypeText};
+use pdbdump_rows::names::{DIRECT, KIND, NAME, OFFSET, POSITION, SIZE, VALUE};
+use pdbdump_rows::{Line, LineResult, Value, optional_text};
+use std::alloc::Global;
+
+/// Returns the word for what a field is.
+fn role_word(kind: &FieldKind<'_>) -> &'static str {
+    match kind {
+        FieldKind::Base => "base",
+        FieldKind::VirtualBasePointer(_) => "vbptr",
+        FieldKind::VirtualFunctionPointer => "vfptr",
+        FieldKind::Member(_) => "member",
+    }
+}
+
+/// Returns the name of a field, which only a data member has.
+fn role_name<'t>(kind: &FieldKind<'t>) -> Option<RawString<'t>> {
+    match kind {
+        FieldKind::Member(name) => Some(*name),
+        _ => None,
+    }
+}
+
+/// Adds the size of a field in bytes, if something says it; or the bit at which a bit field begins,
+/// and how many it has.
+fn show_extent(line: &mut Line, extent: &Extent) -> LineResult {
+    match extent {
+        Extent::Bytes(size) => line.field(SIZE, Value::Number(*size)),
+        Extent::Bits(bits) => {
+            line.field(BIT, Value::Number(bits.position as u64))?;
+            line.field(BITS, Value::Number(bits.length as u64))
+        }
+        Extent::Unknown => Ok(()),
+    }
+}
+
+/// Adds which virtual base class a field leads to, if it leads to one: whether the class itself
+/// names it, and its position in the table of virtual bases.
+fn show_virtual_base(line: &mut Line, kind: &FieldKind<'_>) -> LineResult {
+    match kind {
+        FieldKind::VirtualBasePointer(base) => {
+            line.field(VIRTUAL_BASE, Value::Hexadecimal(base.base_class.0))?;
+            line.field(DIRECT, Value::Flag(base.direct))?;
+            line.field(POSITION, Value::Number(base.position as u64))?;
+            Ok(())
+        }
+        _ => Ok(()),
+    }
+}
+
+/// The texts of a field.
+#[derive(Clone, Copy)]
+pub struct FieldTexts<'t> {
+    /// That of its type.
+    pub type_text: &'t [u8],
+
+    /// Its declaration, or the path that led to it.
+    pub declaration: &'t [u8],
+
+    /// Whether one of them is cut.
+    pub is_cut: bool,
+}
+
+/// Adds what the object of a field holds, which begins at an offset from the start of what is
+/// shown, and whose class is so deep in it.
+///
+/// # Errors
+/// Fails if an allocation fails.
+pub fn show_field(
+    line: &mut Line,
+    depth: u32,
+    offset: u64,
+    part: &LayoutField<'_>,
+    texts: FieldTexts<'_>,
+) -> LineResult {
+    let kind = &part.place.kind;
+    line.field(KIND, Value::Word(role_word(kind)))?;
+    line.field(DEPTH, Value::Number(depth as u64))?;
+    line.field(NAME, optional_text(role_name(kind)))?;
+    line.field(TYPE_INDEX, Value::Hexadecimal(part.place.field_type.0))?;
+    line.field(TYPE, Value::Text(RawString::from(texts.type_text)))?;
+    line.field(DECLARATION, Value::Text(RawString::from(texts.declaration)))?;
+    if texts.is_cut {
+        line.field(CUT, Value::Flag(true))?;
+    }
+    line.field(OFFSET, Value::Number(offset))?;
+    show_extent(line, &part.extent)?;
+    show_virtual_base(line, kind)?;
+    Ok(())
+}
+
+/// Adds what the object of an enumerator holds.
+///
+/// # Errors
+/// Fails if an allocation fails.
+pub fn show_enumerator(line: &mut Line, enumerator: &Enumerator<'_>) -> LineResult {
+    line.field(KIND, Value::Word("enumerator"))?;
+    line.field(NAME, Value::Text(enumerator.name))?;
+    if let Ok(number) = u64::try_from(enumerator.value) {
+        return line.field(VALUE, Value::Number(number));
+    }
+    line.field(
+        VALUE,
+        match i64::try_from(enumerator.value) {
+            Ok(number) => Value::Signed(number),
+            Err(_) => Value::Absent,
+        },
+    )
+}
+
+/// Returns the word for what a gap is.
+fn gap_word(role: GapRole) -> &'static str {
+    match role {
+        GapRole::Hole => "hole",
+        GapRole::Padding => "padding",
+        GapRole::UnusedBits => "unused_bits",
+        GapRole::VirtualBases => "virtual_bases",
+    }
+}
+
+/// Adds what the object of a gap holds, whose class begins at an offset from the start of what is
+/// shown, and is so deep in it.
+///
+/// # Errors
+/// Fails if an allocation fails.
+pub fn show_gap(line: &mut Line, depth: u32, start: u64, gap: &Gap, role: GapRole) -> LineResult {
+    let place = gap_place(start, gap);
+    line.field(KIND, Value::Word(gap_word(role)))?;
+    line.field(DEPTH, Value::Number(depth as u64))?;
+    line.field(OFFSET, Value::Number(place.offset))?;
+    if role != GapRole::UnusedBits {
+        return line.field(SIZE, Value::Number(place.bytes));
+    }
+    line.field(BIT, Value::Number(place.bit))?;
+    line.field(BITS, Value::Number(place.bits))
+}
+
+/// Returns the text of the type of a field.
+///
+/// # Errors
+/// Fails as `Definitions::type_text` does for the type of the field.
+pub fn field_type_text<'t>(
+    alloc: Global,
+    definitions: &Definitions<'t>,
+    field: &LayoutField<'t>,
+    texts: &mut TextAllowance,
+) -> Result<TypeText> {
+    match field.extent {
+        Extent::Bits(bits) => bit_field_text(alloc, definitions, bits, texts),
+        Extent::Bytes(_) | Extent::Unknown => {
+            texts.text(alloc, definitions, field.place.field_type, b"")
+        }
+    }
+}
+
+/// Adds what the object of a field holds, whose class is so deep in what is shown and begins at an
+/// offset from the start of that.
+///
+/// # Errors
+/// Fails as `Definitions::type_text` does for the type of the field.
+pub fn show_declared<'t>(
+    alloc: Global,
+    line: &mut Line,
+    definitions: &Definitions<'t>,
+    depth: u32,
+    start: u64,
+    part: &LayoutField<'t>,
+    texts: &mut TextAllowance,
+) -> Result<()> {
+    let index = part.place.field_type;
+    let name = match part.place.kind {
+        FieldKind::Member(name) => name.as_bytes(),
+        _ => b"".as_slice(),
+    };
+    let type_text = field_type_text(alloc, definitions, part, texts)?;
+    let declaration = if name.is_empty() {
+        field_type_text(alloc, definitions, part, texts)?
+    } else {
+        texts.text(alloc, definitions, index, name)?
+    };
+    let offset = start.saturating_add(part.place.offset);
+    let spelled = FieldTexts {
+        type_text: &type_text.bytes,
+        declaration: &declaration.bytes,
+        is_cut: type_text.is_cut || declaration.is_cut,
+    };
+    show_field(line, depth, offset, part, spelled)?;
+    Ok(())
+}
