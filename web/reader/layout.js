@@ -52,10 +52,8 @@ function rowOf(types, row) {
 
 /** What the row of a field says of its type. */
 function fieldOf(types, row) {
-  const text = types.text(row.typeIndex);
-  const declaration = row.kind === MEMBER ? types.text(row.typeIndex, row.name) : text;
-  // A bit field without a name has two spaces there.
-  const type = text.replace(/ {2}(?=: \d+$)/u, " ");
+  const type = types.text(row.typeIndex);
+  const declaration = row.kind === MEMBER ? types.text(row.typeIndex, row.name) : type;
   return {
     ...(row.kind === MEMBER && { name: row.name }),
     type_index: row.typeIndex,

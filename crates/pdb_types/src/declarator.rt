@@ -67,6 +67,11 @@ impl Declarator {
         Ok(())
     }
 
+    /// Returns whether there is no text.
+    pub(crate) fn is_empty(&self) -> bool {
+        self.text.is_empty()
+    }
+
     /// Puts a text behind.
     pub(crate) fn push_behind(&mut self, text: &[u8]) -> AllocResult<()> {
         self.text.extend_from_slice(text)

@@ -128,10 +128,11 @@ fn push_dimensions(
     declarator.push_brackets(alloc, "", &all)
 }
 
-/// Puts the width of a bit field behind a declarator.
+/// Puts the width of a bit field behind a declarator, which is empty if the field has no name.
 fn push_width(width: u8, declarator: &mut Declarator) -> AllocResult<()> {
     let mut buffer = Buffer::new();
-    declarator.push_behind(" : ".as_bytes())?;
+    let sign: &[u8] = if declarator.is_empty() { b": " } else { b" : " };
+    declarator.push_behind(sign)?;
     declarator.push_behind(buffer.format(width).as_bytes())
 }
 
