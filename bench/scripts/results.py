@@ -87,7 +87,7 @@ def page(about, rows, taken, programs):
     size = megabytes(about["file"].stat().st_size)
     text = f"""# Measured
 
-By `bench/run` on {about['date']}: {about['machine']}; {about['kit']}; LLVM {about['LLVM']}. {about['rounds']} rounds of neighbouring turns in one process, thread processor time, medians; in brackets the quartiles of the ratios, ours to theirs. [README](../README.md) says what is measured. Both sides' sums agreed in each row.
+By `bench/run` on {about['date']} at {about['commit']}: {about['machine']}; {about['kit']}; LLVM {about['LLVM']}. {about['rounds']} rounds of neighbouring turns in one process, thread processor time, medians; in brackets the quartiles of the ratios, ours to theirs. [README](../README.md) says what is measured. Both sides' sums agreed in each row.
 
 {table(["work", "on", "size", "ours", "LLVM's", "ratio"], map(cells, rows))}
 ![How time grows with the number of types, streams and OMAP records](growth.svg)

@@ -1,4 +1,4 @@
-"""The man page and the completions of pdbdump, written from what `--help` says of each command."""
+"""The page of commands, the man page and the completions of pdbdump, written from what `--help` says."""
 
 import re
 from dataclasses import dataclass, field
@@ -110,6 +110,16 @@ def man_page(whole, commands):
     return "".join(parts)
 
 
+# The page of commands.
+
+
+def command_page(program, commands):
+    """What `--help` prints of each command."""
+    parts = ["# The commands of `pdbdump`\n\n<!-- Made by `tests/calling --write` from what `pdbdump help COMMAND` prints. -->\n"]
+    parts += [f"## {name}\n\n```text\n{call(program, ['help', name]).out.decode()}```\n" for name in commands]
+    return "\n".join(parts)
+
+
 # Completions.
 
 
@@ -196,6 +206,7 @@ def pages(program):
     """The text of each page, by its path."""
     whole, commands = read_all(program)
     return {
+        "docs/generated/COMMANDS.md": command_page(program, commands),
         f"{SHARE}/man/man1/{PROGRAM}.1": man_page(whole, commands),
         f"{SHARE}/bash-completion/completions/{PROGRAM}": bash(whole, commands),
         f"{SHARE}/zsh/site-functions/_{PROGRAM}": zsh(whole, commands),
