@@ -47,9 +47,11 @@ export class VirtualTable {
     new ResizeObserver(() => this.#resized()).observe(this.element);
   }
 
-  /** Shows the rows of a source, which has a `length` and a `slice` that may be a promise. */
+  /** Shows the rows of a source, which has a `length` and a `slice` that may be a promise. Until its rows come, those
+   * of the source before it stay, and the table is busy. */
   show(source) {
     this.#source = source;
+    this.#table.ariaBusy = "true";
     this.#table.setAttribute("aria-rowcount", source.length + 1);
     this.#active = this.#first = 0;
     this.#opened = undefined;
@@ -101,6 +103,7 @@ export class VirtualTable {
     if (this.#body.contains(document.activeElement)) this.#table.focus();
     this.#rows = rows.map((row, place) => [first + place, row]);
     this.#body.replaceChildren(...this.#rows.map(([place, row]) => this.#row(place, row)));
+    this.#table.ariaBusy = "false";
     const isShown = this.#active >= first && this.#active < first + rows.length;
     this.#table.setAttribute("aria-activedescendant", isShown ? this.#rowId(this.#active) : "");
   }
