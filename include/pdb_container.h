@@ -22,8 +22,8 @@
  *   other pointer is null. What a call writes does not overlap anything else that it is given.
  * - A handle, such as a pdb_file, is all zero before it is first opened. It is not copied. It may
  *   move to another thread, since nothing in it belongs to one, but one call at a time is given it.
- * - The bytes that a file is opened with stay where they are until the file is closed. If they
- *   change, answers are those of the bytes that a call finds.
+ * - The bytes that a file is opened with stay where they are until the file is closed, and do not
+ *   change during a call. After a change, answers are those of the bytes that the next call finds.
  * - A structure that a call writes already holds some value, such as zeros.
  * - malloc, realloc and free belong to one allocator, and malloc and realloc align a block to each
  *   power of two up to 16 that divides its size. No call is made from a signal handler, nor in the

@@ -1,14 +1,15 @@
--- What a file replies to a query, by what its bytes hold, and the first fault with which it replies where they hold
--- nothing. Each relation is one of the format. These are defined in the crates below, and no reader is among them:
+-- What a file replies to a query. `IsMeant` says what the reply is if no rule of `reply_rules` refuses, and the law
+-- `replies` joins the two by `FollowsRules`: an answer is the refusal of the first rule that refuses, and otherwise the
+-- value that is meant. A rule of a list refuses only if those before it don't. Both are made of relations, and of
+-- numbers at fixed offsets, which the crates below define:
 -- `head_in` gives the numbers of a header, each at its offset.
 -- `IsStream` says that byte i of a stream is the file's byte at page[i / page size] * page size + i % page size.
 -- `table_in` gives the header of a table, each of its fields at its offset, and the table's bytes.
 -- `IsWalk`, in `IsItemOf`, says that items, each with its length before it, follow one another in a table.
 -- `IsRecord` and `IsId`, in `IsTypeOf` and `IsIdOf`, are the grammars of type records and id records.
 -- `HoldsNames` and `IsNameAt` say what a string table and a name in it are.
--- `mappings_of` gives the records of an OMAP table, eight bytes each, and `AreMoved` says where these move a range.
--- A rule of a list refuses only if those before it don't. `FollowsRules` says that an answer is the refusal of the
--- first rule that refuses, and otherwise the value.
+-- `mappings_of` gives the records of an OMAP table, eight bytes each. A reply `moved` names such a table and a range;
+-- `AreMoved` (in `Reply`) says which ranges it may hold.
 use Rattle.std.specs.Prelude.{◌≡◌, ℕ, List, [], ◌∷◌, map, take, None}
 use Rattle.pdb_base.specs.Rules.{Rule, FirstRefuses, rule_of}
 use Rattle.pdb_msf.specs.Header.{Head}
@@ -29,11 +30,11 @@ use Rattle.pdb_container.specs.Reply.{ReplyValue, bytes, item_record, fields, na
 
 -- ---- what a file holds
 
--- The file has this header, in its first 4096 bytes.
+-- These are the numbers at the offsets of a header in the first 4096 bytes. The rules say whether they are a header.
 abbrev pub HasHead : List ℕ → Head → Type 0
 HasHead file head = head ≡ head_in (take 4096 file)
 
--- The stream of a number holds this table of items.
+-- The stream of a number has these numbers and bytes of a table of items. The rules say whether they are a table.
 abbrev pub HoldsTable : List ℕ → Head → ℕ → Table → Type 0
 HoldsTable file head number table = (stream : List ℕ) × IsStream file head number None stream
     × (table ≡ table_in stream)
@@ -47,7 +48,7 @@ abbrev pub HoldsStrings : List ℕ → Head → ℕ → List ℕ → Type 0
 HoldsStrings file head number names = (stream : List ℕ) × IsStream file head number None stream
     × HoldsNames stream names
 
--- The stream of a number holds this OMAP table.
+-- The stream of a number has these OMAP records. The rules say whether its length is theirs.
 abbrev pub HoldsOmap : List ℕ → Head → ℕ → List OmapValue → Type 0
 HoldsOmap file head number table = (stream : List ℕ) × IsStream file head number None stream
     × (table ≡ mappings_of stream)
