@@ -22,7 +22,7 @@
  * - A pointer points to as many items as its length says. It may be null if that is 0, and no
  *   other pointer is null. What a call writes does not overlap anything else that it is given.
  * - A handle, such as a pdb_file, is all zero before it is first opened. It is not copied. It may
- *   move to another thread, since nothing in it belongs to one, but one call at a time is given it.
+ *   move to another thread, but two threads never use one handle at once.
  * - The bytes that a file is opened with stay where they are until the file is closed, and do not
  *   change during a call. After a change, answers are those of the bytes that the next call finds.
  * - A structure that a call writes is initialized before, such as with = {0}.
@@ -547,8 +547,8 @@ uint32_t pdb_omap_records(pdb_omap *omap, pdb_omap_record *room, size_t room_len
 uint32_t pdb_omap_is_sorted(pdb_omap *omap, uint32_t *is_sorted, pdb_fault *fault);
 
 /* Writes the address to which a table moves an address. The status is PDB_UNMAPPED if the table
- * moves it nowhere. If the table isn't sorted, some record at or below the address gives the
- * answer, or there is none. */
+ * moves it nowhere. If the table isn't sorted, the answer is that of any record whose source is at
+ * or below the address, or there is none. */
 uint32_t pdb_omap_lookup(pdb_omap *omap, uint32_t address, uint32_t *target, pdb_fault *fault);
 
 /* A range of addresses, its end excluded. */
@@ -1011,8 +1011,8 @@ typedef union pdb_type_info {
             uint64_t as_unsigned;
         } value;
         uint32_t is_signed, attributes, unused, width;
-    } enumerate; /* `width` is the number of bytes of the value in the record, and whether that has
-                  * a sign is not the whole truth: see pdb_enumerator_typed */
+    } enumerate; /* `width` is the number of bytes of the value in the record, and `is_signed` says
+                  * whether these have a sign; pdb_enumerator_typed gives the value its own */
     struct {
         uint32_t shape, has;
         uint64_t unused;
