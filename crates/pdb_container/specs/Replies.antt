@@ -1,6 +1,6 @@
 -- What a file replies to a query. `IsMeant` says what the reply is if no rule of `reply_rules` refuses, and the law
 -- `replies` joins the two by `FollowsRules`: an answer is the refusal of the first rule that refuses, and otherwise the
--- value that is meant. A rule of a list refuses only if those before it don't. Both are made of relations, and of
+-- value that is meant. Of a list of rules the first that refuses counts. Both are made of relations, and of
 -- numbers at fixed offsets, which the crates below define:
 -- `head_in` gives the numbers of a header, each at its offset.
 -- `IsStream` says that byte i of a stream is the file's byte at page[i / page size] * page size + i % page size.
@@ -30,11 +30,11 @@ use Rattle.pdb_container.specs.Reply.{ReplyValue, bytes, item_record, fields, na
 
 -- ---- what a file holds
 
--- These are the numbers at the offsets of a header in the first 4096 bytes. The rules say whether they are a header.
+-- The header has the numbers at its offsets in the first 4096 bytes. `file_rules` say whether these are a header.
 abbrev pub HasHead : List ℕ → Head → Type 0
 HasHead file head = head ≡ head_in (take 4096 file)
 
--- The stream of a number has these numbers and bytes of a table of items. The rules say whether they are a table.
+-- Read as a table of items, a stream has this header and these bytes. `table_rules` say whether it is one.
 abbrev pub HoldsTable : List ℕ → Head → ℕ → Table → Type 0
 HoldsTable file head number table = (stream : List ℕ) × IsStream file head number None stream
     × (table ≡ table_in stream)
@@ -48,7 +48,7 @@ abbrev pub HoldsStrings : List ℕ → Head → ℕ → List ℕ → Type 0
 HoldsStrings file head number names = (stream : List ℕ) × IsStream file head number None stream
     × HoldsNames stream names
 
--- The stream of a number has these OMAP records. The rules say whether its length is theirs.
+-- Read as an OMAP table, a stream has these records. `omap_rules` check that its length is a multiple of eight.
 abbrev pub HoldsOmap : List ℕ → Head → ℕ → List OmapValue → Type 0
 HoldsOmap file head number table = (stream : List ℕ) × IsStream file head number None stream
     × (table ≡ mappings_of stream)
