@@ -15,18 +15,19 @@
  * With PDB_TOO_SMALL nothing is written but the length, which is exact. With PDB_OK the answer is
  * at the start of the array, and the items after it are unchanged. With any other status, lengths
  * are 0, and arrays and structures are unchanged, except `fault` and the record of pdb_types_next.
- * pdb_types_read is asked once: it writes as many records as there is room for.
+ * pdb_types_read is another exception: call it without asking for a length. It writes as many
+ * records as there is room for, also before PDB_END or an error.
  *
  * The caller must ensure the following, which nothing checks:
  * - A pointer points to as many items as its length says. It may be null if that is 0, and no
  *   other pointer is null. What a call writes does not overlap anything else that it is given.
  * - A handle, such as a pdb_file, is all zero before it is first opened. It is not copied. It may
- *   move to another thread, since nothing in it belongs to one, but one call at a time is given it.
- * - The bytes that a file is opened with stay where they are until the file is closed. If they
- *   change, answers are those of the bytes that a call finds.
- * - A structure that a call writes already holds some value, such as zeros.
- * - malloc, realloc and free belong to one allocator, and malloc and realloc align a block to each
- *   power of two up to 16 that divides its size. No call is made from a signal handler, nor in the
+ *   move to another thread, but two threads never use one handle at once.
+ * - The bytes that a file is opened with stay where they are until the file is closed, and do not
+ *   change during a call. After a change, answers are those of the bytes that the next call finds.
+ * - A structure that a call writes is initialized before, such as with = {0}.
+ * - malloc, realloc and free belong to one allocator, which aligns a block as the allocators of C
+ *   libraries do: to each power of two up to 16 that divides its size. No call is made from a signal handler, nor in the
  *   child of a fork of a process with threads. */
 #ifndef PDB_CONTAINER_H
 #define PDB_CONTAINER_H
@@ -49,8 +50,8 @@ uint32_t pdb_version(void);
 enum pdb_status {
     PDB_OK = 0,
 
-    /* Errors of the file. The brackets say what `first` is, and then `second`; a number that is not
-       in them is 0. */
+    /* Errors of the file. In brackets is what `first` is, and then `second`; a number that is not
+       named there is 0. */
     PDB_UNRECOGNIZED_FILE_FORMAT = 1,       /* the file has no known magic, or fewer than 4096
                                                bytes */
     PDB_PAGE_REFERENCE_OUT_OF_RANGE = 2,    /* a page number is 0, or above the number of used pages
@@ -89,7 +90,7 @@ enum pdb_status {
     PDB_UNKNOWN_BINARY_ANNOTATION = 27,     /* [the number] */
     PDB_OUT_OF_MEMORY = 28,
 
-    /* Misuse by the caller, and answers that there are not. */
+    /* Misuse by the caller, and statuses of calls without a result. */
     PDB_ALREADY_OPEN = 100, /* the handle holds something already */
     PDB_NOT_OPEN = 101,     /* the handle holds nothing */
     PDB_TOO_SMALL = 102,    /* the array has no room for the answer */
@@ -353,7 +354,7 @@ typedef struct pdb_finding {
     uint64_t byte;      /* the byte of the stream: of a record, that at which its length begins */
     uint64_t file_byte; /* that byte's place in the file */
     uint32_t part;      /* a value of enum pdb_part */
-    uint32_t has_stream; /* each flag is 0 or 1; what it says not to be there is 0 */
+    uint32_t has_stream; /* each flag is 0 or 1; if it is 0, so is its number */
     uint32_t stream;
     uint32_t has_index;
     uint32_t has_byte;
@@ -374,8 +375,8 @@ uint32_t pdb_validate(const uint8_t *file, size_t file_length, uint32_t every, p
 /* ---- the streams of a file */
 
 /* The calls that are given the bytes of a file, for programs that keep the bytes themselves. The
- * functions after them pass on those of a pdb_file; one that isn't open has none, which is no
- * program database. */
+ * pdb_file_ functions after them pass the bytes with which a pdb_file was opened. If it isn't open,
+ * the status is PDB_NOT_OPEN or PDB_UNRECOGNIZED_FILE_FORMAT. */
 uint32_t pdb_bytes_open(const uint8_t *bytes, size_t bytes_length, pdb_file *file,
                         pdb_fault *fault);
 uint32_t pdb_bytes_stream(pdb_file *file, const uint8_t *bytes, size_t bytes_length,
@@ -388,7 +389,7 @@ uint32_t pdb_bytes_named_stream(const uint8_t *bytes, size_t bytes_length, const
 /* The numbers in stream 1 of a file. */
 typedef struct pdb_information {
     uint32_t version;   /* the version of the format, such as 20000404 for version 7 */
-    uint32_t signature; /* the time at which the file was made, in seconds since 1970 */
+    uint32_t signature; /* when the file was made, in seconds since 1970, or a hash */
     uint32_t age;       /* how often the file was written */
     uint8_t guid[16];   /* the bytes as they are in the file */
 } pdb_information;
@@ -546,8 +547,8 @@ uint32_t pdb_omap_records(pdb_omap *omap, pdb_omap_record *room, size_t room_len
 uint32_t pdb_omap_is_sorted(pdb_omap *omap, uint32_t *is_sorted, pdb_fault *fault);
 
 /* Writes the address to which a table moves an address. The status is PDB_UNMAPPED if the table
- * moves it nowhere. If the table isn't sorted, some record at or below the address gives the
- * answer, or there is none. */
+ * moves it nowhere. If the table isn't sorted, the answer is that of any record whose source is at
+ * or below the address, or there is none. */
 uint32_t pdb_omap_lookup(pdb_omap *omap, uint32_t address, uint32_t *target, pdb_fault *fault);
 
 /* A range of addresses, its end excluded. */
@@ -1010,8 +1011,8 @@ typedef union pdb_type_info {
             uint64_t as_unsigned;
         } value;
         uint32_t is_signed, attributes, unused, width;
-    } enumerate; /* `width` is the number of bytes of the value in the record, and whether that has
-                  * a sign is not the whole truth: see pdb_enumerator_typed */
+    } enumerate; /* `width` is the number of bytes of the value in the record, and `is_signed` says
+                  * whether these have a sign; pdb_enumerator_typed gives the value its own */
     struct {
         uint32_t shape, has;
         uint64_t unused;
