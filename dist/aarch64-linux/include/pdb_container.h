@@ -27,8 +27,8 @@
  *   change during a call. After a change, answers are those of the bytes that the next call finds.
  * - A structure that a call writes is initialized before, such as with = {0}.
  * - malloc, realloc and free belong to one allocator, which aligns a block as the allocators of C
- *   libraries do: to each power of two up to 16 that divides its size. No call is made from a signal handler, nor in the
- *   child of a fork of a process with threads. */
+ *   libraries do: to each power of two up to 16 that divides its size. No call is made from a
+ *   signal handler, nor in the child of a fork of a process with threads. */
 #ifndef PDB_CONTAINER_H
 #define PDB_CONTAINER_H
 
