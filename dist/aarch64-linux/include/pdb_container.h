@@ -24,7 +24,7 @@
  * - A handle, such as a pdb_file, is all zero before it is first opened. It is not copied. It may
  *   move to another thread, but two threads never use one handle at once.
  * - The bytes that a file is opened with stay where they are until the file is closed, and do not
- *   change during a call. After a change, answers are those of the bytes that the next call finds.
+ *   change during a call. After a change, streams have the bytes that the next call finds.
  * - A structure that a call writes is initialized before, such as with = {0}.
  * - malloc, realloc and free belong to one allocator, which aligns a block as the allocators of C
  *   libraries do: to each power of two up to 16 that divides its size. No call is made from a
