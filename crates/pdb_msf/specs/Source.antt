@@ -25,8 +25,8 @@ pub record State : Type 0 where
 abbrev pub in_memory : List ℕ → State
 in_memory bytes = record { bytes = bytes; is_fixed = true; faults = 0; last_fault = None; is_sound = true }
 
--- The bytes of the source are fixed: it returns the same ones whenever they are read. Bytes in memory are. Those of a
--- file that a process has opened are only as long as nobody writes to the file.
+-- The bytes of the source are fixed: it returns the same ones whenever they are read. Bytes in memory are. Those of an
+-- opened file aren't, since another process may write to it.
 abbrev pub IsFixed : State → Type 0
 IsFixed state = IsTrue state.is_fixed
 

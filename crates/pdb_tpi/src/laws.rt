@@ -52,8 +52,8 @@ pub fn first_faults()
     ensures id_data { (item : List ℕ) → FollowsRules (id_rules item) (IsIdOf item) (id_of item) }
 {}
 
-/// The fields of an index are those of the lists in its chain, and the error that with which the chain
-/// breaks: the first fault of a list, or that a list is continued by one that isn't below it.
+/// The fields of an index are those of the lists in its chain, and the error is the one with which the
+/// chain breaks: the first fault of a list, or that a list is continued by one that isn't below it.
 #[tactic(auto, using(crate::proofs::lemmas::Faults::fields_follow))]
 pub fn first_faults_of_fields()
     ensures { (table : Table) (index : ℕ) → AreBytes table.bytes →

@@ -8,8 +8,8 @@ ghost use Rattle.pdbdump_rows.specs.Lines.{field_line, full_text, row_text};
 ghost use Rattle.pdbdump_rows.specs.Row.{ShownField, ShownRow};
 ghost use Rattle.pdbdump_rows.specs.Text.{in_quotes, shown_text};
 
-/// A record is one line in either form, and so is a field alone, whatever bytes names hold: the only
-/// control character is the line feed at its end.
+/// A record is one line in either form, and so is a field alone, whatever bytes names hold: no byte
+/// below 0x20 stands in it but the line feed at its end.
 #[tactic(auto, using(crate::proofs::LineLaws::row_is_line, crate::proofs::LineLaws::field_is_line))]
 pub fn lines()
     ensures rows { (form : Form) (row : ShownRow) → IsLine (row_text form row) }
