@@ -68,26 +68,13 @@ enum pdb_status {
                                                from them does */
     PDB_UNIMPLEMENTED_FEATURE = 9,          /* a part of the format that is not read [the number of
                                                a text] */
-    PDB_GLOBAL_SYMBOLS_NOT_FOUND = 10,
-    PDB_SYMBOL_TOO_SHORT = 11,
-    PDB_UNIMPLEMENTED_SYMBOL_KIND = 12,     /* [the kind] */
     PDB_INVALID_TYPE_INFORMATION_HEADER = 13, /* [the number of a text] */
     PDB_TYPE_TOO_SHORT = 14,                /* an item's length leaves no room for its kind */
     PDB_TYPE_NOT_FOUND = 15,                /* [the index] */
-    PDB_TYPE_NOT_INDEXED = 16,              /* [the index, and the one up to which indexes are
-                                               known] */
     PDB_UNIMPLEMENTED_TYPE_KIND = 17,       /* [the kind] */
-    PDB_NOT_A_CROSS_MODULE_REF = 18,        /* [the index] */
-    PDB_CROSS_MODULE_REF_NOT_FOUND = 19,    /* [the index] */
     PDB_UNEXPECTED_NUMERIC_PREFIX = 20,     /* a number begins with a prefix that announces no width
                                                [the prefix] */
     PDB_ADDRESS_MAP_NOT_FOUND = 21,
-    PDB_UNIMPLEMENTED_DEBUG_SUBSECTION = 22, /* [the kind] */
-    PDB_UNIMPLEMENTED_FILE_CHECKSUM_KIND = 23, /* [the kind] */
-    PDB_INVALID_FILE_CHECKSUM_OFFSET = 24,  /* [the offset] */
-    PDB_LINES_NOT_FOUND = 25,
-    PDB_INVALID_COMPRESSED_ANNOTATION = 26,
-    PDB_UNKNOWN_BINARY_ANNOTATION = 27,     /* [the number] */
     PDB_OUT_OF_MEMORY = 28,
 
     /* Misuse by the caller, and statuses of calls without a result. */
@@ -121,24 +108,12 @@ static inline const char *pdb_status_text(uint32_t status) {
     case PDB_IO_ERROR: return "IO error while reading PDB: it ends too soon, or no memory";
     case PDB_UNEXPECTED_EOF: return "the bytes end too soon";
     case PDB_UNIMPLEMENTED_FEATURE: return "a part of the format that is not read";
-    case PDB_GLOBAL_SYMBOLS_NOT_FOUND: return "no global symbols";
-    case PDB_SYMBOL_TOO_SHORT: return "a symbol's length leaves no room for its kind";
-    case PDB_UNIMPLEMENTED_SYMBOL_KIND: return "a symbol kind that is not read";
     case PDB_INVALID_TYPE_INFORMATION_HEADER: return "invalid header of a table of types or ids";
     case PDB_TYPE_TOO_SHORT: return "a record's length leaves no room for its kind";
     case PDB_TYPE_NOT_FOUND: return "no type or id of this index";
-    case PDB_TYPE_NOT_INDEXED: return "an index whose place is not known";
     case PDB_UNIMPLEMENTED_TYPE_KIND: return "a record kind that is not read";
-    case PDB_NOT_A_CROSS_MODULE_REF: return "not a reference to another module";
-    case PDB_CROSS_MODULE_REF_NOT_FOUND: return "no such reference to another module";
     case PDB_UNEXPECTED_NUMERIC_PREFIX: return "a number's prefix announces no width";
     case PDB_ADDRESS_MAP_NOT_FOUND: return "no section headers, and so no address map";
-    case PDB_UNIMPLEMENTED_DEBUG_SUBSECTION: return "a debug subsection that is not read";
-    case PDB_UNIMPLEMENTED_FILE_CHECKSUM_KIND: return "a checksum kind that is not read";
-    case PDB_INVALID_FILE_CHECKSUM_OFFSET: return "invalid offset of a checksum";
-    case PDB_LINES_NOT_FOUND: return "no lines";
-    case PDB_INVALID_COMPRESSED_ANNOTATION: return "invalid compressed annotation";
-    case PDB_UNKNOWN_BINARY_ANNOTATION: return "unknown binary annotation";
     case PDB_OUT_OF_MEMORY: return "an allocation failed";
     case PDB_ALREADY_OPEN: return "the handle is open already";
     case PDB_NOT_OPEN: return "the handle is not open";
@@ -192,38 +167,43 @@ typedef struct pdb_frames {
     pdb_handle handle;
 } pdb_frames;
 
-/* A table of types. */
+/* A table of types or of ids. */
 typedef struct pdb_types {
     pdb_handle handle;
 } pdb_types;
-
-/* A table of ids, which is read as one of types is. */
-typedef struct pdb_ids {
-    pdb_types table;
-} pdb_ids;
 
 /* The definitions of a table of types. */
 typedef struct pdb_definitions {
     pdb_handle handle;
 } pdb_definitions;
 
-/* Closes a handle and frees what it held. A handle that holds nothing is left unchanged. The
- * functions after this one close each kind of handle. */
+/* Closes a handle and frees what it held. A handle that holds nothing is left unchanged. */
 void pdb_close(pdb_handle *handle);
 
+/* These close each kind of handle. Like free, they accept NULL. */
 static inline void pdb_file_close(pdb_file *file) {
+    if (!file) return;
     pdb_close(&file->handle);
     file->bytes = NULL;
     file->length = 0;
 }
-static inline void pdb_names_close(pdb_names *names) { pdb_close(&names->handle); }
-static inline void pdb_omap_close(pdb_omap *omap) { pdb_close(&omap->handle); }
-static inline void pdb_address_map_close(pdb_address_map *map) { pdb_close(&map->handle); }
-static inline void pdb_frames_close(pdb_frames *frames) { pdb_close(&frames->handle); }
-static inline void pdb_types_close(pdb_types *types) { pdb_close(&types->handle); }
-static inline void pdb_ids_close(pdb_ids *ids) { pdb_close(&ids->table.handle); }
+static inline void pdb_names_close(pdb_names *names) {
+    if (names) pdb_close(&names->handle);
+}
+static inline void pdb_omap_close(pdb_omap *omap) {
+    if (omap) pdb_close(&omap->handle);
+}
+static inline void pdb_address_map_close(pdb_address_map *map) {
+    if (map) pdb_close(&map->handle);
+}
+static inline void pdb_frames_close(pdb_frames *frames) {
+    if (frames) pdb_close(&frames->handle);
+}
+static inline void pdb_types_close(pdb_types *types) {
+    if (types) pdb_close(&types->handle);
+}
 static inline void pdb_definitions_close(pdb_definitions *definitions) {
-    pdb_close(&definitions->handle);
+    if (definitions) pdb_close(&definitions->handle);
 }
 
 /* ---- which file it is, from its bytes alone */
@@ -687,8 +667,8 @@ uint32_t pdb_frames_list(pdb_frames *frames, pdb_frame *room, size_t room_length
 
 /* ---- tables of types and of ids */
 
-/* Opens the table of types in a stream, such as PDB_TYPES_STREAM. The stream is copied. A walk
- * along the table begins at its first item. */
+/* Opens the table of types or of ids in a stream, such as PDB_TYPES_STREAM or PDB_IDS_STREAM. The
+ * stream is copied. A walk along the table begins at its first item. */
 uint32_t pdb_types_open(const uint8_t *stream, size_t stream_length, pdb_types *table,
                         pdb_fault *fault);
 
@@ -730,34 +710,6 @@ uint32_t pdb_types_next(pdb_types *table, pdb_record *record, pdb_fault *fault);
 
 /* Moves the walk back to before the first item. */
 uint32_t pdb_types_rewind(pdb_types *table, pdb_fault *fault);
-
-/* The same for a table of ids, such as that in PDB_IDS_STREAM. */
-static inline uint32_t pdb_ids_open(const uint8_t *stream, size_t stream_length, pdb_ids *ids,
-                                    pdb_fault *fault) {
-    return pdb_types_open(stream, stream_length, &ids->table, fault);
-}
-static inline uint32_t pdb_ids_first_index(pdb_ids *ids, uint32_t *index, pdb_fault *fault) {
-    return pdb_types_first_index(&ids->table, index, fault);
-}
-static inline uint32_t pdb_ids_count(pdb_ids *ids, uint32_t *count, pdb_fault *fault) {
-    return pdb_types_count(&ids->table, count, fault);
-}
-static inline uint32_t pdb_ids_find(pdb_ids *ids, uint32_t index, pdb_record *record,
-                                    pdb_fault *fault) {
-    return pdb_types_find(&ids->table, index, record, fault);
-}
-static inline uint32_t pdb_ids_find_all(pdb_ids *ids, const uint32_t *indexes,
-                                        size_t indexes_length, pdb_found_record *room,
-                                        size_t room_length, size_t *length, pdb_fault *fault) {
-    return pdb_types_find_all(&ids->table, indexes, indexes_length, room, room_length, length,
-                              fault);
-}
-static inline uint32_t pdb_ids_next(pdb_ids *ids, pdb_record *record, pdb_fault *fault) {
-    return pdb_types_next(&ids->table, record, fault);
-}
-static inline uint32_t pdb_ids_rewind(pdb_ids *ids, pdb_fault *fault) {
-    return pdb_types_rewind(&ids->table, fault);
-}
 
 /* ---- what a record says */
 

@@ -82,8 +82,6 @@ macro_rules! errors {
                 }
             }
 
-            // A variant of two numbers leaves none to the default.
-            #[allow(clippy::needless_update)]
             fn fault(self) -> sys::Fault {
                 match self {
                     $( ErrorKind::$name $({ $($field),* })? => sys::Fault {
@@ -147,13 +145,6 @@ errors! {
     PDB_TYPE_NOT_FOUND TypeNotFound {
         /// The index.
         index: first
-    }
-    /// No place is known for an index.
-    PDB_TYPE_NOT_INDEXED TypeNotIndexed {
-        /// The index.
-        index: first,
-        /// The one up to which places are known.
-        known: second
     }
     /// A record of a kind that is not read, such as `LF_LABEL` or `LF_VFTABLE`.
     PDB_UNIMPLEMENTED_TYPE_KIND UnimplementedTypeKind {

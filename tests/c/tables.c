@@ -299,6 +299,13 @@ static void check_misuse(void) {
     check_closed(&closed);
     pdb_types_close(&table);
     check_closed(&table);
+    pdb_file_close(NULL);
+    pdb_names_close(NULL);
+    pdb_omap_close(NULL);
+    pdb_address_map_close(NULL);
+    pdb_frames_close(NULL);
+    pdb_types_close(NULL);
+    pdb_definitions_close(NULL);
 }
 
 int main(int words, char **word) {
