@@ -47,7 +47,7 @@ class IdentityFlag(IntFlag):
 
 class Feature(IntFlag):
     """The features that the file tells of itself, in the numbers after the stream names in stream
-    1. What follows the number of VC110 is not read."""
+    1. Numbers after that of VC110 are not read."""
 
     VC110 = 1
     VC140 = 2
@@ -198,7 +198,7 @@ class IdShape(IntEnum):
 
 class Has(IntFlag):
     """The bits of `has`, which say which numbers a record has. The other numbers are 0. The second
-    half names those that only some records of a shape have."""
+    group has names for numbers that only some records of a shape have."""
 
     KIND = 1
     ATTRIBUTES = 2
@@ -327,7 +327,7 @@ class LayoutKind(IntEnum):
 
 
 class Extent(IntEnum):
-    """How far a row of a layout goes."""
+    """How the size of a row of a layout is given."""
 
     BYTES = 0
     BITS = 1

@@ -122,9 +122,9 @@ errors! {
         /// Tells which stream, in the text of the error.
         text: first
     }
-    /// The file ends too soon, or an allocation to read it failed.
+    /// The file ends too soon.
     PDB_IO_ERROR Io {
-        /// 1 where the file ends too soon, 2 where an allocation failed.
+        /// 1: the file ends too soon.
         why: first
     }
     /// The bytes end before the value that is to be read from them does.
