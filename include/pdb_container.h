@@ -353,17 +353,34 @@ uint32_t pdb_validate(const uint8_t *file, size_t file_length, uint32_t every, p
 
 /* ---- the streams of a file */
 
-/* These calls take the bytes of the file each time, for languages that move memory. The pdb_file_
- * functions after them pass the bytes with which a pdb_file was opened; if it isn't open, the
- * status is PDB_NOT_OPEN or PDB_UNRECOGNIZED_FILE_FORMAT. */
-uint32_t pdb_bytes_open(const uint8_t *bytes, size_t bytes_length, pdb_file *file,
-                        pdb_fault *fault);
-uint32_t pdb_bytes_stream(pdb_file *file, const uint8_t *bytes, size_t bytes_length,
-                          uint32_t number, size_t limit, uint8_t *room, size_t room_length,
-                          size_t *length, pdb_fault *fault);
-uint32_t pdb_bytes_named_stream(const uint8_t *bytes, size_t bytes_length, const uint8_t *name,
-                                size_t name_length, uint8_t *room, size_t room_length,
-                                size_t *length, pdb_fault *fault);
+/* Streams whose numbers are fixed, and the number that stands for none. */
+enum pdb_stream_number { PDB_TYPES_STREAM = 2, PDB_IDS_STREAM = 4, PDB_NO_STREAM = 0xffff };
+
+/* Opens a file: reads its header and its directory. The bytes are not copied. The calls of this
+ * section end with PDB_NOT_OPEN if the file isn't open. */
+uint32_t pdb_file_open(const uint8_t *bytes, size_t bytes_length, pdb_file *file,
+                       pdb_fault *fault);
+
+/* Writes the size of the file's pages in bytes, which is a power of two from 256 to 8,388,608. */
+uint32_t pdb_file_page_size(pdb_file *file, uint32_t *page_size, pdb_fault *fault);
+
+/* Writes how many streams the directory has, including absent ones. The streams' numbers are those
+ * below this count. */
+uint32_t pdb_file_stream_count(pdb_file *file, uint32_t *count, pdb_fault *fault);
+
+/* Writes the size of a stream in bytes, as the directory gives it. The status is
+ * PDB_STREAM_NOT_FOUND if the stream is absent. Whether the stream's pages hold that many bytes is
+ * checked only when the stream is copied. */
+uint32_t pdb_file_stream_size(pdb_file *file, uint32_t number, uint32_t *size, pdb_fault *fault);
+
+/* Copies the bytes of a stream, at most `limit` of them. The limit may be SIZE_MAX. */
+uint32_t pdb_file_stream(pdb_file *file, uint32_t number, size_t limit, uint8_t *room,
+                         size_t room_length, size_t *length, pdb_fault *fault);
+
+/* Copies the bytes of the first stream with this name, such as "/names". */
+uint32_t pdb_file_named_stream(pdb_file *file, const uint8_t *name, size_t name_length,
+                               uint8_t *room, size_t room_length, size_t *length,
+                               pdb_fault *fault);
 
 /* The numbers in stream 1 of a file. */
 typedef struct pdb_information {
@@ -373,8 +390,8 @@ typedef struct pdb_information {
     uint8_t guid[16];   /* the bytes as they are in the file */
 } pdb_information;
 
-uint32_t pdb_bytes_information(const uint8_t *bytes, size_t bytes_length,
-                               pdb_information *information, pdb_fault *fault);
+/* Writes the numbers in stream 1. */
+uint32_t pdb_file_information(pdb_file *file, pdb_information *information, pdb_fault *fault);
 
 /* A stream that has a name, and the length of the name in bytes. */
 typedef struct pdb_named_stream {
@@ -382,12 +399,12 @@ typedef struct pdb_named_stream {
     uint32_t number; /* PDB_NO_STREAM if the file gives no stream for the name */
 } pdb_named_stream;
 
-/* Writes the streams that have names, in the order of the file, and the bytes of their names, one
- * after another. The status is PDB_UNIMPLEMENTED_FEATURE if the names together have more bytes than
- * the file, which takes names that overlap. */
-uint32_t pdb_bytes_stream_names(const uint8_t *bytes, size_t bytes_length, pdb_named_stream *rows,
-                                size_t rows_length, size_t *count, uint8_t *names,
-                                size_t names_length, size_t *size, pdb_fault *fault);
+/* Writes the streams that have names, in the order in which the file lists them, and the bytes of
+ * their names, one name after another. The status is PDB_UNIMPLEMENTED_FEATURE if the names
+ * together have more bytes than the file, which takes names that overlap. */
+uint32_t pdb_file_stream_names(pdb_file *file, pdb_named_stream *rows, size_t rows_length,
+                               size_t *count, uint8_t *names, size_t names_length, size_t *size,
+                               pdb_fault *fault);
 
 /* The numbers of the streams in eleven roles, each PDB_NO_STREAM if the file has no such stream. */
 typedef struct pdb_roles {
@@ -404,84 +421,14 @@ typedef struct pdb_roles {
     uint16_t original_section_headers;
 } pdb_roles;
 
-uint32_t pdb_bytes_roles(const uint8_t *bytes, size_t bytes_length, pdb_roles *roles,
-                         pdb_fault *fault);
-uint32_t pdb_bytes_addresses(const uint8_t *bytes, size_t bytes_length, pdb_address_map *addresses,
-                             pdb_fault *fault);
-uint32_t pdb_bytes_frames(const uint8_t *bytes, size_t bytes_length, pdb_frames *frames,
-                          pdb_fault *fault);
-
-/* Streams whose numbers are fixed, and the number that stands for none. */
-enum pdb_stream_number { PDB_TYPES_STREAM = 2, PDB_IDS_STREAM = 4, PDB_NO_STREAM = 0xffff };
-
-/* Opens a file: reads its header and its directory. The bytes are not copied. */
-static inline uint32_t pdb_file_open(const uint8_t *bytes, size_t length, pdb_file *file,
-                                     pdb_fault *fault) {
-    uint32_t status = pdb_bytes_open(bytes, length, file, fault);
-    if (status == PDB_OK) {
-        file->bytes = bytes;
-        file->length = length;
-    }
-    return status;
-}
-
-/* Writes the size of the file's pages in bytes, which is a power of two from 256 to 8,388,608. */
-uint32_t pdb_file_page_size(pdb_file *file, uint32_t *page_size, pdb_fault *fault);
-
-/* Writes how many streams the directory has, including absent ones. The streams' numbers are those
- * below this count. */
-uint32_t pdb_file_stream_count(pdb_file *file, uint32_t *count, pdb_fault *fault);
-
-/* Writes the size of a stream in bytes, as the directory gives it. The status is
- * PDB_STREAM_NOT_FOUND if the stream is absent. Whether the stream's pages hold that many bytes is
- * checked only when the stream is copied. */
-uint32_t pdb_file_stream_size(pdb_file *file, uint32_t number, uint32_t *size, pdb_fault *fault);
-
-/* Copies the bytes of a stream, at most `limit` of them. The limit may be SIZE_MAX. */
-static inline uint32_t pdb_file_stream(pdb_file *file, uint32_t number, size_t limit, uint8_t *room,
-                                       size_t room_length, size_t *length, pdb_fault *fault) {
-    return pdb_bytes_stream(file, file->bytes, file->length, number, limit, room, room_length,
-                            length, fault);
-}
-
-/* Copies the bytes of the first stream with this name, such as "/names". */
-static inline uint32_t pdb_file_named_stream(pdb_file *file, const uint8_t *name,
-                                             size_t name_length, uint8_t *room, size_t room_length,
-                                             size_t *length, pdb_fault *fault) {
-    return pdb_bytes_named_stream(file->bytes, file->length, name, name_length, room, room_length,
-                                  length, fault);
-}
-
-/* Writes the numbers in stream 1. */
-static inline uint32_t pdb_file_information(pdb_file *file, pdb_information *information,
-                                            pdb_fault *fault) {
-    return pdb_bytes_information(file->bytes, file->length, information, fault);
-}
-
-/* Writes the streams that have names, in the order in which the file lists them, and the bytes of
- * their names, one name after another. */
-static inline uint32_t pdb_file_stream_names(pdb_file *file, pdb_named_stream *rows,
-                                             size_t rows_length, size_t *count, uint8_t *names,
-                                             size_t names_length, size_t *size, pdb_fault *fault) {
-    return pdb_bytes_stream_names(file->bytes, file->length, rows, rows_length, count, names,
-                                  names_length, size, fault);
-}
-
 /* Writes the numbers of the streams in their roles. */
-static inline uint32_t pdb_file_roles(pdb_file *file, pdb_roles *roles, pdb_fault *fault) {
-    return pdb_bytes_roles(file->bytes, file->length, roles, fault);
-}
+uint32_t pdb_file_roles(pdb_file *file, pdb_roles *roles, pdb_fault *fault);
 
 /* Opens the address map of a file. */
-static inline uint32_t pdb_file_addresses(pdb_file *file, pdb_address_map *addresses,
-                                          pdb_fault *fault) {
-    return pdb_bytes_addresses(file->bytes, file->length, addresses, fault);
-}
+uint32_t pdb_file_addresses(pdb_file *file, pdb_address_map *addresses, pdb_fault *fault);
 
 /* Opens the frame table of a file. */
-static inline uint32_t pdb_file_frames(pdb_file *file, pdb_frames *frames, pdb_fault *fault) {
-    return pdb_bytes_frames(file->bytes, file->length, frames, fault);
-}
+uint32_t pdb_file_frames(pdb_file *file, pdb_frames *frames, pdb_fault *fault);
 
 /* ---- names */
 

@@ -170,9 +170,9 @@ class Translation:
 class AddressMap(_Ranges):
     """The address map of a file: its sections, and the OMAP tables of a tool that rearranged the image."""
 
-    def __init__(self, lent: Lent):
-        with lent as place:
-            self._map = Opened(library().pdb_bytes_addresses, *place)
+    def __init__(self, source: "_Source"):
+        with source._lent:
+            self._map = Opened(library().pdb_file_addresses, source.handle)
 
     def _translate(self, form: AddressForm, section: int, offset: int) -> Translation:
         numbers = unsigned(section, 16), unsigned(offset)
@@ -212,9 +212,9 @@ class AddressMap(_Ranges):
 class Frames:
     """The frame table of a file, of both formats."""
 
-    def __init__(self, lent: Lent):
-        with lent as place:
-            self._table = Opened(library().pdb_bytes_frames, *place)
+    def __init__(self, source: "_Source"):
+        with source._lent:
+            self._table = Opened(library().pdb_file_frames, source.handle)
 
     def at(self, address: int) -> Optional[Frame]:
         """The first frame from an address of the original image on: the one at the address, or else the first above."""
@@ -325,12 +325,17 @@ class _Source:
         self._kept: Dict[Any, Any] = {}
         try:
             with self._lent as place:
-                self._file = Opened(library().pdb_bytes_open, *place)
+                self._file = Opened(library().pdb_file_open, *place, kind=_sys.File)
         except BaseException:
             self._lent.release()
             raise
-        self.page_size: int = written(c_uint32, library().pdb_file_page_size, self._file.handle).value
-        self.stream_count: int = written(c_uint32, library().pdb_file_stream_count, self._file.handle).value
+        self.page_size: int = written(c_uint32, library().pdb_file_page_size, self.handle).value
+        self.stream_count: int = written(c_uint32, library().pdb_file_stream_count, self.handle).value
+
+    @property
+    def handle(self) -> Any:
+        """The file, as a call takes it."""
+        return self._file.handle
 
     def close(self) -> None:
         """Gives the bytes back, and forgets the types."""
@@ -342,7 +347,7 @@ class _Source:
         """The size of a stream, None if it is absent."""
         with self._lent:
             try:
-                size: int = written(c_uint32, library().pdb_file_stream_size, self._file.handle, number).value
+                size: int = written(c_uint32, library().pdb_file_stream_size, self.handle, number).value
                 return size
             except PdbError as error:
                 if error.status != Status.STREAM_NOT_FOUND:
@@ -352,8 +357,8 @@ class _Source:
     def read(self, number: int, limit: Optional[int] = None) -> Room:
         """The bytes of a stream."""
         most = 2**64 - 1 if limit is None else unsigned(limit, 64)
-        with self._lent as place:
-            return items(c_uint8, library().pdb_bytes_stream, self._file.handle, *place, unsigned(number), most, stream=number)
+        with self._lent:
+            return items(c_uint8, library().pdb_file_stream, self.handle, unsigned(number), most, stream=number)
 
     @_Kept
     def types(self) -> Types:
@@ -407,14 +412,14 @@ class Pdb:
 
     def _named(self, name: Union[str, bytes]) -> Room:
         word = name.encode() if isinstance(name, str) else bytes(name)
-        with self._lent as place:
-            return items(c_uint8, library().pdb_bytes_named_stream, *place, word, len(word))
+        with self._lent:
+            return items(c_uint8, library().pdb_file_named_stream, self._source.handle, word, len(word))
 
     @_Kept
     def information(self) -> Information:
         """The numbers in stream 1, which identify the file."""
-        with self._lent as place:
-            it = written(_sys.Information, library().pdb_bytes_information, *place)
+        with self._lent:
+            it = written(_sys.Information, library().pdb_file_information, self._source.handle)
         return Information(it.version, it.signature, it.age, uuid.UUID(bytes_le=bytes(it.guid)))
 
     @_Kept
@@ -426,8 +431,8 @@ class Pdb:
     @_Kept
     def named_streams(self) -> Dict[str, Optional[int]]:
         """The number of the first stream of each name, None if the file gives none, in the file's order."""
-        with self._lent as place:
-            found = named_items(_sys.NamedStream, library().pdb_bytes_stream_names, *place)
+        with self._lent:
+            found = named_items(_sys.NamedStream, library().pdb_file_stream_names, self._source.handle)
         rows, count, names = found or ([], 0, bytearray())
         streams: Dict[str, Optional[int]] = {}
         at = 0
@@ -440,8 +445,8 @@ class Pdb:
     @_Kept
     def roles(self) -> Roles:
         """The numbers of the streams in eleven roles."""
-        with self._lent as place:
-            it = written(_sys.Roles, library().pdb_bytes_roles, *place)
+        with self._lent:
+            it = written(_sys.Roles, library().pdb_file_roles, self._source.handle)
         numbers = {field.name: getattr(it, field.name) for field in fields(Roles)}
         return Roles(**{name: None if number == NO_STREAM else number for name, number in numbers.items()})
 
@@ -496,12 +501,12 @@ class Pdb:
     @_Kept
     def address_map(self) -> AddressMap:
         """The sections, and the OMAP tables of a tool that rearranged the image."""
-        return AddressMap(self._lent)
+        return AddressMap(self._source)
 
     @_Kept
     def frames(self) -> Frames:
         """The frame table."""
-        return Frames(self._lent)
+        return Frames(self._source)
 
 
 def _view(room: Room) -> memoryview:

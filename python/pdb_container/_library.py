@@ -133,8 +133,8 @@ def library() -> SimpleNamespace:
 class Opened:
     """What the library keeps open. A lock gives it to one call at a time, of any thread."""
 
-    def __init__(self, call: Any, *words: Any, stream: Optional[int] = None):
-        self._handle, fault = Handle(), Fault()
+    def __init__(self, call: Any, *words: Any, stream: Optional[int] = None, kind: Type[Any] = Handle):
+        self._handle, fault = kind(), Fault()
         self.stream = stream
         if call(*words, byref(self._handle), byref(fault)) != Status.OK:
             raise PdbError(fault, stream)

@@ -349,6 +349,14 @@ class Handle(Structure):
     ]
 
 
+class File(Structure):
+    _fields_ = [
+        ("handle", Handle),
+        ("bytes", c_void_p),
+        ("length", c_size_t),
+    ]
+
+
 class Identity(Structure):
     _fields_ = [
         ("version", c_uint32),
@@ -639,17 +647,17 @@ FUNCTIONS = {
     "pdb_key": (c_uint32, [c_void_p, c_uint32, c_void_p, c_size_t, c_void_p, c_void_p]),
     "pdb_format_of": (c_uint32, [c_void_p, c_size_t]),
     "pdb_validate": (c_uint32, [c_void_p, c_size_t, c_uint32, c_void_p, c_size_t, c_void_p, c_void_p]),
-    "pdb_bytes_open": (c_uint32, [c_void_p, c_size_t, c_void_p, c_void_p]),
-    "pdb_bytes_stream": (c_uint32, [c_void_p, c_void_p, c_size_t, c_uint32, c_size_t, c_void_p, c_size_t, c_void_p, c_void_p]),
-    "pdb_bytes_named_stream": (c_uint32, [c_void_p, c_size_t, c_void_p, c_size_t, c_void_p, c_size_t, c_void_p, c_void_p]),
-    "pdb_bytes_information": (c_uint32, [c_void_p, c_size_t, c_void_p, c_void_p]),
-    "pdb_bytes_stream_names": (c_uint32, [c_void_p, c_size_t, c_void_p, c_size_t, c_void_p, c_void_p, c_size_t, c_void_p, c_void_p]),
-    "pdb_bytes_roles": (c_uint32, [c_void_p, c_size_t, c_void_p, c_void_p]),
-    "pdb_bytes_addresses": (c_uint32, [c_void_p, c_size_t, c_void_p, c_void_p]),
-    "pdb_bytes_frames": (c_uint32, [c_void_p, c_size_t, c_void_p, c_void_p]),
+    "pdb_file_open": (c_uint32, [c_void_p, c_size_t, c_void_p, c_void_p]),
     "pdb_file_page_size": (c_uint32, [c_void_p, c_void_p, c_void_p]),
     "pdb_file_stream_count": (c_uint32, [c_void_p, c_void_p, c_void_p]),
     "pdb_file_stream_size": (c_uint32, [c_void_p, c_uint32, c_void_p, c_void_p]),
+    "pdb_file_stream": (c_uint32, [c_void_p, c_uint32, c_size_t, c_void_p, c_size_t, c_void_p, c_void_p]),
+    "pdb_file_named_stream": (c_uint32, [c_void_p, c_void_p, c_size_t, c_void_p, c_size_t, c_void_p, c_void_p]),
+    "pdb_file_information": (c_uint32, [c_void_p, c_void_p, c_void_p]),
+    "pdb_file_stream_names": (c_uint32, [c_void_p, c_void_p, c_size_t, c_void_p, c_void_p, c_size_t, c_void_p, c_void_p]),
+    "pdb_file_roles": (c_uint32, [c_void_p, c_void_p, c_void_p]),
+    "pdb_file_addresses": (c_uint32, [c_void_p, c_void_p, c_void_p]),
+    "pdb_file_frames": (c_uint32, [c_void_p, c_void_p, c_void_p]),
     "pdb_names_open": (c_uint32, [c_void_p, c_size_t, c_void_p, c_void_p]),
     "pdb_names_place": (c_uint32, [c_void_p, c_uint32, c_void_p, c_void_p]),
     "pdb_names_places": (c_uint32, [c_void_p, c_void_p, c_size_t, c_void_p, c_size_t, c_void_p, c_void_p]),

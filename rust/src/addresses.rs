@@ -1,7 +1,7 @@
 use std::ops::Range;
 
 use crate::error::Result;
-use crate::handle::{Shared, items, value};
+use crate::handle::{Handle, Shared, items, value};
 use crate::names::Name;
 use crate::sys;
 
@@ -114,9 +114,8 @@ pub enum Address {
 }
 
 impl AddressMap {
-    pub(crate) fn open(file: &[u8]) -> Result<AddressMap> {
-        Shared::open(|map, fault| unsafe { sys::pdb_bytes_addresses(file.as_ptr(), file.len(), map, fault) })
-            .map(AddressMap)
+    pub(crate) fn open(file: &Handle<sys::File>) -> Result<AddressMap> {
+        Shared::open(|map, fault| unsafe { sys::pdb_file_addresses(file.get(), map, fault) }).map(AddressMap)
     }
 
     /// The four forms of an address or a place.

@@ -17,7 +17,7 @@ const NO_STREAM: u32 = 0xffff;
 /// A program database over bytes that it borrows: its header and its directory are kept.
 pub struct Pdb<'f> {
     bytes: &'f [u8],
-    file: Handle,
+    file: Handle<sys::File>,
     page_size: u32,
     stream_count: u32,
 }
@@ -35,7 +35,7 @@ impl<'f> Pdb<'f> {
     pub fn parse(bytes: &'f [u8]) -> Result<Pdb<'f>> {
         // SAFETY: the slice is as long as it says, and the handle is all zero; so in all of this file.
         let file =
-            Handle::open(|file, fault| unsafe { sys::pdb_bytes_open(bytes.as_ptr(), bytes.len(), file, fault) })?;
+            Handle::open(|file, fault| unsafe { sys::pdb_file_open(bytes.as_ptr(), bytes.len(), file, fault) })?;
         let page_size = value(|size, fault| unsafe { sys::pdb_file_page_size(file.get(), size, fault) })?;
         let stream_count = value(|count, fault| unsafe { sys::pdb_file_stream_count(file.get(), count, fault) })?;
         Ok(Pdb {
@@ -74,18 +74,15 @@ impl<'f> Pdb<'f> {
 
     /// The bytes of a stream, at most `limit` of them.
     pub fn stream_prefix(&self, number: u32, limit: usize) -> Result<Vec<u8>> {
-        let (at, length) = (self.bytes.as_ptr(), self.bytes.len());
         let bytes = items(|room, size, count, fault| unsafe {
-            sys::pdb_bytes_stream(self.file.get(), at, length, number, limit, room, size, count, fault)
+            sys::pdb_file_stream(self.file.get(), number, limit, room, size, count, fault)
         });
         Ok(bytes.map_err(|error| error.at(Some(number), None))?.unwrap_or_default())
     }
 
     /// The numbers that identify the file.
     pub fn information(&self) -> Result<Information> {
-        let found = value(|to: *mut sys::Information, fault| unsafe {
-            sys::pdb_bytes_information(self.bytes.as_ptr(), self.bytes.len(), to, fault)
-        })?;
+        let found = value(|to, fault| unsafe { sys::pdb_file_information(self.file.get(), to, fault) })?;
         let sys::Information { version, signature, age, guid } = found.unwrap_or_default();
         Ok(Information { version, signature, age, guid: Guid(guid) })
     }
@@ -98,17 +95,7 @@ impl<'f> Pdb<'f> {
     /// The streams that have names, in the order in which the file lists them.
     pub fn named_streams(&self) -> Result<Vec<NamedStream>> {
         let found = named_items(|rows: *mut sys::NamedStream, length, count, names, room, size, fault| unsafe {
-            sys::pdb_bytes_stream_names(
-                self.bytes.as_ptr(),
-                self.bytes.len(),
-                rows,
-                length,
-                count,
-                names,
-                room,
-                size,
-                fault,
-            )
+            sys::pdb_file_stream_names(self.file.get(), rows, length, count, names, room, size, fault)
         })?;
         let (rows, names) = found.unwrap_or_default();
         let mut from = 0;
@@ -124,25 +111,14 @@ impl<'f> Pdb<'f> {
     pub fn named_stream(&self, name: impl AsRef<[u8]>) -> Result<Vec<u8>> {
         let name = name.as_ref();
         let bytes = items(|room, size, count, fault| unsafe {
-            sys::pdb_bytes_named_stream(
-                self.bytes.as_ptr(),
-                self.bytes.len(),
-                name.as_ptr(),
-                name.len(),
-                room,
-                size,
-                count,
-                fault,
-            )
+            sys::pdb_file_named_stream(self.file.get(), name.as_ptr(), name.len(), room, size, count, fault)
         })?;
         Ok(bytes.unwrap_or_default())
     }
 
     /// The numbers of the streams in eleven roles.
     pub fn roles(&self) -> Result<Roles> {
-        let found = value(|to: *mut sys::Roles, fault| unsafe {
-            sys::pdb_bytes_roles(self.bytes.as_ptr(), self.bytes.len(), to, fault)
-        })?;
+        let found = value(|to, fault| unsafe { sys::pdb_file_roles(self.file.get(), to, fault) })?;
         Ok(Roles::of(&found.unwrap_or_default()))
     }
 
@@ -196,12 +172,12 @@ impl<'f> Pdb<'f> {
 
     /// The address map: the sections, and the OMAP tables of a tool that rearranged the image.
     pub fn address_map(&self) -> Result<AddressMap> {
-        AddressMap::open(self.bytes)
+        AddressMap::open(&self.file)
     }
 
     /// The frame table.
     pub fn frames(&self) -> Result<Frames> {
-        Frames::open(self.bytes)
+        Frames::open(&self.file)
     }
 }
 

@@ -1,5 +1,5 @@
 use crate::error::Result;
-use crate::handle::{Shared, items, value};
+use crate::handle::{Handle, Shared, items, value};
 use crate::sys;
 
 /// What a stack walker needs to know about the frame of a piece of code.
@@ -10,10 +10,9 @@ pub type Frame = sys::Frame;
 pub struct Frames(Shared);
 
 impl Frames {
-    pub(crate) fn open(file: &[u8]) -> Result<Frames> {
-        // SAFETY: the slice is as long as it says, and the handle is all zero.
-        Shared::open(|frames, fault| unsafe { sys::pdb_bytes_frames(file.as_ptr(), file.len(), frames, fault) })
-            .map(Frames)
+    pub(crate) fn open(file: &Handle<sys::File>) -> Result<Frames> {
+        // SAFETY: the file is open, and the handle is all zero.
+        Shared::open(|frames, fault| unsafe { sys::pdb_file_frames(file.get(), frames, fault) }).map(Frames)
     }
 
     /// The first frame from an address of the original image on: the one at the address, or else the first above it.

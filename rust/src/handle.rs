@@ -4,20 +4,31 @@ use std::sync::{Mutex, MutexGuard, PoisonError};
 use crate::error::{Error, ErrorKind, Result};
 use crate::sys;
 
+/// A structure of the header that a call opens.
+///
+/// # Safety
+/// It begins with a `sys::Handle`, and all of it may be zero.
+pub(crate) unsafe trait Opens {}
+
+// SAFETY: these are structures of pointers and numbers, and a handle is their first field.
+unsafe impl Opens for sys::Handle {}
+unsafe impl Opens for sys::File {}
+
 /// What the library keeps open, which is closed once, when this is dropped.
 ///
 /// No two calls have a handle at once: it is not `Sync`, and no call of the library calls back.
 #[derive(Debug)]
-pub(crate) struct Handle(UnsafeCell<sys::Handle>);
+pub(crate) struct Handle<H: Opens = sys::Handle>(UnsafeCell<H>);
 
 // SAFETY: a handle owns blocks of `malloc`, which any thread may read and free, and nothing in it belongs to a thread.
-unsafe impl Send for Handle {}
+unsafe impl<H: Opens> Send for Handle<H> {}
 
-impl Handle {
+impl<H: Opens> Handle<H> {
     /// Opens a handle by a call.
-    pub fn open(call: impl FnOnce(*mut sys::Handle, *mut sys::Fault) -> u32) -> Result<Handle> {
+    pub fn open(call: impl FnOnce(*mut H, *mut sys::Fault) -> u32) -> Result<Handle<H>> {
         check_version()?;
-        let handle = Handle(UnsafeCell::new(sys::Handle { held: std::ptr::null_mut(), kind: 0 }));
+        // SAFETY: all of it may be zero.
+        let handle = Handle(UnsafeCell::new(unsafe { std::mem::zeroed() }));
         let mut fault = sys::Fault::default();
         match call(handle.get(), &mut fault) {
             sys::PDB_OK => Ok(handle),
@@ -25,15 +36,15 @@ impl Handle {
         }
     }
 
-    pub fn get(&self) -> *mut sys::Handle {
+    pub fn get(&self) -> *mut H {
         self.0.get()
     }
 }
 
-impl Drop for Handle {
+impl<H: Opens> Drop for Handle<H> {
     fn drop(&mut self) {
-        // SAFETY: the handle is all zero, or the library opened it; this value alone has it.
-        unsafe { sys::pdb_close(self.get()) }
+        // SAFETY: the handle is all zero, or the library opened it; this value alone has it, and it begins with it.
+        unsafe { sys::pdb_close(self.get().cast()) }
     }
 }
 

@@ -23,6 +23,14 @@ pub struct Handle {
 }
 
 #[repr(C)]
+#[derive(Debug)]
+pub struct File {
+    pub handle: Handle,
+    pub bytes: *mut u8,
+    pub length: usize,
+}
+
+#[repr(C)]
 #[derive(Debug, Clone, Copy, Default, PartialEq, Eq)]
 pub struct Identity {
     pub version: u32,
@@ -473,17 +481,17 @@ unsafe extern "C" {
     pub fn pdb_key(identity: *const Identity, form: u32, room: *mut u8, room_length: usize, length: *mut usize, fault: *mut Fault) -> u32;
     pub fn pdb_format_of(file: *const u8, file_length: usize) -> u32;
     pub fn pdb_validate(file: *const u8, file_length: usize, every: u32, room: *mut Finding, room_length: usize, length: *mut usize, fault: *mut Fault) -> u32;
-    pub fn pdb_bytes_open(bytes: *const u8, bytes_length: usize, file: *mut Handle, fault: *mut Fault) -> u32;
-    pub fn pdb_bytes_stream(file: *mut Handle, bytes: *const u8, bytes_length: usize, number: u32, limit: usize, room: *mut u8, room_length: usize, length: *mut usize, fault: *mut Fault) -> u32;
-    pub fn pdb_bytes_named_stream(bytes: *const u8, bytes_length: usize, name: *const u8, name_length: usize, room: *mut u8, room_length: usize, length: *mut usize, fault: *mut Fault) -> u32;
-    pub fn pdb_bytes_information(bytes: *const u8, bytes_length: usize, information: *mut Information, fault: *mut Fault) -> u32;
-    pub fn pdb_bytes_stream_names(bytes: *const u8, bytes_length: usize, rows: *mut NamedStream, rows_length: usize, count: *mut usize, names: *mut u8, names_length: usize, size: *mut usize, fault: *mut Fault) -> u32;
-    pub fn pdb_bytes_roles(bytes: *const u8, bytes_length: usize, roles: *mut Roles, fault: *mut Fault) -> u32;
-    pub fn pdb_bytes_addresses(bytes: *const u8, bytes_length: usize, addresses: *mut Handle, fault: *mut Fault) -> u32;
-    pub fn pdb_bytes_frames(bytes: *const u8, bytes_length: usize, frames: *mut Handle, fault: *mut Fault) -> u32;
-    pub fn pdb_file_page_size(file: *mut Handle, page_size: *mut u32, fault: *mut Fault) -> u32;
-    pub fn pdb_file_stream_count(file: *mut Handle, count: *mut u32, fault: *mut Fault) -> u32;
-    pub fn pdb_file_stream_size(file: *mut Handle, number: u32, size: *mut u32, fault: *mut Fault) -> u32;
+    pub fn pdb_file_open(bytes: *const u8, bytes_length: usize, file: *mut File, fault: *mut Fault) -> u32;
+    pub fn pdb_file_page_size(file: *mut File, page_size: *mut u32, fault: *mut Fault) -> u32;
+    pub fn pdb_file_stream_count(file: *mut File, count: *mut u32, fault: *mut Fault) -> u32;
+    pub fn pdb_file_stream_size(file: *mut File, number: u32, size: *mut u32, fault: *mut Fault) -> u32;
+    pub fn pdb_file_stream(file: *mut File, number: u32, limit: usize, room: *mut u8, room_length: usize, length: *mut usize, fault: *mut Fault) -> u32;
+    pub fn pdb_file_named_stream(file: *mut File, name: *const u8, name_length: usize, room: *mut u8, room_length: usize, length: *mut usize, fault: *mut Fault) -> u32;
+    pub fn pdb_file_information(file: *mut File, information: *mut Information, fault: *mut Fault) -> u32;
+    pub fn pdb_file_stream_names(file: *mut File, rows: *mut NamedStream, rows_length: usize, count: *mut usize, names: *mut u8, names_length: usize, size: *mut usize, fault: *mut Fault) -> u32;
+    pub fn pdb_file_roles(file: *mut File, roles: *mut Roles, fault: *mut Fault) -> u32;
+    pub fn pdb_file_addresses(file: *mut File, addresses: *mut Handle, fault: *mut Fault) -> u32;
+    pub fn pdb_file_frames(file: *mut File, frames: *mut Handle, fault: *mut Fault) -> u32;
     pub fn pdb_names_open(stream: *const u8, stream_length: usize, names: *mut Handle, fault: *mut Fault) -> u32;
     pub fn pdb_names_place(names: *mut Handle, offset: u32, place: *mut Name, fault: *mut Fault) -> u32;
     pub fn pdb_names_places(names: *mut Handle, offsets: *const u32, offsets_length: usize, room: *mut Name, room_length: usize, length: *mut usize, fault: *mut Fault) -> u32;

@@ -374,13 +374,13 @@ static void ask_whole(const char *what, const uint8_t *bytes, size_t bytes_lengt
     char front[64];
 #define TOLD(name, status) (snprintf(front, sizeof front, "%s %s", what, name), told(front, status))
     TOLD("open", pdb_file_open(bytes, bytes_length, &whole, &fault));
-    TOLD("information", pdb_bytes_information(bytes, bytes_length, &said, &fault));
+    TOLD("information", pdb_file_information(&whole, &said, &fault));
     TOLD("identity", pdb_identity_of(bytes, bytes_length, &identity, &fault));
-    TOLD("stream names", pdb_bytes_stream_names(bytes, bytes_length, rows, 64, &count, text, ROOM, &length, &fault));
-    TOLD("named stream", pdb_bytes_named_stream(bytes, bytes_length, (const uint8_t *)"/names", 6, text, ROOM, &length, &fault));
-    TOLD("roles", pdb_bytes_roles(bytes, bytes_length, &roles, &fault));
-    TOLD("addresses", pdb_bytes_addresses(bytes, bytes_length, &map, &fault));
-    TOLD("frames", pdb_bytes_frames(bytes, bytes_length, &frames, &fault));
+    TOLD("stream names", pdb_file_stream_names(&whole, rows, 64, &count, text, ROOM, &length, &fault));
+    TOLD("named stream", pdb_file_named_stream(&whole, (const uint8_t *)"/names", 6, text, ROOM, &length, &fault));
+    TOLD("roles", pdb_file_roles(&whole, &roles, &fault));
+    TOLD("addresses", pdb_file_addresses(&whole, &map, &fault));
+    TOLD("frames", pdb_file_frames(&whole, &frames, &fault));
 #undef TOLD
     pdb_file_close(&whole);
     pdb_address_map_close(&map);

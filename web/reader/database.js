@@ -28,17 +28,12 @@ export class Database {
 
   /** The header and the directory, which are read when they are first needed. */
   get #handle() {
-    this.#opened ??= this.#native.opened("pdb_bytes_open", this.#file.at, this.#file.length);
+    this.#opened ??= this.#native.opened("pdb_file_open", this.#file.at, this.#file.length);
     return this.#opened;
   }
 
   pageSize() {
     return this.#native.value(u32, "pdb_file_page_size", this.#handle);
-  }
-
-  /** Asks for a value of the whole file. */
-  #value(type, name) {
-    return this.#native.value(type, name, this.#file.at, this.#file.length);
   }
 
   /** What identifies the file. */
@@ -72,18 +67,18 @@ export class Database {
     omapToSource: () => this.#omap("omap_to_src"),
     omapFromSource: () => this.#omap("omap_from_src"),
     frames: () => this.#frames(),
-    addresses: () => this.#native.opened("pdb_bytes_addresses", this.#file.at, this.#file.length),
+    addresses: () => this.#native.opened("pdb_file_addresses", this.#handle),
   };
 
   /** A stream in the module's memory. */
   #streamOf(number, what) {
-    const stream = number === NO_STREAM ? undefined : this.#native.stream(this.#handle, this.#file, number);
+    const stream = number === NO_STREAM ? undefined : this.#native.stream(this.#handle, number);
     if (!stream) throw new Error(`The file has no stream of ${what}.`);
     return stream;
   }
 
   #namedStreams() {
-    return this.#native.named(NamedStream, "pdb_bytes_stream_names", this.#file.at, this.#file.length);
+    return this.#native.named(NamedStream, "pdb_file_stream_names", this.#handle);
   }
 
   #named(name) {
@@ -91,7 +86,7 @@ export class Database {
   }
 
   #roles() {
-    return this.#value(Roles, "pdb_bytes_roles");
+    return this.#native.value(Roles, "pdb_file_roles", this.#handle);
   }
 
   #streams() {
@@ -122,7 +117,7 @@ export class Database {
   }
 
   #frames() {
-    const handle = this.#native.opened("pdb_bytes_frames", this.#file.at, this.#file.length);
+    const handle = this.#native.opened("pdb_file_frames", this.#handle);
     const frames = this.#native.rows(Frame, "pdb_frames_list", handle);
     const program = (frame) => (frame.hasProgram ? orEmpty(() => this.table("names").at(frame.program), "") : "");
     const row = (frame) => ({ ...frame, kind: FRAME_KINDS[frame.kind] ?? "unknown", program: program(frame) });

@@ -141,11 +141,11 @@ export class Native {
   }
 
   /** A stream of an open file, which stays in the module's memory; undefined if the file has none of this number. */
-  stream(handle, file, number) {
+  stream(handle, number) {
     const { library } = this;
     return library.with(8, (length) => {
-      const words = [handle, file.at, file.length, number, NO_LIMIT];
-      const ask = (room, size) => library.call("pdb_bytes_stream", [...words, room, size, length], [TOO_SMALL, ...ABSENT]);
+      const words = [handle, number, NO_LIMIT];
+      const ask = (room, size) => library.call("pdb_file_stream", [...words, room, size, length], [TOO_SMALL, ...ABSENT]);
       if (ABSENT.includes(ask(0n, 0n))) return undefined;
       const stream = { at: library.room(library.long(length)), length: library.long(length) };
       if (stream.length) ask(stream.at, stream.length);

@@ -6,14 +6,15 @@ ghost use Rattle.pdb_handles.specs.Copied.{CopiesAnswer, CopiesOrLacks, copied_o
 ghost use Rattle.pdb_handles.specs.Handle.{OpensStream, held_as, omap_held, Opens, addresses_held};
 ghost use Rattle.pdb_handles.specs.Addresses.{TellsMoved, TellsOrder, omap_info, WritesMoved, Translates};
 ghost use Rattle.pdb_handles.specs.{declared.content.Content.TheVariants.Omap, Fault.not_open, Fault.too_long};
-ghost use Rattle.pdb_handles.specs.{Found.AsksContent, Found.not_held, File.addresses_said, File.sections_told};
+ghost use Rattle.pdb_handles.specs.{Found.AsksContent, Found.not_held, Handle.file_held};
+ghost use Rattle.pdb_handles.specs.File.{IsFileKept, addresses_said, sections_told};
 
 use pdb_handles::addresses::{
     OmapRow, Span, Translation, records_in, table_in, tell_order, translate, write_internal,
     write_loaded, write_moved,
 };
 use pdb_handles::copied::{copy_list, copy_nothing};
-use pdb_handles::file::addresses_in;
+use pdb_handles::file::{OpenFile, addresses_in};
 use pdb_handles::found::tell_found;
 use pdb_handles::sections::{Section, sections_in};
 use pdb_handles::{Fault, Handle, TOO_LONG, UNMAPPED};
@@ -135,16 +136,21 @@ pub extern "C" fn pdb_sections(
 
 /// Opens the address map of a file.
 #[unsafe(no_mangle)]
-pub extern "C" fn pdb_bytes_addresses(
+pub extern "C" fn pdb_file_addresses(
     alloc: Global,
-    bytes: &[u8],
+    file: &mut OpenFile<'_>,
     addresses: &mut Handle,
     fault: &mut Fault,
 ) -> u32
-    ensures opens { Opens addresses.old.held.content (addresses_said bytes.now) fault.new addresses.new.held.content }
+    ensures opens { AsksContent
+        (λ layout told. Opens addresses.old.held.content (addresses_said file.old.bytes.now) told.fault told.value)
+        (not_held addresses.old.held.content) (file_held file.old.handle.held.content)
+        (record { fault = fault.new; value = addresses.new.held.content }) }
+    ensures kept { IsFileKept file.old file.new }
     ensures status { result ≡ fault.new.status }
 {
-    open!(addresses, alloc, addresses_in(alloc, bytes)).tell(fault)
+    let bytes = file.bytes;
+    ask!(file.handle, alloc, fault, File(_layout) => open!(addresses, alloc, addresses_in(alloc, bytes)))
 }
 
 /// Writes the four forms of an address or a place. `form` is its own form, numbered as in

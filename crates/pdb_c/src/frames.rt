@@ -3,27 +3,32 @@
 ghost use Rattle.std.specs.Prelude.{◌≡◌, IfSome, map, Ok};
 ghost use Rattle.pdb_frames.specs.{Merge.by_heads, Merge.merge, Table.StartsIncrease};
 ghost use Rattle.pdb_handles.specs.Copied.{CopiesOrLacks, copied_of, items_copied};
-ghost use Rattle.pdb_handles.specs.{File.frames_said, Found.AsksContent, Found.not_held, Frame.TellsFirst};
-ghost use Rattle.pdb_handles.specs.{Frame.frame_of, Handle.Opens, Handle.frames_held};
+ghost use Rattle.pdb_handles.specs.{File.IsFileKept, File.frames_said, Found.AsksContent, Found.not_held};
+ghost use Rattle.pdb_handles.specs.{Frame.TellsFirst, Frame.frame_of, Handle.Opens, Handle.file_held, Handle.frames_held};
 
 use pdb_handles::copied::copy_list;
-use pdb_handles::file::frames_in;
+use pdb_handles::file::{OpenFile, frames_in};
 use pdb_handles::frames::{all_frames, tell_first};
 use pdb_handles::{Fault, Frame, Handle};
 use std::alloc::Global;
 
 /// Opens the frame table of a file.
 #[unsafe(no_mangle)]
-pub extern "C" fn pdb_bytes_frames(
+pub extern "C" fn pdb_file_frames(
     alloc: Global,
-    bytes: &[u8],
+    file: &mut OpenFile<'_>,
     frames: &mut Handle,
     fault: &mut Fault,
 ) -> u32
-    ensures opens { Opens frames.old.held.content (frames_said bytes.now) fault.new frames.new.held.content }
+    ensures opens { AsksContent
+        (λ layout told. Opens frames.old.held.content (frames_said file.old.bytes.now) told.fault told.value)
+        (not_held frames.old.held.content) (file_held file.old.handle.held.content)
+        (record { fault = fault.new; value = frames.new.held.content }) }
+    ensures kept { IsFileKept file.old file.new }
     ensures status { result ≡ fault.new.status }
 {
-    open!(frames, alloc, frames_in(alloc, bytes)).tell(fault)
+    let bytes = file.bytes;
+    ask!(file.handle, alloc, fault, File(_layout) => open!(frames, alloc, frames_in(alloc, bytes)))
 }
 
 /// Writes the frame at an address of the original image: the first that `FrameTable::iter_at_rva`

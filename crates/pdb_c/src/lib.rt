@@ -3,7 +3,7 @@
 
 /// Opens a handle that holds nothing, and returns how that ended.
 macro_rules! open {
-    ($handle:ident, $alloc:expr, $opened:expr) => {
+    ($handle:expr, $alloc:expr, $opened:expr) => {
         if $handle.is_open() {
             pdb_handles::Fault::status(pdb_handles::ALREADY_OPEN)
         } else {
@@ -27,7 +27,7 @@ macro_rules! open_stream {
 /// Tells how a call ended that is about what a handle holds: as an expression of its content says,
 /// or with `NOT_OPEN` if the handle holds nothing of that kind.
 macro_rules! ask {
-    ($handle:ident, $alloc:ident, $fault:ident, $kind:ident($content:ident) => $told:expr) => {
+    ($handle:expr, $alloc:ident, $fault:ident, $kind:ident($content:ident) => $told:expr) => {
         match $handle.take($alloc) {
             Some(mut content) => {
                 let told = match &mut *content {

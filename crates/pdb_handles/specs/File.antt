@@ -1,9 +1,9 @@
 -- What is read of a caller's file, as a caller sees it.
-use Rattle.std.specs.Prelude.{ℕ, List, Some, Ok, length, map, Option, nat_le, codes}
+use Rattle.std.specs.Prelude.{◌≡◌, ◌×◌, ℕ, List, Some, None, Ok, length, map, Option, nat_le, codes}
 use Rattle.std.specs.List.{flat_map}
 use Rattle.pdb_base.specs.Answer.{Answer, ◌>>=◌, ok_if}
 use Rattle.pdb_base.specs.Refusal.{unimplemented_feature}
-use Rattle.pdb_msf.specs.{Header.Head, Header.file_head, File.stream_of, Layout.layout_of}
+use Rattle.pdb_msf.specs.{Header.Head, Header.file_head, File.stream_of, Layout.LayoutValue, Layout.layout_of}
 use Rattle.pdb_space.specs.declared.section_header.ImageSectionHeader.{ImageSectionHeader}
 use Rattle.pdb_file.specs.File.{file_address_map, file_frame_table, file_named_stream, file_roles, file_information}
 use Rattle.pdb_file.specs.declared.debug_header.DBIExtraStreams.{DBIExtraStreams}
@@ -12,8 +12,14 @@ use Rattle.pdb_file.specs.{declared.information.PDBInformation.PDBInformation, S
 use Rattle.pdb_handles.specs.declared.information.Information.{Information}
 use Rattle.pdb_handles.specs.declared.information.NamedStream.{NamedStream}
 use Rattle.pdb_handles.specs.{declared.content.Content.Content, Handle.held_as, declared.roles.Roles.Roles}
-use Rattle.pdb_handles.specs.{Records.NamedRows, declared.sections.Section.Section}
+use Rattle.pdb_handles.specs.{declared.file.OpenFile.OpenFile, Fault.not_open, Records.listing_told}
+use Rattle.pdb_handles.specs.{Records.Fielded, Records.NamedRows, Records.no_rows_copied}
+use Rattle.pdb_handles.specs.declared.sections.Section.{Section}
 use Rattle.pdb_handles.specs.declared.content.Content.TheVariants as contents
+
+-- A call leaves a file as it was: open to the same layout, over the same bytes.
+abbrev pub IsFileKept : OpenFile → OpenFile → Type 0
+IsFileKept old new = (new.handle.held.content ≡ old.handle.held.content) × (new.bytes.now ≡ old.bytes.now)
 
 -- what is read of a file, whose header is read first
 abbrev pub read_of_file : {A : Type 0} → (List ℕ → Head → Answer A) → List ℕ → Answer A
@@ -87,6 +93,11 @@ names_said file = do
   fit ← ok_if (nat_le (length (names_of_all streams)) (length file))
       (unimplemented_feature (codes "stream names that share bytes"))
   Ok (Some (named_listing streams))
+
+-- the same for a file that is open, and else `not_open`
+abbrev pub names_asked : List NamedStream → List ℕ → List ℕ → Option LayoutValue → Fielded NamedStream
+names_asked rows names bytes (Some layout) = listing_told rows names (names_said bytes)
+names_asked rows names bytes None = no_rows_copied not_open rows names
 
 -- a section for the caller
 abbrev pub section_info : ImageSectionHeader → Section

@@ -6,10 +6,20 @@ ghost use Rattle.pdb_msf.specs.Header.{file_head};
 ghost use Rattle.pdb_handles.specs.File.{addresses_said, frames_said, layout_said, named_stream_said};
 
 use crate::content::Content;
+use crate::handle::Handle;
 use pdb_base::{Result, Stream};
 use pdb_file::PDB;
 use pdb_msf::{CountedSource, Layout};
 use std::alloc::Global;
+
+/// A file that a caller opened. The bytes stay with the caller.
+#[repr(C)]
+pub struct OpenFile<'f> {
+    /// The handle that holds the layout.
+    pub handle: Handle,
+    /// The bytes with which it was opened.
+    pub bytes: &'f [u8],
+}
 
 /// Opens a file over the caller's bytes.
 ///
