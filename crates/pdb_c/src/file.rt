@@ -4,7 +4,8 @@
 ghost use Rattle.std.specs.Prelude.{◌≡◌, ◌==◌, if◌then◌else◌, Some, Ok};
 ghost use Rattle.pdb_msf.specs.{Directory.stream_count_in, Layout.size_by, Layout.stream_by};
 ghost use Rattle.pdb_identity.specs.Format.{format_of};
-ghost use Rattle.pdb_handles.specs.File.{IsFileKept, layout_said, named_stream_said, information_said, names_asked, roles_said};
+ghost use Rattle.pdb_handles.specs.File.{IsFileKept, information_said, layout_said, named_stream_said, names_asked};
+ghost use Rattle.pdb_handles.specs.File.{roles_said};
 ghost use Rattle.pdb_handles.specs.Copied.{CopiesAnswer, CopiesOrLacks, copied_of, IsAnswerTold};
 ghost use Rattle.pdb_handles.specs.Records.{FieldsOrLacks, CopiesIf};
 ghost use Rattle.pdb_handles.specs.Found.{AsksContent, answered_of, found_of, not_held};
@@ -53,7 +54,8 @@ pub extern "C" fn pdb_file_page_size(
     fault: &mut Fault,
 ) -> u32
     ensures answer { record { fault = fault.new; value = page_size.new }
-        ≡ found_of page_size.old (λ layout. layout.head.geometry.page_size) (file_held file.old.handle.held.content) }
+        ≡ found_of page_size.old (λ layout. layout.head.geometry.page_size)
+        (file_held file.old.handle.held.content) }
     ensures kept { IsFileKept file.old file.new }
     ensures status { result ≡ fault.new.status }
 {
@@ -69,7 +71,8 @@ pub extern "C" fn pdb_file_stream_count(
     fault: &mut Fault,
 ) -> u32
     ensures answer { record { fault = fault.new; value = count.new }
-        ≡ answered_of count.old (λ layout. stream_count_in layout.directory) (file_held file.old.handle.held.content) }
+        ≡ answered_of count.old (λ layout. stream_count_in layout.directory)
+        (file_held file.old.handle.held.content) }
     ensures kept { IsFileKept file.old file.new }
     ensures status { result ≡ fault.new.status }
 {

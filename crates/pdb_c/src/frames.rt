@@ -4,7 +4,8 @@ ghost use Rattle.std.specs.Prelude.{◌≡◌, IfSome, map, Ok};
 ghost use Rattle.pdb_frames.specs.{Merge.by_heads, Merge.merge, Table.StartsIncrease};
 ghost use Rattle.pdb_handles.specs.Copied.{CopiesOrLacks, copied_of, items_copied};
 ghost use Rattle.pdb_handles.specs.{File.IsFileKept, File.frames_said, Found.AsksContent, Found.not_held};
-ghost use Rattle.pdb_handles.specs.{Frame.TellsFirst, Frame.frame_of, Handle.Opens, Handle.file_held, Handle.frames_held};
+ghost use Rattle.pdb_handles.specs.{Frame.TellsFirst, Frame.frame_of, Handle.Opens, Handle.file_held};
+ghost use Rattle.pdb_handles.specs.Handle.{frames_held};
 
 use pdb_handles::copied::copy_list;
 use pdb_handles::file::{OpenFile, frames_in};
