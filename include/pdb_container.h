@@ -978,7 +978,7 @@ enum { PDB_FIRST_RECORD = 0x1000 };
  * not below 0x1000, and PDB_TYPE_NOT_FOUND if no primitive type has it. */
 static inline uint32_t pdb_primitive(uint32_t index, uint32_t *kind, uint32_t *indirection,
                                      pdb_fault *fault) {
-    pdb_type_info info;
+    pdb_type_info info = {{0, 0}};
     if (index >= PDB_FIRST_RECORD) {
         fault->status = PDB_NONE;
         fault->first = fault->second = 0;
@@ -1082,7 +1082,7 @@ uint32_t pdb_type_methods(const uint8_t *record, size_t record_length, uint32_t 
 
 /* A field: what it says, and the length of its name in bytes. */
 typedef struct pdb_field {
-    pdb_type_info info;
+    pdb_type_info info = {{0, 0}};
     size_t name_length;
     uint32_t has_name; /* 0 or 1 */
 } pdb_field;
