@@ -1082,7 +1082,7 @@ uint32_t pdb_type_methods(const uint8_t *record, size_t record_length, uint32_t 
 
 /* A field: what it says, and the length of its name in bytes. */
 typedef struct pdb_field {
-    pdb_type_info info = {{0, 0}};
+    pdb_type_info info;
     size_t name_length;
     uint32_t has_name; /* 0 or 1 */
 } pdb_field;
