@@ -217,7 +217,7 @@ class Frames:
             self._table = Opened(library().pdb_file_frames, source.handle)
 
     def at(self, address: int) -> Optional[Frame]:
-        """The first frame from an address of the original image on: the one at the address, or else the first above."""
+        """The frame whose code has an address of the original image, or else the first frame above it."""
         it = value(_sys.Frame, library().pdb_frames_at, self._table.handle, unsigned(address))
         return None if it is None else _frame(it)
 

@@ -15,7 +15,7 @@ impl Frames {
         Shared::open(|frames, fault| unsafe { sys::pdb_file_frames(file.get(), frames, fault) }).map(Frames)
     }
 
-    /// The first frame from an address of the original image on: the one at the address, or else the first above it.
+    /// The frame whose code has an address of the original image, or else the first frame above it.
     pub fn at(&self, address: u32) -> Result<Option<Frame>> {
         // SAFETY: the handle is open, and the lock gives it to one call at a time.
         value(|frame, fault| unsafe { sys::pdb_frames_at(self.0.lock().get(), address, frame, fault) })
