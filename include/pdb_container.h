@@ -50,7 +50,7 @@ uint32_t pdb_version(void);
 enum pdb_status {
     PDB_OK = 0,
 
-    /* Errors of the file. In brackets is what `first` is; where nothing is, both numbers are 0. */
+    /* Errors of the file. In brackets is what `first` is, which otherwise is 0; `second` is 0. */
     PDB_UNRECOGNIZED_FILE_FORMAT = 1,       /* the file has no known magic, or fewer than 4096
                                                bytes */
     PDB_PAGE_REFERENCE_OUT_OF_RANGE = 2,    /* a page number is 0, or above the number of used pages
@@ -61,7 +61,7 @@ enum pdb_status {
     PDB_STREAM_NAME_NOT_FOUND = 5,          /* no stream has this name */
     PDB_INVALID_STREAM_LENGTH = 6,          /* not a multiple of the length of its records [which
                                                stream: pdb_error_text says it] */
-    PDB_IO_ERROR = 7,                       /* the file ends too soon [1] */
+    PDB_IO_ERROR = 7,                       /* the file ends too soon [always 1] */
     PDB_UNEXPECTED_EOF = 8,                 /* the bytes end before the value that is to be read
                                                from them does */
     PDB_UNIMPLEMENTED_FEATURE = 9,          /* a part of the format that is not read [which:
@@ -221,8 +221,9 @@ typedef struct pdb_identity {
     uint16_t flags;            /* values of enum pdb_identity_flag, added up */
     uint8_t guid[16];          /* the bytes as they stand in the file, and in the image's debug
                                   directory */
-    uint32_t has_features;     /* whether stream 1 has all stream names, and so the features after
-                                  them, 0 or 1; if not, the next number is 0 */
+    uint32_t has_features;     /* whether the table of stream names in stream 1 is not cut, so that
+                                  the features after it can be found, 0 or 1; if not, the next
+                                  number is 0 */
     uint32_t features;         /* values of enum pdb_feature, added up */
 } pdb_identity;
 
@@ -234,7 +235,7 @@ enum pdb_identity_flag {
 };
 
 /* The features that the file tells of itself, in the numbers after the stream names in stream 1.
- * Numbers after that of VC110 are not read. */
+ * The list ends with the number of VC110: what follows it in the stream is ignored. */
 enum pdb_feature {
     PDB_FEATURE_VC110 = 1,         /* in the format of Visual C++ 11, with a table of ids */
     PDB_FEATURE_VC140 = 2,         /* in the format of Visual C++ 14, with a table of ids */
@@ -300,7 +301,8 @@ enum pdb_inconsistency {
     PDB_NO_INCONSISTENCY = 0,      /* the part can't be read, for the reason in `fault` */
     PDB_DIRECTORY_TOO_LARGE = 1,   /* the directory is larger than the file */
     PDB_STREAMS_TOO_LARGE = 2,     /* the streams together are larger than the file */
-    PDB_OUT_OF_ORDER = 3,          /* OMAP records or frames are not in increasing order */
+    PDB_OUT_OF_ORDER = 3,          /* sources of OMAP records decrease, or starts of frames do not
+                                      increase */
     PDB_PAGE_SHARED = 4,           /* a page has two owners [the page] */
     PDB_PAGE_FREE = 5,             /* a page is in use and marked as free; a warning [the page] */
     PDB_STREAM_MISSING = 6,        /* a stream with a name or a role is missing [its number] */
@@ -308,12 +310,12 @@ enum pdb_inconsistency {
     PDB_REFERENCE_NOT_BELOW = 8,   /* a record refers to an index that is not below its own [it] */
     PDB_RECORD_UNALIGNED = 9,      /* a record takes no multiple of four bytes; a warning */
     PDB_KIND_NOT_READ = 10,        /* a record kind that is not read; a warning [the kind] */
-    PDB_HASH_COUNT = 11,           /* not one hash value for each record [their number] */
+    PDB_HASH_COUNT = 11,           /* not as many hash values as records [the hash values] */
     PDB_HASH_TOO_LARGE = 12,       /* a hash value that is not below the number of buckets [it] */
     PDB_INDEX_OFFSET = 13,         /* a stored offset is not that of its record [the index] */
     PDB_BUCKETS_CUT = 14,          /* the string table ends before its buckets do */
     PDB_NAME_OFFSET = 15,          /* a bucket's offset at which no name begins [the offset] */
-    PDB_NAME_COUNT = 16,           /* the buckets hold not as many names as counted [the count] */
+    PDB_NAME_COUNT = 16,           /* the count of names is not that in the buckets [the count] */
     PDB_SECTIONS_OVERLAP = 17,     /* a section begins below the end of the one before it */
     PDB_FREE_PAGE_MAP = 18,        /* the free page map is neither 1 nor 2 [its number] */
     PDB_PAGE_COUNT = 19,           /* more pages are in use than the file has [their number] */
@@ -330,7 +332,8 @@ enum pdb_inconsistency {
 /* What is wrong in a part of a file, and where. */
 typedef struct pdb_finding {
     uint64_t index;     /* the index of the record */
-    uint64_t byte;      /* the byte of the stream: of a record, the first of its length */
+    uint64_t byte;      /* the offset in the stream; for a record, that of the two-byte length
+                           before it */
     uint64_t file_byte; /* that byte's place in the file */
     uint32_t part;      /* a value of enum pdb_part */
     uint32_t has_stream; /* each flag is 0 or 1; if it is 0, so is its number */
@@ -401,7 +404,7 @@ typedef struct pdb_named_stream {
 
 /* Writes the streams that have names, in the order in which the file lists them, and the bytes of
  * their names, one name after another. The status is PDB_UNIMPLEMENTED_FEATURE if the names
- * together have more bytes than the file, which takes names that overlap. */
+ * together have more bytes than the file. That can only be if names overlap. */
 uint32_t pdb_file_stream_names(pdb_file *file, pdb_named_stream *rows, size_t rows_length,
                                size_t *count, uint8_t *names, size_t names_length, size_t *size,
                                pdb_fault *fault);
@@ -473,8 +476,8 @@ uint32_t pdb_omap_records(pdb_omap *omap, pdb_omap_record *room, size_t room_len
 uint32_t pdb_omap_is_sorted(pdb_omap *omap, uint32_t *is_sorted, pdb_fault *fault);
 
 /* Writes the address to which a table moves an address. The status is PDB_UNMAPPED if the table
- * moves it nowhere. If the table isn't sorted, the answer is that of any record whose source is at
- * or below the address, or there is none. */
+ * moves it nowhere. If the table isn't sorted, the answer may come from whichever record has its
+ * source at or below the address, or be PDB_UNMAPPED. */
 uint32_t pdb_omap_lookup(pdb_omap *omap, uint32_t address, uint32_t *target, pdb_fault *fault);
 
 /* A range of addresses, its end excluded. */
@@ -560,8 +563,8 @@ uint32_t pdb_translate(pdb_address_map *addresses, uint32_t form, uint16_t secti
                        pdb_translation *translation, pdb_fault *fault);
 
 /* Writes where the addresses of a range of the original image lie in the image as it is loaded.
- * Joined, the ranges list in order what pdb_translate gives for each address, without those that it
- * moves to 0xffffffff. This needn't hold if the OMAP table isn't sorted. */
+ * Laid end to end, the ranges are what pdb_translate gives for each address in turn, without the
+ * addresses that go nowhere or to 0xffffffff. This needn't hold if the OMAP table isn't sorted. */
 uint32_t pdb_rva_ranges(pdb_address_map *addresses, uint32_t start, uint32_t end, pdb_span *room,
                         size_t room_length, size_t *length, pdb_fault *fault);
 
@@ -573,7 +576,7 @@ uint32_t pdb_internal_rva_ranges(pdb_address_map *addresses, uint32_t start, uin
 
 /* ---- frames */
 
-/* The kinds of frames, by the numbers of StackFrameTypeEnum. */
+/* The kinds of frames, by the numbers of StackFrameTypeEnum; any other is unknown. */
 enum pdb_frame_kind {
     PDB_FRAME_FPO = 0,
     PDB_FRAME_TRAP = 1,
@@ -602,9 +605,10 @@ typedef struct pdb_frame {
     uint32_t program; /* the offset of its unwind program in the string table, or 0 */
 } pdb_frame;
 
-/* Writes the frame whose code has an address of the original image, or if there is none, the first
- * frame above it: compare code_start with the address. The status is PDB_NONE if there is none
- * above either. If the starts of frames don't increase, the frame is any one. */
+/* Writes the frame whose code contains `address`, an RVA of the original image. If no frame does,
+ * this is the first frame that starts above it: compare code_start with the address. The status is
+ * PDB_NONE if none starts above it. If the starts of frames don't increase, it is any frame, or
+ * none. */
 uint32_t pdb_frames_at(pdb_frames *frames, uint32_t address, pdb_frame *frame, pdb_fault *fault);
 
 /* Writes all frames, ordered by their starts. If records of both formats start at one address, only
@@ -633,10 +637,11 @@ typedef struct pdb_record {
     uint32_t length; /* the number of bytes of the record and its padding, at most 65,535 */
 } pdb_record;
 
-/* Writes where the record of an index is. The first call for an index scans the table up to it,
- * and later ones start at its block of eight items; the walk of pdb_types_next stays where it is.
- * An index below the first one (in a table of types, that of a primitive type) has no record in the
- * stream, so the status is PDB_NONE. */
+/* Writes where the record of an index is. The table remembers where each block of eight items
+ * begins, as far as it was scanned. A call scans on from there if the index lies beyond, and
+ * otherwise reads at most eight lengths; the walk of pdb_types_next stays where it is. An index
+ * below the first one (in a table of types, that of a primitive type) has no record in the stream,
+ * so the status is PDB_NONE. */
 uint32_t pdb_types_find(pdb_types *table, uint32_t index, pdb_record *record, pdb_fault *fault);
 
 /* What was found of the record of an index. */
@@ -699,7 +704,8 @@ enum pdb_id_shape {
 };
 
 /* The bits of `has`, which say which numbers a record has. The other numbers are 0. The second
- * group has names for numbers that only some records of a shape have. */
+ * group are other names for bits of the first: what the number is in shapes where it may be
+ * absent. */
 enum pdb_has {
     PDB_HAS_KIND = 1,
     PDB_HAS_ATTRIBUTES = 2,
@@ -833,7 +839,8 @@ typedef union pdb_type_info {
         uint32_t shape, has;
         uint64_t size;
         uint32_t kind, unused, properties, count, unused_2, derived_from, vtable_shape, fields;
-    } class_type; /* `kind` is a value of enum pdb_class_kind, `count` the number of fields */
+    } class_type; /* `kind` is a value of enum pdb_class_kind; `count` counts fields, and each
+                   * overload of a method */
     struct {
         uint32_t shape, has;
         uint64_t offset;
@@ -1069,8 +1076,9 @@ uint32_t pdb_type_unique_name(const uint8_t *record, size_t record_length, uint3
 uint32_t pdb_type_arguments(const uint8_t *record, size_t record_length, uint32_t index,
                             uint32_t *room, size_t room_length, size_t *length, pdb_fault *fault);
 
-/* Copies the size of an array in bytes up to each dimension, the innermost first, so that the last
- * is the size of the whole array. The status is PDB_NONE for any other type. */
+/* Copies the sizes in bytes that the record of an array holds. Compilers write one, that of the
+ * whole array: an `int[3][4]` has 48, and its element type `int[4]` has 16. If there are several,
+ * the innermost is first. The status is PDB_NONE for any other type. */
 uint32_t pdb_type_dimensions(const uint8_t *record, size_t record_length, uint32_t index,
                              uint32_t *room, size_t room_length, size_t *length, pdb_fault *fault);
 
@@ -1103,10 +1111,10 @@ uint32_t pdb_types_fields(pdb_types *table, uint32_t index, pdb_field *rows, siz
                           pdb_fault *fault);
 
 /* Converts the value of an enumerator (PDB_ENUMERATE) to the sign and the width of the type under
- * its enumeration. In the record a value has the width that it needs; one byte (LF_CHAR) is read
- * without a sign, as 128 if it is 0x80, and counts as signed here, as -128 of an `int` and
- * 0xffffff80 of an `unsigned int`. Nothing changes if the type is no primitive integer of at most
- * 64 bits, or the record is no enumerator. */
+ * its enumeration. A record stores a value in as few bytes as it needs. pdb_type_parse takes one
+ * byte (LF_CHAR) as unsigned, so 0x80 is 128. This call takes it as signed: 0x80 becomes -128 if
+ * the type is `int`, and 0xffffff80 if it is `unsigned int`. Nothing changes if the type is no
+ * primitive integer of at most 64 bits, or the record is no enumerator. */
 void pdb_enumerator_typed(pdb_type_info *info, uint32_t underlying_type);
 
 /* Writes what the record of an id says, given the record's bytes. */
@@ -1150,9 +1158,9 @@ uint32_t pdb_definition_of(pdb_definitions *definitions, uint32_t index, uint32_
 uint32_t pdb_type_size(pdb_definitions *definitions, uint32_t index, uint64_t *size,
                        pdb_fault *fault);
 
-/* Copies the declaration of a name that has a type, in C++, such as "int (*compare)(char)", or the
- * text of the type alone if the name is empty. It has at most 65,536 bytes, and ends with ".." if
- * it is cut. What the text says is tested, and not proved. */
+/* Copies the C++ text that declares a name, which may be any text, with the type of an index, such
+ * as "int (*compare)(char)", or the text of the type alone if the name is empty. It has at most
+ * 65,536 bytes, and ends with ".." if it is cut. What the text says is tested, and not proved. */
 uint32_t pdb_type_text(pdb_definitions *definitions, uint32_t index, const uint8_t *name,
                        size_t name_length, uint8_t *room, size_t room_length, size_t *length,
                        pdb_fault *fault);
@@ -1192,13 +1200,14 @@ typedef struct pdb_layout_row {
     uint32_t is_direct;     /* whether that class is a direct base, 0 or 1 */
 } pdb_layout_row;
 
-/* Writes the layout of a class, a structure, an interface or a union: a row for each field in the
- * order of their records, and then rows for the bits that no field takes. It also writes the bytes
- * of the members' names, one name after another. Each bit of the class (8 times its size) is in a
- * field, or else in exactly one of the other rows. Fields may overlap, as those of a union do, and
- * in a damaged file they may go beyond the size. The row of a base class ends before its virtual
- * bases, which the class holds elsewhere. The status is PDB_NONE if the type has no definition, or
- * its definition is an enumeration. */
+/* Writes the layout of a class, a structure, an interface or a union: a row for each base class,
+ * pointer to a table and data member (none for methods, static members and nested types), in the
+ * order of their records, and then rows for the bits that none of these fields takes. It also
+ * writes the bytes of the members' names, one name after another. Each bit of the class (8 times
+ * its size) is in a field, or else in exactly one of the other rows. Fields may overlap, as those
+ * of a union do, and in a damaged file they may go beyond the size. The row of a base class ends
+ * before its virtual bases, which the class holds elsewhere. The status is PDB_NONE if the type has
+ * no definition, or its definition is an enumeration. */
 uint32_t pdb_layout(pdb_definitions *definitions, uint32_t index, pdb_layout_row *rows,
                     size_t rows_length, size_t *count, uint8_t *names, size_t names_length,
                     size_t *size, pdb_fault *fault);

@@ -23,7 +23,7 @@ static void *room_for(size_t count, size_t size) {
 }
 
 /* Opens the file of a path, whose bytes stay until it is closed. */
-static inline pdb_file open_file(const char *path) {
+static inline void open_file(const char *path, pdb_file *file) {
     FILE *in = fopen(path, "rb");
     if (!in || fseek(in, 0, SEEK_END)) check(PDB_IO_ERROR);
     bytes data = {NULL, (size_t)ftell(in)};
@@ -31,14 +31,13 @@ static inline pdb_file open_file(const char *path) {
     data.at = room_for(data.length, 1);
     if (fread(data.at, 1, data.length, in) != data.length) check(PDB_IO_ERROR);
     fclose(in);
-    pdb_file file = {0};
-    check(pdb_file_open(data.at, data.length, &file, &fault));
-    return file;
+    check(pdb_file_open(data.at, data.length, file, &fault));
 }
 
 static inline void close_file(pdb_file *file) {
-    free((uint8_t *)file->bytes);
+    uint8_t *bytes = (uint8_t *)file->bytes;
     pdb_file_close(file);
+    free(bytes);
 }
 
 /* Copies a stream. */

@@ -37,7 +37,8 @@ static void print_symbol(int is_there, uint32_t address, const char *name, int l
 
 int main(int count, char **words) {
     if (count != 2) return fputs("usage: isf FILE\n", stderr), 2;
-    pdb_file file = open_file(words[1]);
+    pdb_file file = {0};
+    open_file(words[1], &file);
     pdb_identity identity = {0};
     check(pdb_identity_of(file.bytes, file.length, &identity, &fault));
     table table = {.stream = stream_of(&file, PDB_TYPES_STREAM)};

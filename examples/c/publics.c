@@ -12,7 +12,8 @@ static void print(int is_there, uint32_t address, const char *name, int length) 
 
 int main(int count, char **words) {
     if (count != 2) return fputs("usage: publics FILE\n", stderr), 2;
-    pdb_file file = open_file(words[1]);
+    pdb_file file = {0};
+    open_file(words[1], &file);
     each_public(&file, print);
     close_file(&file);
     return 0;

@@ -31,7 +31,8 @@ static void print_row(pdb_definitions *definitions, const pdb_layout_row *row, c
 
 int main(int count, char **words) {
     if (count != 3) return fputs("usage: structure FILE CLASS\n", stderr), 2;
-    pdb_file file = open_file(words[1]);
+    pdb_file file = {0};
+    open_file(words[1], &file);
     bytes stream = stream_of(&file, PDB_TYPES_STREAM), names = {0};
     pdb_definitions definitions = {0};
     check(pdb_definitions_open(stream.at, stream.length, &definitions, &fault));

@@ -47,7 +47,7 @@ class IdentityFlag(IntFlag):
 
 class Feature(IntFlag):
     """The features that the file tells of itself, in the numbers after the stream names in stream
-    1. Numbers after that of VC110 are not read."""
+    1. The list ends with the number of VC110: what follows it in the stream is ignored."""
 
     VC110 = 1
     VC140 = 2
@@ -147,7 +147,7 @@ class AddressForm(IntEnum):
 
 
 class FrameKind(IntEnum):
-    """The kinds of frames, by the numbers of StackFrameTypeEnum."""
+    """The kinds of frames, by the numbers of StackFrameTypeEnum; any other is unknown."""
 
     FPO = 0
     TRAP = 1
@@ -198,7 +198,8 @@ class IdShape(IntEnum):
 
 class Has(IntFlag):
     """The bits of `has`, which say which numbers a record has. The other numbers are 0. The second
-    group has names for numbers that only some records of a shape have."""
+    group are other names for bits of the first: what the number is in shapes where it may be
+    absent."""
 
     KIND = 1
     ATTRIBUTES = 2
