@@ -605,10 +605,11 @@ typedef struct pdb_frame {
     uint32_t program; /* the offset of its unwind program in the string table, or 0 */
 } pdb_frame;
 
-/* Writes the frame whose code contains `address`, an RVA of the original image. If no frame does,
- * this is the first frame that starts above it: compare code_start with the address. The status is
- * PDB_NONE if none starts above it. If the starts of frames don't increase, it is any frame, or
- * none. */
+/* Writes the frame for an address of the original image. In the stream of each format, this is the
+ * one that starts at the address; or else the last one that starts below it, if its code contains
+ * the address; or else the first above it. Of both, it is the one with the lower start: compare
+ * code_start and code_size with the address. The status is PDB_NONE if there is none. If the starts
+ * of a stream don't increase, it is any frame, or none. */
 uint32_t pdb_frames_at(pdb_frames *frames, uint32_t address, pdb_frame *frame, pdb_fault *fault);
 
 /* Writes all frames, ordered by their starts. If records of both formats start at one address, only
