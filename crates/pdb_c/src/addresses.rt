@@ -7,7 +7,7 @@ ghost use Rattle.pdb_handles.specs.Handle.{OpensStream, held_as, omap_held, Open
 ghost use Rattle.pdb_handles.specs.Addresses.{TellsMoved, TellsOrder, omap_info, WritesMoved, Translates};
 ghost use Rattle.pdb_handles.specs.{declared.content.Content.TheVariants.Omap, Fault.not_open, Fault.too_long};
 ghost use Rattle.pdb_handles.specs.{Found.AsksContent, Found.not_held, Handle.file_held};
-ghost use Rattle.pdb_handles.specs.File.{IsFileKept, addresses_said, sections_told};
+ghost use Rattle.pdb_handles.specs.File.{addresses_said, sections_told};
 
 use pdb_handles::addresses::{
     OmapRow, Span, Translation, records_in, table_in, tell_order, translate, write_internal,
@@ -146,11 +146,12 @@ pub extern "C" fn pdb_file_addresses(
         (λ layout told. Opens addresses.old.held.content (addresses_said file.old.bytes.now) told.fault told.value)
         (not_held addresses.old.held.content) (file_held file.old.handle.held.content)
         (record { fault = fault.new; value = addresses.new.held.content }) }
-    ensures kept { IsFileKept file.old file.new }
+    ensures kept { file.new.handle.held.content ≡ file.old.handle.held.content }
+    ensures bytes { file.new.bytes.now ≡ file.old.bytes.now }
     ensures status { result ≡ fault.new.status }
 {
     let bytes = file.bytes;
-    ask!(file.handle, alloc, fault, File(_layout) => open!(addresses, alloc, addresses_in(alloc, bytes)))
+    ask!(file.handle, alloc, fault, File(_) => open!(addresses, alloc, addresses_in(alloc, bytes)))
 }
 
 /// Writes the four forms of an address or a place. `form` is its own form, numbered as in

@@ -4,7 +4,7 @@
 ghost use Rattle.std.specs.Prelude.{◌≡◌, ◌==◌, if◌then◌else◌, Some, Ok};
 ghost use Rattle.pdb_msf.specs.{Directory.stream_count_in, Layout.size_by, Layout.stream_by};
 ghost use Rattle.pdb_identity.specs.Format.{format_of};
-ghost use Rattle.pdb_handles.specs.File.{IsFileKept, information_said, layout_said, named_stream_said, names_asked};
+ghost use Rattle.pdb_handles.specs.File.{information_said, layout_said, named_stream_said, names_asked};
 ghost use Rattle.pdb_handles.specs.File.{roles_said};
 ghost use Rattle.pdb_handles.specs.Copied.{CopiesAnswer, CopiesOrLacks, copied_of, IsAnswerTold};
 ghost use Rattle.pdb_handles.specs.Records.{FieldsOrLacks, CopiesIf};
@@ -56,7 +56,8 @@ pub extern "C" fn pdb_file_page_size(
     ensures answer { record { fault = fault.new; value = page_size.new }
         ≡ found_of page_size.old (λ layout. layout.head.geometry.page_size)
         (file_held file.old.handle.held.content) }
-    ensures kept { IsFileKept file.old file.new }
+    ensures kept { file.new.handle.held.content ≡ file.old.handle.held.content }
+    ensures bytes { file.new.bytes.now ≡ file.old.bytes.now }
     ensures status { result ≡ fault.new.status }
 {
     ask!(file.handle, alloc, fault, File(layout) => tell_value(layout.page_size(), page_size))
@@ -73,7 +74,8 @@ pub extern "C" fn pdb_file_stream_count(
     ensures answer { record { fault = fault.new; value = count.new }
         ≡ answered_of count.old (λ layout. stream_count_in layout.directory)
         (file_held file.old.handle.held.content) }
-    ensures kept { IsFileKept file.old file.new }
+    ensures kept { file.new.handle.held.content ≡ file.old.handle.held.content }
+    ensures bytes { file.new.bytes.now ≡ file.old.bytes.now }
     ensures status { result ≡ fault.new.status }
 {
     ask!(file.handle, alloc, fault, File(layout) => tell_answered(layout.stream_count(), count))
@@ -90,7 +92,8 @@ pub extern "C" fn pdb_file_stream_size(
 ) -> u32
     ensures answer { record { fault = fault.new; value = size.new }
         ≡ answered_of size.old (λ layout. size_by layout number) (file_held file.old.handle.held.content) }
-    ensures kept { IsFileKept file.old file.new }
+    ensures kept { file.new.handle.held.content ≡ file.old.handle.held.content }
+    ensures bytes { file.new.bytes.now ≡ file.old.bytes.now }
     ensures status { result ≡ fault.new.status }
 {
     ask!(file.handle, alloc, fault, File(layout) => tell_answered(layout.stream_size(number), size))
@@ -110,7 +113,8 @@ pub extern "C" fn pdb_file_stream(
     ensures answer { CopiesOrLacks (record { fault = fault.new; length = length.new; room = room.new }) room.old
         (copied_of room.old (λ layout. stream_by layout file.old.bytes.now number (Some limit))
         (file_held file.old.handle.held.content)) }
-    ensures kept { IsFileKept file.old file.new }
+    ensures kept { file.new.handle.held.content ≡ file.old.handle.held.content }
+    ensures bytes { file.new.bytes.now ≡ file.old.bytes.now }
     ensures status { result ≡ fault.new.status }
 {
     *length = 0;
@@ -133,12 +137,13 @@ pub extern "C" fn pdb_file_named_stream(
     ensures answer { CopiesOrLacks (record { fault = fault.new; length = length.new; room = room.new }) room.old
         (copied_of room.old (λ layout. named_stream_said name.now file.old.bytes.now)
         (file_held file.old.handle.held.content)) }
-    ensures kept { IsFileKept file.old file.new }
+    ensures kept { file.new.handle.held.content ≡ file.old.handle.held.content }
+    ensures bytes { file.new.bytes.now ≡ file.old.bytes.now }
     ensures status { result ≡ fault.new.status }
 {
     *length = 0;
     let bytes = file.bytes;
-    ask!(file.handle, alloc, fault, File(_layout) => copy_stream(named_stream_in(alloc, bytes, name), room, length))
+    ask!(file.handle, alloc, fault, File(_) => copy_stream(named_stream_in(alloc, bytes, name), room, length))
 }
 
 /// Writes the numbers in stream 1 of a file.
@@ -152,11 +157,12 @@ pub extern "C" fn pdb_file_information(
     ensures answer { AsksContent (λ layout told. IsAnswerTold (λ read. read) (information_said file.old.bytes.now)
         information.old told.fault told.value) (not_held information.old) (file_held file.old.handle.held.content)
         (record { fault = fault.new; value = information.new }) }
-    ensures kept { IsFileKept file.old file.new }
+    ensures kept { file.new.handle.held.content ≡ file.old.handle.held.content }
+    ensures bytes { file.new.bytes.now ≡ file.old.bytes.now }
     ensures status { result ≡ fault.new.status }
 {
     let bytes = file.bytes;
-    ask!(file.handle, alloc, fault, File(_layout) => tell_answered(information_in(alloc, bytes), information))
+    ask!(file.handle, alloc, fault, File(_) => tell_answered(information_in(alloc, bytes), information))
 }
 
 /// Writes the streams that a file names, in the order in which it lists them, and the bytes of
@@ -175,13 +181,14 @@ pub extern "C" fn pdb_file_stream_names(
         (record { fault = fault.new; rows = rows.new; count = count.new; names = names.new; size = size.new })
         rows.old names.old
         (names_asked rows.old names.old file.old.bytes.now (file_held file.old.handle.held.content)) }
-    ensures kept { IsFileKept file.old file.new }
+    ensures kept { file.new.handle.held.content ≡ file.old.handle.held.content }
+    ensures bytes { file.new.bytes.now ≡ file.old.bytes.now }
     ensures status { result ≡ fault.new.status }
 {
     *count = 0;
     *size = 0;
     let bytes = file.bytes;
-    ask!(file.handle, alloc, fault, File(_layout) => {
+    ask!(file.handle, alloc, fault, File(_) => {
         write_listing(stream_names_in(alloc, bytes), rows, count, names, size)
     })
 }
@@ -198,11 +205,12 @@ pub extern "C" fn pdb_file_roles(
     ensures answer { AsksContent (λ layout told. IsAnswerTold (λ read. read) (roles_said file.old.bytes.now)
         roles.old told.fault told.value) (not_held roles.old) (file_held file.old.handle.held.content)
         (record { fault = fault.new; value = roles.new }) }
-    ensures kept { IsFileKept file.old file.new }
+    ensures kept { file.new.handle.held.content ≡ file.old.handle.held.content }
+    ensures bytes { file.new.bytes.now ≡ file.old.bytes.now }
     ensures status { result ≡ fault.new.status }
 {
     let bytes = file.bytes;
-    ask!(file.handle, alloc, fault, File(_layout) => tell_answered(roles_in(alloc, bytes), roles))
+    ask!(file.handle, alloc, fault, File(_) => tell_answered(roles_in(alloc, bytes), roles))
 }
 
 /// Writes what identifies a file.

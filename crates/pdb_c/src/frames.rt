@@ -3,7 +3,7 @@
 ghost use Rattle.std.specs.Prelude.{◌≡◌, IfSome, map, Ok};
 ghost use Rattle.pdb_frames.specs.{Merge.by_heads, Merge.merge, Table.StartsIncrease};
 ghost use Rattle.pdb_handles.specs.Copied.{CopiesOrLacks, copied_of, items_copied};
-ghost use Rattle.pdb_handles.specs.{File.IsFileKept, File.frames_said, Found.AsksContent, Found.not_held};
+ghost use Rattle.pdb_handles.specs.{File.frames_said, Found.AsksContent, Found.not_held};
 ghost use Rattle.pdb_handles.specs.{Frame.TellsFirst, Frame.frame_of, Handle.Opens, Handle.file_held};
 ghost use Rattle.pdb_handles.specs.Handle.{frames_held};
 
@@ -25,11 +25,12 @@ pub extern "C" fn pdb_file_frames(
         (λ layout told. Opens frames.old.held.content (frames_said file.old.bytes.now) told.fault told.value)
         (not_held frames.old.held.content) (file_held file.old.handle.held.content)
         (record { fault = fault.new; value = frames.new.held.content }) }
-    ensures kept { IsFileKept file.old file.new }
+    ensures kept { file.new.handle.held.content ≡ file.old.handle.held.content }
+    ensures bytes { file.new.bytes.now ≡ file.old.bytes.now }
     ensures status { result ≡ fault.new.status }
 {
     let bytes = file.bytes;
-    ask!(file.handle, alloc, fault, File(_layout) => open!(frames, alloc, frames_in(alloc, bytes)))
+    ask!(file.handle, alloc, fault, File(_) => open!(frames, alloc, frames_in(alloc, bytes)))
 }
 
 /// Writes the frame at an address of the original image: the first that `FrameTable::iter_at_rva`

@@ -27,7 +27,7 @@ macro_rules! open_stream {
 /// Tells how a call ended that is about what a handle holds: as an expression of its content says,
 /// or with `NOT_OPEN` if the handle holds nothing of that kind.
 macro_rules! ask {
-    ($handle:expr, $alloc:ident, $fault:ident, $kind:ident($content:ident) => $told:expr) => {
+    ($handle:expr, $alloc:ident, $fault:ident, $kind:ident($content:pat) => $told:expr) => {
         match $handle.take($alloc) {
             Some(mut content) => {
                 let told = match &mut *content {

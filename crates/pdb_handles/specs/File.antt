@@ -1,5 +1,5 @@
 -- What is read of a caller's file, as a caller sees it.
-use Rattle.std.specs.Prelude.{◌≡◌, ◌×◌, ℕ, List, Some, None, Ok, length, map, Option, nat_le, codes}
+use Rattle.std.specs.Prelude.{ℕ, List, Some, None, Ok, length, map, Option, nat_le, codes}
 use Rattle.std.specs.List.{flat_map}
 use Rattle.pdb_base.specs.Answer.{Answer, ◌>>=◌, ok_if}
 use Rattle.pdb_base.specs.Refusal.{unimplemented_feature}
@@ -12,14 +12,10 @@ use Rattle.pdb_file.specs.{declared.information.PDBInformation.PDBInformation, S
 use Rattle.pdb_handles.specs.declared.information.Information.{Information}
 use Rattle.pdb_handles.specs.declared.information.NamedStream.{NamedStream}
 use Rattle.pdb_handles.specs.{declared.content.Content.Content, Handle.held_as, declared.roles.Roles.Roles}
-use Rattle.pdb_handles.specs.{declared.file.OpenFile.OpenFile, Fault.not_open, Records.listing_told}
+use Rattle.pdb_handles.specs.{Fault.not_open, Records.listing_told}
 use Rattle.pdb_handles.specs.{Records.Fielded, Records.NamedRows, Records.no_rows_copied}
 use Rattle.pdb_handles.specs.declared.sections.Section.{Section}
 use Rattle.pdb_handles.specs.declared.content.Content.TheVariants as contents
-
--- A call leaves a file as it was: open to the same layout, over the same bytes.
-abbrev pub IsFileKept : OpenFile → OpenFile → Type 0
-IsFileKept old new = (new.handle.held.content ≡ old.handle.held.content) × (new.bytes.now ≡ old.bytes.now)
 
 -- what is read of a file, whose header is read first
 abbrev pub read_of_file : {A : Type 0} → (List ℕ → Head → Answer A) → List ℕ → Answer A
