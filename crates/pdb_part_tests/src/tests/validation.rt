@@ -14,9 +14,9 @@ const INFORMATION: &[u8] =
 const TYPES: &[u8] =
     b"\x0b\xca\x31\x01\x38\0\0\0\x00\x10\0\0\x03\x10\0\0\x1a\0\0\0\xff\xff\0\0\x04\0\0\0\0\x10\0\0\0\0\0\0\0\0\0\0\0\0\0\0\0\0\0\0\0\0\0\0\0\0\0\0\x08\0\x01\x10\x74\0\0\0\x01\0\x02\0\x03\x12\x0a\0\x03\x12\x04\x14\0\0\x01\x10\0\0";
 
-/// Stream 3: a header, and the roles of streams 6 to 9.
+/// Stream 3: a header without streams of symbols, and the roles of streams 6 to 9.
 const DEBUG: &[u8] =
-    b"\xff\xff\xff\xff\x77\x09\x31\x01\0\0\0\0\0\0\0\0\0\0\0\0\0\0\0\0\0\0\0\0\0\0\0\0\0\0\0\0\0\0\0\0\0\0\0\0\0\0\0\0\x16\0\0\0\0\0\0\0\0\0\x64\x86\0\0\0\0\x09\0\xff\xff\xff\xff\x07\0\xff\xff\x06\0\xff\xff\xff\xff\xff\xff\x08\0\xff\xff";
+    b"\xff\xff\xff\xff\x77\x09\x31\x01\0\0\0\0\xff\xff\0\0\xff\xff\0\0\xff\xff\0\0\0\0\0\0\0\0\0\0\0\0\0\0\0\0\0\0\0\0\0\0\0\0\0\0\x16\0\0\0\0\0\0\0\0\0\x64\x86\0\0\0\0\x09\0\xff\xff\xff\xff\x07\0\xff\xff\x06\0\xff\xff\xff\xff\xff\xff\x08\0\xff\xff";
 
 /// Stream 4: the id of a string.
 const IDS: &[u8] =
