@@ -4,6 +4,7 @@ pub mod FreeMapLemmas
 pub mod HashLemmas
 pub mod HeaderLemmas
 pub mod MismatchLemmas
+pub mod ModuleLemmas
 pub mod NameLemmas
 pub mod OwnerLemmas
 pub mod PageLemmas
