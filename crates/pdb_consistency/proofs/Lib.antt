@@ -10,4 +10,5 @@ pub mod OwnerLemmas
 pub mod PageLemmas
 pub mod PlaceLemmas
 pub mod RecordLemmas
+pub mod SymbolLemmas
 pub mod TableLemmas

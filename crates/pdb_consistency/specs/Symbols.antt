@@ -1,9 +1,10 @@
 -- The streams of symbols, as far as their sizes go: the hash table of the globals, that of the publics with what goes
 -- with it, and the records (`GSIHashHdr` and `PSGSIHDR` in Microsoft's gsi.h, `SYMTYPE` in its cvinfo.h).
 use Rattle.std.specs.Prelude.{ℕ, ◌+◌, ◌-◌, ◌*◌, ◌%◌, ◌==◌, ◌&&◌, Bool, true, not, nat_lt, if◌then◌else◌, List, [], ◌∷◌}
-use Rattle.std.specs.Prelude.{◌++◌, length, take, drop, Some}
+use Rattle.std.specs.Prelude.{◌++◌, length, take, drop, Some, Ok}
+use Rattle.pdb_base.specs.Answer.{Answer, ◌>>=◌}
 use Rattle.pdb_base.specs.Reading.{word_at}
-use Rattle.pdb_tpi.specs.Walk.{rest}
+use Rattle.pdb_tpi.specs.Walk.{behind, first_item, rest}
 use Rattle.pdb_consistency.specs.HeaderFields.{fields_mismatches}
 use Rattle.pdb_consistency.specs.TableHeader.{word_field}
 use Rattle.pdb_consistency.specs.declared.header_fields.FieldCheck.{FieldCheck}
@@ -42,6 +43,9 @@ globals_mismatches number stream = fields_mismatches (Some number) (hash_table_c
 abbrev pub publics_size : List ℕ → ℕ
 publics_size stream = 28 + word_at 0 stream + word_at 4 stream + 4 * word_at 8 stream + 8 * word_at 24 stream
 
+abbrev pub publics_field : List ℕ → FieldCheck
+publics_field stream = word_field 0 (not (publics_size stream == length stream)) PublicSizes
+
 -- the hash table in the stream of publics, as much of it as there is
 abbrev pub publics_table : List ℕ → List ℕ
 publics_table stream = take (word_at 0 stream) (drop 28 stream)
@@ -51,11 +55,14 @@ unfoldable pub publics_mismatches : ℕ → List ℕ → List Mismatch
 publics_mismatches number stream =
     if nat_lt (length stream) 28
     then fields_mismatches (Some number) (word_field 0 true PublicSizes ∷ [])
-    else fields_mismatches (Some number)
-    (word_field 0 (not (publics_size stream == length stream)) PublicSizes ∷ [])
+    else fields_mismatches (Some number) (publics_field stream ∷ [])
     ++ fields_mismatches (Some number) (hash_table_checks 28 (publics_table stream))
 
 -- ---- records
+
+-- the bytes behind the record at the front of bytes
+unfoldable pub behind_symbol : List ℕ → Answer (List ℕ)
+behind_symbol bytes = first_item bytes >>= λ item. Ok (behind item bytes)
 
 -- Records of symbols stand one behind another as those of a table do, each behind a u16 with its length; these are the
 -- bytes behind the last one that is whole.

@@ -1,13 +1,12 @@
 //! The streams of symbols, as far as their sizes go.
 
 ghost use Rattle.std.specs.Prelude.{◌≡◌, ◌≤◌, ◌<◌, ◌^◌, length, Ok};
-ghost use Rattle.pdb_base.specs.Answer.{Answers, Gives, ◌>>=◌};
-ghost use Rattle.pdb_tpi.specs.Walk.{behind, first_item};
+ghost use Rattle.pdb_base.specs.Answer.{Answers, Gives};
 ghost use Rattle.pdb_consistency.specs.HeaderFields.{fields_mismatches};
 ghost use Rattle.pdb_consistency.specs.Mismatch.{asked_of, with_further};
-ghost use Rattle.pdb_consistency.specs.Symbols.{behind_symbols, globals_mismatches, hash_table_checks};
-ghost use Rattle.pdb_consistency.specs.Symbols.{hash_table_fields, is_filled, publics_mismatches, publics_size};
-ghost use Rattle.pdb_consistency.specs.Symbols.{symbols_mismatches};
+ghost use Rattle.pdb_consistency.specs.Symbols.{behind_symbol, behind_symbols, globals_mismatches, hash_table_checks};
+ghost use Rattle.pdb_consistency.specs.Symbols.{hash_table_fields, is_filled, publics_field, publics_mismatches};
+ghost use Rattle.pdb_consistency.specs.Symbols.{publics_size, publics_table, symbols_mismatches};
 
 use crate::header_fields::{FieldCheck, add_fields, check_fields};
 use crate::inconsistency::Inconsistency;
@@ -115,6 +114,24 @@ fn publics_size(stream: &[u8]) -> u64
         + 8 * word_at(24, stream) as u64
 }
 
+/// Returns the sizes that the header of the stream of publics says, which is wrong if they do not
+/// fill the stream.
+fn publics_field(stream: &[u8]) -> FieldCheck
+    requires { 28 ≤ length stream.now }
+    ensures { result ≡ publics_field stream.now }
+{
+    let is_other = publics_size(stream) != stream.len() as u64;
+    word_field(0, is_other, Inconsistency::PublicSizes)
+}
+
+/// Returns the hash table in the stream of publics, as much of it as there is.
+fn publics_table(stream: &[u8]) -> &[u8]
+    requires { 28 ≤ length stream.now }
+    ensures { result.now ≡ publics_table stream.now }
+{
+    part_at(stream, PUBLICS_HEADER_SIZE, word_at(0, stream))
+}
+
 /// Returns what is inconsistent in the stream of publics, which has a number, each at a byte: its
 /// hash table, as `check_globals` says it, and that the header, the hash table and the maps of
 /// addresses, thunks and sections do not fill the stream. All are returned, or one, as `extent`
@@ -136,19 +153,18 @@ pub fn check_publics(
         let cut = word_field(0, true, Inconsistency::PublicSizes);
         return check_fields(alloc, Some(number), &[cut], extent);
     }
-    let is_other = publics_size(stream) != stream.len() as u64;
-    let sizes = word_field(0, is_other, Inconsistency::PublicSizes);
     let mut mismatches = Vec::new(alloc);
+    let sizes = publics_field(stream);
     add_fields(Some(number), &[sizes], extent, &mut mismatches)?;
-    let table = part_at(stream, PUBLICS_HEADER_SIZE, word_at(0, stream));
+    let table = publics_table(stream);
     add_hash_table(number, 28, table, extent, &mut mismatches)?;
     Ok(mismatches)
 }
 
 /// Returns the bytes behind the record at the front of bytes.
-#[tactic(auto, unfolding(pdb_tpi::specs::Walk::first_item))]
-fn behind_record(bytes: &[u8]) -> Result<&[u8]>
-    ensures { Gives (λ rest. rest.now) result (first_item bytes.now >>= λ item. Ok (behind item bytes.now)) }
+#[tactic(auto, unfolding(crate::specs::Symbols::behind_symbol, pdb_tpi::specs::Walk::first_item, pdb_base::specs::Reading::number_at, pdb_base::specs::Reading::front_at))]
+fn behind_symbol(bytes: &[u8]) -> Result<&[u8]>
+    ensures { Gives (λ rest. rest.now) result (behind_symbol bytes.now) }
 {
     let mut buffer = ParseBuffer::from(bytes);
     let length = buffer.parse_u16()?;
@@ -165,8 +181,8 @@ fn behind_symbols(stream: &[u8]) -> &[u8]
     ensures { result.now ≡ behind_symbols stream.now }
 {
     let mut left = stream;
-    for _ in 0..stream.len() {
-        match behind_record(left) {
+    for _step in 0..stream.len() {
+        match behind_symbol(left) {
             Ok(behind) => left = behind,
             Err(_) => return left,
         }
@@ -191,7 +207,7 @@ pub fn check_symbols(
         (Ok (asked_of extent (symbols_mismatches number stream.now))) }
 {
     let left = behind_symbols(stream).len();
-    let byte = (stream.len() - left) as u64;
+    let byte = stream.len().saturating_sub(left) as u64;
     let cut = word_field(byte, left != 0, Inconsistency::SymbolCut);
     check_fields(alloc, Some(number), &[cut], extent)
 }
