@@ -1,6 +1,6 @@
 -- The entries of modules, one behind another.
 use Rattle.std.proofs.Common.{◌≡◌, ◌≢◌, ℕ, zero, suc, ◌+◌, ◌-◌, ◌*◌, ◌<◌, ◌≤◌, List, [], ◌∷◌, ◌++◌, length, refl, sym}
-use Rattle.std.proofs.Common.{ap, ◌∙◌, arith, inl, inr, take, drop, Option, Ok, Err}
+use Rattle.std.proofs.Common.{◌∙◌, arith, inl, inr, Option, Ok, Err}
 use Rattle.std.specs.Int.{div_ceil}
 use Rattle.std.specs.Option.{option_map, option_to_list}
 use Rattle.std.proofs.Math.Dec.{eqb-suc-zero}
