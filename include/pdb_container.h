@@ -305,7 +305,7 @@ enum pdb_inconsistency {
                                       increase */
     PDB_PAGE_SHARED = 4,           /* a page has two owners [the page] */
     PDB_PAGE_FREE = 5,             /* a page is in use and marked as free; a warning [the page] */
-    PDB_STREAM_MISSING = 6,        /* a stream with a name or a role is missing [its number] */
+    PDB_STREAM_MISSING = 6,        /* a stream that is named or numbered is missing [its number] */
     PDB_DEBUG_SIZES = 7,           /* the parts of stream 3 do not add up to its size */
     PDB_REFERENCE_NOT_BELOW = 8,   /* a record refers to an index that is not below its own [it] */
     PDB_RECORD_UNALIGNED = 9,      /* a record takes no multiple of four bytes; a warning */
@@ -326,7 +326,13 @@ enum pdb_inconsistency {
     PDB_HASH_SIZE = 24,            /* an impossible size of hashes or count of buckets [it] */
     PDB_NO_HASH_STREAM = 25,       /* records without a hash stream; a warning */
     PDB_HASH_PART = 26,            /* a part does not fit the hash stream [its size] */
-    PDB_NAME_UNREACHED = 27        /* the hash of a name leads to another bucket [the offset] */
+    PDB_NAME_UNREACHED = 27,       /* the hash of a name leads to another bucket [the offset] */
+    PDB_MODULE_CUT = 28,           /* a module's entry ends behind the list of modules */
+    PDB_MODULE_SIZES = 29,         /* a module takes more bytes than its stream has [its number] */
+    PDB_SYMBOL_HASH_VERSION = 30,  /* no signature or version of a hash table of symbols [it] */
+    PDB_SYMBOL_HASH_SIZES = 31,    /* a hash table of symbols does not have the size it says */
+    PDB_PUBLIC_SIZES = 32,         /* the parts of the publics do not add up to their stream */
+    PDB_SYMBOL_CUT = 33            /* the record of a symbol ends behind its stream */
 };
 
 /* What is wrong in a part of a file, and where. */

@@ -126,6 +126,12 @@ class Inconsistency(IntEnum):
     NO_HASH_STREAM = 25
     HASH_PART = 26
     NAME_UNREACHED = 27
+    MODULE_CUT = 28
+    MODULE_SIZES = 29
+    SYMBOL_HASH_VERSION = 30
+    SYMBOL_HASH_SIZES = 31
+    PUBLIC_SIZES = 32
+    SYMBOL_CUT = 33
 
 
 class StreamNumber(IntEnum):

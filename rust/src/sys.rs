@@ -326,6 +326,12 @@ pub const PDB_HASH_SIZE: u32 = 24;
 pub const PDB_NO_HASH_STREAM: u32 = 25;
 pub const PDB_HASH_PART: u32 = 26;
 pub const PDB_NAME_UNREACHED: u32 = 27;
+pub const PDB_MODULE_CUT: u32 = 28;
+pub const PDB_MODULE_SIZES: u32 = 29;
+pub const PDB_SYMBOL_HASH_VERSION: u32 = 30;
+pub const PDB_SYMBOL_HASH_SIZES: u32 = 31;
+pub const PDB_PUBLIC_SIZES: u32 = 32;
+pub const PDB_SYMBOL_CUT: u32 = 33;
 
 pub const PDB_TYPES_STREAM: u32 = 2;
 pub const PDB_IDS_STREAM: u32 = 4;

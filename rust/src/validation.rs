@@ -71,7 +71,7 @@ Inconsistency {
     PageShared = PDB_PAGE_SHARED
     /// A page is in use and marked as free; a warning (the page).
     PageFree = PDB_PAGE_FREE
-    /// A stream with a name or a role is missing (its number).
+    /// A stream that is named or numbered is missing (its number).
     StreamMissing = PDB_STREAM_MISSING
     /// The parts of stream 3 do not add up to its size.
     DebugSizes = PDB_DEBUG_SIZES
@@ -115,6 +115,18 @@ Inconsistency {
     HashPart = PDB_HASH_PART
     /// The hash of a name leads to another bucket (the offset).
     NameUnreached = PDB_NAME_UNREACHED
+    /// A module's entry ends behind the list of modules.
+    ModuleCut = PDB_MODULE_CUT
+    /// A module takes more bytes than its stream has (its number).
+    ModuleSizes = PDB_MODULE_SIZES
+    /// No signature or version of a hash table of symbols (it).
+    SymbolHashVersion = PDB_SYMBOL_HASH_VERSION
+    /// A hash table of symbols does not have the size that its header says.
+    SymbolHashSizes = PDB_SYMBOL_HASH_SIZES
+    /// The parts of the publics do not add up to their stream.
+    PublicSizes = PDB_PUBLIC_SIZES
+    /// The record of a symbol ends behind its stream.
+    SymbolCut = PDB_SYMBOL_CUT
 }
 }
 

@@ -194,7 +194,9 @@ def regions(file):
     """Where in a file what is read stands: pairs of an offset and a size."""
     msf = Msf(file)
     pages, lists = [*msf.location, *msf.directory_pages], msf.page_lists()
-    for number in {INFORMATION, TYPES, DEBUG, IDS, *role_numbers(msf.bytes_of(DEBUG)).values()}:
+    debug = msf.bytes_of(DEBUG)
+    symbols = {kind_at(debug, at) for at in (12, 16, 20)}
+    for number in {INFORMATION, TYPES, DEBUG, IDS, *symbols, *role_numbers(debug).values()}:
         pages += lists[number]
     return [(0, 60), *((page * msf.page_size, msf.page_size) for page in pages)]
 

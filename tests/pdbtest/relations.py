@@ -103,7 +103,7 @@ INCONSISTENCIES = [
     "DEBUG-SIZES", "REFERENCE-NOT-BELOW", "RECORD-UNALIGNED", "KIND-NOT-READ", "HASH-COUNT", "HASH-TOO-LARGE",
     "INDEX-OFFSET", "BUCKETS-CUT", "NAME-OFFSET", "NAME-COUNT", "SECTIONS-OVERLAP", "FREE-PAGE-MAP", "PAGE-COUNT",
     "UNKNOWN-VERSION", "UNKNOWN-MACHINE", "NAMED-STREAM-COUNT", "RECORD-BYTES", "HASH-SIZE", "NO-HASH-STREAM", "HASH-PART",
-    "NAME-UNREACHED",
+    "NAME-UNREACHED", "MODULE-CUT", "MODULE-SIZES", "SYMBOL-HASH-VERSION", "SYMBOL-HASH-SIZES", "PUBLIC-SIZES", "SYMBOL-CUT",
 ]  # fmt: skip
 
 # What files of known tools have, too.
@@ -427,20 +427,81 @@ class Relations:
             self.add("ROLES", "UNKNOWN-VERSION", DEBUG, None, 4)
         if kind_at(debug, 58) not in MACHINES:
             self.add("ROLES", "UNKNOWN-MACHINE", DEBUG, None, 58)
+        self.begin()
         try:
             roles = role_numbers(debug)
         except Refused:
-            return
-        self.begin()
-        numbers = [kind_at(debug, at) for at in (12, 16, 20)] + [roles.get(role, NO_STREAM) for role in ROLES]
-        for number in numbers:
+            roles = None
+        symbols = [kind_at(debug, at) for at in (12, 16, 20)]
+        for number in symbols + [roles.get(role, NO_STREAM) for role in ROLES] if roles is not None else []:
             if number != NO_STREAM and self.is_missing(number):
                 self.add("ROLES", "STREAM-MISSING", DEBUG)
+        self.check_modules(debug)
+        for number, check in zip(symbols, (self.check_hash_table, self.check_publics, self.check_symbols)):
+            self.begin()
+            stream = self.streams.get(number) if number != NO_STREAM else None
+            if stream is not None:
+                check(number, stream)
+        if roles is None:
+            return
         for part in ("SECTION-HEADERS", "ORIGINAL-SECTION-HEADERS"):
             number = roles.get(part.lower().replace("-", "_"))
             sections = self.streams.get(number)
             if sections is not None and len(sections) % 40 == 0:
                 self.check_sections(part, number, sections)
+
+    def check_modules(self, debug):
+        """The entries of modules, of which the list is full, and the sizes of their streams: 64 bytes, two names that end
+        with a NUL, and what is left to a multiple of four (LLVM's ModuleInfoHeader)."""
+        self.begin()
+        place, end, index = 64, min(64 + word(debug, 24), len(debug)), 0
+        while place < end:
+            middle = debug.find(b"\0", place + 64, end)
+            last = debug.find(b"\0", middle + 1, end) if middle >= 0 else -1
+            behind = (last + 4) // 4 * 4
+            if last < 0 or behind > end:
+                self.add("ROLES", "MODULE-CUT", DEBUG, index, place)
+                return
+            number = kind_at(debug, place + 34)
+            if number != NO_STREAM and self.is_missing(number):
+                self.add("ROLES", "STREAM-MISSING", DEBUG, index, place)
+            elif number < min(len(self.sizes), NO_STREAM):
+                if self.sizes[number] < sum(struct.unpack_from("<3I", debug, place + 36)):
+                    self.add("ROLES", "MODULE-SIZES", DEBUG, index, place)
+            place, index = behind, index + 1
+
+    def check_hash_table(self, number, table, byte=0):
+        """A hash table of symbols, which begins at a byte of its stream: the header, and the sizes of the records, of
+        eight bytes each, and of the buckets (LLVM's GSIHashHeader)."""
+        if len(table) < 16:
+            self.add("ROLES", "SYMBOL-HASH-SIZES", number, None, byte)
+            return
+        signature, version, records, buckets = struct.unpack_from("<4I", table)
+        if signature != 0xFFFFFFFF:
+            self.add("ROLES", "SYMBOL-HASH-VERSION", number, None, byte)
+        if version != 0xEFFE0000 + 19990810:
+            self.add("ROLES", "SYMBOL-HASH-VERSION", number, None, byte + 4)
+        if records % 8 or len(table) != 16 + records + buckets:
+            self.add("ROLES", "SYMBOL-HASH-SIZES", number, None, byte + 8)
+
+    def check_publics(self, number, stream):
+        """The header of the publics, and what follows it: a hash table, addresses, thunks and sections (LLVM's
+        PublicsStreamHeader)."""
+        if len(stream) < 28:
+            self.add("ROLES", "PUBLIC-SIZES", number, None, 0)
+            return
+        hashes, addresses, thunks, _, _, _, sections = struct.unpack_from("<7I", stream)
+        if len(stream) != 28 + hashes + addresses + 4 * thunks + 8 * sections:
+            self.add("ROLES", "PUBLIC-SIZES", number, None, 0)
+        self.check_hash_table(number, stream[28 : 28 + hashes], 28)
+
+    def check_symbols(self, number, stream):
+        """The records of symbols, each behind its size, which is that of its kind at least."""
+        place = 0
+        while place + 2 <= len(stream) and 2 <= (size := kind_at(stream, place)) <= len(stream) - place - 2:
+            place += 2 + size
+        if place < len(stream):
+            self.add("ROLES", "SYMBOL-CUT", number, None, place)
 
     def check_sections(self, part, number, sections):
         """Sections in increasing order, none of which begins below the end of the one before it."""

@@ -4,9 +4,11 @@ pub mod FreeMapLemmas
 pub mod HashLemmas
 pub mod HeaderLemmas
 pub mod MismatchLemmas
+pub mod ModuleLemmas
 pub mod NameLemmas
 pub mod OwnerLemmas
 pub mod PageLemmas
 pub mod PlaceLemmas
 pub mod RecordLemmas
+pub mod SymbolLemmas
 pub mod TableLemmas

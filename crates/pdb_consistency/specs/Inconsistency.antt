@@ -12,7 +12,9 @@ use Rattle.pdb_consistency.specs.declared.inconsistency.Inconsistency.TheVariant
 use Rattle.pdb_consistency.specs.declared.inconsistency.Inconsistency.TheVariants.{UnknownVersion, UnknownMachine}
 use Rattle.pdb_consistency.specs.declared.inconsistency.Inconsistency.TheVariants.{NamedStreamCount, RecordBytes}
 use Rattle.pdb_consistency.specs.declared.inconsistency.Inconsistency.TheVariants.{HashSize, NoHashStream, HashPart}
-use Rattle.pdb_consistency.specs.declared.inconsistency.Inconsistency.TheVariants.{NameUnreached}
+use Rattle.pdb_consistency.specs.declared.inconsistency.Inconsistency.TheVariants.{NameUnreached, ModuleCut, ModuleSizes}
+use Rattle.pdb_consistency.specs.declared.inconsistency.Inconsistency.TheVariants.{SymbolHashVersion, SymbolHashSizes}
+use Rattle.pdb_consistency.specs.declared.inconsistency.Inconsistency.TheVariants.{PublicSizes, SymbolCut}
 
 -- the code of an inconsistency, under which programs tell of it
 abbrev pub inconsistency_code : Inconsistency → List ℕ
@@ -43,6 +45,12 @@ inconsistency_code (HashSize size) = codes "HASH-SIZE"
 inconsistency_code NoHashStream = codes "NO-HASH-STREAM"
 inconsistency_code (HashPart size) = codes "HASH-PART"
 inconsistency_code (NameUnreached offset) = codes "NAME-UNREACHED"
+inconsistency_code ModuleCut = codes "MODULE-CUT"
+inconsistency_code (ModuleSizes stream) = codes "MODULE-SIZES"
+inconsistency_code (SymbolHashVersion version) = codes "SYMBOL-HASH-VERSION"
+inconsistency_code SymbolHashSizes = codes "SYMBOL-HASH-SIZES"
+inconsistency_code PublicSizes = codes "PUBLIC-SIZES"
+inconsistency_code SymbolCut = codes "SYMBOL-CUT"
 
 -- whether files of known tools have it too, so that it makes no file damaged
 abbrev pub is_warning : Inconsistency → Bool

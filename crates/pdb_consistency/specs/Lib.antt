@@ -7,6 +7,7 @@ pub mod NameHashes
 pub mod Inconsistency
 pub mod Mismatch
 pub mod MissingStreams
+pub mod Modules
 pub mod PageOwners
 pub mod Pages
 pub mod FreeMap
@@ -14,5 +15,6 @@ pub mod Records
 pub mod References
 pub mod Sections
 pub mod StringTable
+pub mod Symbols
 pub mod TableHeader
 pub mod Words

@@ -10,7 +10,7 @@ ghost use Rattle.pdb_consistency.specs.Mismatch.{asked_of, with_further};
 
 use crate::inconsistency::Inconsistency;
 use crate::mismatch::{Extent, Mismatch, add};
-use crate::words::word_at;
+use crate::words::{part_at, word_at};
 use pdb_base::{ItemIndex, Result};
 use pdb_tpi::{Header, OpenTable, Slice};
 use std::alloc::Global;
@@ -27,15 +27,11 @@ fn part_start(part: Slice) -> u32
 
 /// Returns the bytes of a part of the hash stream, as many of them as there are. A part whose
 /// offset is negative has none.
-#[tactic(auto, using(std::proofs::lemmas::List::drop_min, std::proofs::lemmas::List::take_min))]
 fn part_in(hashes: &[u8], part: Slice) -> &[u8]
     ensures { result.now ≡ part_in part.offset part.size hashes.now }
 {
     match usize::try_from(part.offset) {
-        Ok(start) => {
-            let from = &hashes[start.min(hashes.len())..];
-            &from[..(part.size as usize).min(from.len())]
-        }
+        Ok(start) => part_at(hashes, start, part.size),
         Err(_) => &hashes[..0],
     }
 }

@@ -22,7 +22,8 @@ pub enum Inconsistency {
     /// The page of this number holds bytes of a stream, and the free page map marks it as free.
     PageFree(u32),
 
-    /// The stream of this number has a name or a role, and the file has no such stream.
+    /// The stream of this number has a name or a role, or is a module's, and the file has no such
+    /// stream.
     StreamMissing(u32),
 
     /// The parts of stream 3 do not have as many bytes as its header says that they have.
@@ -91,6 +92,26 @@ pub enum Inconsistency {
     /// The name at this offset of the string table is not in the bucket to which its hash leads, or
     /// the names in the buckets before it take more bytes than there are.
     NameUnreached(u32),
+
+    /// The entry of a module in stream 3 ends behind the list of modules.
+    ModuleCut,
+
+    /// The stream of this number has fewer bytes than the entry of its module in stream 3 says.
+    ModuleSizes(u32),
+
+    /// The hash table of the globals or of the publics has this number in the place of its
+    /// signature or its version.
+    SymbolHashVersion(u32),
+
+    /// The hash table of the globals or of the publics does not have as many bytes as its header
+    /// says, or not a whole number of records.
+    SymbolHashSizes,
+
+    /// The parts of the stream of publics do not have as many bytes as its header says.
+    PublicSizes,
+
+    /// The record of a symbol ends behind its stream, or has no room for its kind.
+    SymbolCut,
 }
 
 impl Inconsistency {
@@ -126,6 +147,12 @@ impl Inconsistency {
             Inconsistency::NoHashStream => "NO-HASH-STREAM",
             Inconsistency::HashPart(_) => "HASH-PART",
             Inconsistency::NameUnreached(_) => "NAME-UNREACHED",
+            Inconsistency::ModuleCut => "MODULE-CUT",
+            Inconsistency::ModuleSizes(_) => "MODULE-SIZES",
+            Inconsistency::SymbolHashVersion(_) => "SYMBOL-HASH-VERSION",
+            Inconsistency::SymbolHashSizes => "SYMBOL-HASH-SIZES",
+            Inconsistency::PublicSizes => "PUBLIC-SIZES",
+            Inconsistency::SymbolCut => "SYMBOL-CUT",
         }
     }
 

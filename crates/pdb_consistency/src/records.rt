@@ -81,10 +81,10 @@ fn size_inconsistency(bytes: &[u8]) -> Option<Inconsistency>
 
 /// The place of a record: its stream, its index and the byte of the stream at which it begins.
 #[derive(Clone, Copy)]
-struct RecordPosition {
-    stream: u32,
-    index: u64,
-    byte: u64,
+pub(crate) struct RecordPosition {
+    pub(crate) stream: u32,
+    pub(crate) index: u64,
+    pub(crate) byte: u64,
 }
 
 /// Returns the mismatch of what is inconsistent in a record.
@@ -101,7 +101,7 @@ fn at_record(place: RecordPosition, what: Inconsistency) -> Mismatch
 
 /// Adds what is inconsistent in a record, if something is.
 #[inline(always)]
-fn add_at(
+pub(crate) fn add_at(
     mismatches: &mut Vec<Mismatch>,
     extent: Extent,
     place: RecordPosition,

@@ -28,7 +28,7 @@ fn is_version(version: u32) -> bool
 }
 
 /// Returns a field of four bytes of the header.
-fn word_field(byte: u64, is_wrong: bool, what: Inconsistency) -> FieldCheck
+pub(crate) fn word_field(byte: u64, is_wrong: bool, what: Inconsistency) -> FieldCheck
     ensures { result ≡ word_field byte is_wrong what }
 {
     FieldCheck {

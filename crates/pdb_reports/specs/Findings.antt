@@ -62,6 +62,12 @@ inconsistency_number (kinds.HashSize size) = 24
 inconsistency_number kinds.NoHashStream = 25
 inconsistency_number (kinds.HashPart size) = 26
 inconsistency_number (kinds.NameUnreached offset) = 27
+inconsistency_number kinds.ModuleCut = 28
+inconsistency_number (kinds.ModuleSizes stream) = 29
+inconsistency_number (kinds.SymbolHashVersion version) = 30
+inconsistency_number kinds.SymbolHashSizes = 31
+inconsistency_number kinds.PublicSizes = 32
+inconsistency_number kinds.SymbolCut = 33
 
 -- the number that goes with what is inconsistent, or 0
 abbrev pub detail_of : Inconsistency → ℕ
@@ -84,6 +90,8 @@ detail_of (kinds.RecordBytes number) = number
 detail_of (kinds.HashSize size) = size
 detail_of (kinds.HashPart size) = size
 detail_of (kinds.NameUnreached offset) = offset
+detail_of (kinds.ModuleSizes stream) = stream
+detail_of (kinds.SymbolHashVersion version) = version
 detail_of other = 0
 
 -- what is wrong, in numbers

@@ -100,6 +100,12 @@ fn inconsistency_number(what: Inconsistency) -> u32
         Inconsistency::NoHashStream => 25,
         Inconsistency::HashPart(_) => 26,
         Inconsistency::NameUnreached(_) => 27,
+        Inconsistency::ModuleCut => 28,
+        Inconsistency::ModuleSizes(_) => 29,
+        Inconsistency::SymbolHashVersion(_) => 30,
+        Inconsistency::SymbolHashSizes => 31,
+        Inconsistency::PublicSizes => 32,
+        Inconsistency::SymbolCut => 33,
     }
 }
 
@@ -109,7 +115,7 @@ fn detail_of(what: Inconsistency) -> u32
 {
     match what {
         Inconsistency::PageShared(page) | Inconsistency::PageFree(page) => page,
-        Inconsistency::StreamMissing(stream) => stream,
+        Inconsistency::StreamMissing(stream) | Inconsistency::ModuleSizes(stream) => stream,
         Inconsistency::ReferenceNotBelow(index) | Inconsistency::IndexOffset(index) => index,
         Inconsistency::KindNotRead(kind) => kind as u32,
         Inconsistency::HashCount(count) | Inconsistency::NameCount(count) => count,
@@ -118,6 +124,7 @@ fn detail_of(what: Inconsistency) -> u32
         Inconsistency::FreePageMap(number) | Inconsistency::RecordBytes(number) => number,
         Inconsistency::PageCount(count) | Inconsistency::NamedStreamCount(count) => count,
         Inconsistency::UnknownVersion(version) => version,
+        Inconsistency::SymbolHashVersion(version) => version,
         Inconsistency::UnknownMachine(machine) => machine as u32,
         Inconsistency::HashSize(size) | Inconsistency::HashPart(size) => size,
         _ => 0,

@@ -29,8 +29,9 @@ use Rattle.pdb_validation.specs.Names.{fault_of_answer, named_fault, names_fault
 use Rattle.pdb_validation.specs.Names.{string_table_number, whole_names}
 use Rattle.pdb_validation.specs.Places.{PagesValue, stream_pages}
 use Rattle.pdb_validation.specs.Problem.{ProblemValue, is_tolerated}
-use Rattle.pdb_validation.specs.Relations.{AreConsistent, container_relations, name_relations, related_faults}
-use Rattle.pdb_validation.specs.Relations.{id_relations, role_relations, type_relations}
+use Rattle.pdb_validation.specs.Relations.{AreConsistent, container_relations, debug_relations, id_relations}
+use Rattle.pdb_validation.specs.Relations.{name_relations, related_faults, section_relations, symbol_relations}
+use Rattle.pdb_validation.specs.Relations.{type_relations}
 use Rattle.pdb_space.specs.StringTable.{names_of}
 use Rattle.pdb_validation.proofs.NameLemmas.{names_whole, whole_from_names}
 use Rattle.pdb_validation.specs.Roles.{known_roles, numbered_fault, role_fault, role_index, role_problem, roles_fault}
@@ -528,29 +529,44 @@ record AreAgreed (extent : Extent) (layout : LayoutValue) (file : List ℕ) (fau
   pub types : AreConsistent (type_relations layout file)
   pub ids : AreConsistent (id_relations layout file)
   pub names : AreConsistent (name_relations layout file)
-  pub roles : AreConsistent (role_relations layout file)
+  pub roles : AreConsistent (debug_relations layout file)
+  pub symbols : AreConsistent (symbol_relations layout file)
+  pub sections : AreConsistent (section_relations layout file)
 
 related_agree : (extent : Extent) (layout : LayoutValue) (file : List ℕ) (faults : List FaultPlace)
     → errors_in (related_faults extent layout file faults) ≡ [] → AreAgreed extent layout file faults
 unfolding related_faults
 related_agree extent layout file faults is =
-    let roles = with_none extent layout (role_relations layout file) _ is in
+    let sections = with_none extent layout (section_relations layout file) _ is in
+    let symbols = with_none extent layout (symbol_relations layout file) _ sections.0 in
+    let roles = with_none extent layout (debug_relations layout file) _ symbols.0 in
     let names = with_none extent layout (name_relations layout file) _ roles.0 in
     let ids = with_none extent layout (id_relations layout file) _ names.0 in
     let types = with_none extent layout (type_relations layout file) _ ids.0 in
     let pages = with_none extent layout (container_relations layout file) faults types.0 in
-    record { none = pages.0; pages = pages.1; types = types.1; ids = ids.1; names = names.1; roles = roles.1 }
+    record {
+      none = pages.0;
+      pages = pages.1;
+      types = types.1;
+      ids = ids.1;
+      names = names.1;
+      roles = roles.1;
+      symbols = symbols.1;
+      sections = sections.1;
+    }
 
 agreed : (extent : Extent) (layout : LayoutValue) (file : List ℕ) (faults : List FaultPlace)
     → AreAgreed extent layout file faults → errors_in (related_faults extent layout file faults) ≡ []
 unfolding related_faults
 agreed extent layout file faults are =
-    none_with extent layout (role_relations layout file) _
+    none_with extent layout (section_relations layout file) _
+    (none_with extent layout (symbol_relations layout file) _
+    (none_with extent layout (debug_relations layout file) _
     (none_with extent layout (name_relations layout file) _
     (none_with extent layout (id_relations layout file) _
     (none_with extent layout (type_relations layout file) _
     (none_with extent layout (container_relations layout file) faults are.none are.pages) are.types) are.ids) are.names)
-    are.roles
+    are.roles) are.symbols) are.sections
 
 no_part_faults : (extent : Extent) (layout : LayoutValue) (file : List ℕ)
     → errors_in (sized_faults extent layout file) ≡ [] → HasWholeParts layout file
@@ -580,6 +596,8 @@ no_part_faults extent layout file is =
       ids_agree = agree.ids;
       names_agree = agree.names;
       roles_agree = agree.roles;
+      symbols_agree = agree.symbols;
+      sections_agree = agree.sections;
     }
 
 whole_parts : (extent : Extent) (layout : LayoutValue) (file : List ℕ) → HasWholeParts layout file
@@ -610,6 +628,8 @@ whole_parts extent layout file whole =
       ids = whole.ids_agree;
       names = whole.names_agree;
       roles = whole.roles_agree;
+      symbols = whole.symbols_agree;
+      sections = whole.sections_agree;
     }))
 
 none_by : (extent : Extent) (file : List ℕ) (answer : Answer LayoutValue)

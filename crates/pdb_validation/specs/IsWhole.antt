@@ -10,8 +10,8 @@ use Rattle.pdb_tpi.specs.Steps.{walk, walk_rest}
 use Rattle.pdb_tpi.specs.Table.{Table, table_of}
 use Rattle.pdb_space.specs.StringTable.{name_of, names_of}
 use Rattle.pdb_validation.specs.Names.{string_table_number}
-use Rattle.pdb_validation.specs.Relations.{AreConsistent, container_relations, name_relations, role_relations}
-use Rattle.pdb_validation.specs.Relations.{id_relations, type_relations}
+use Rattle.pdb_validation.specs.Relations.{AreConsistent, container_relations, debug_relations, id_relations}
+use Rattle.pdb_validation.specs.Relations.{name_relations, section_relations, symbol_relations, type_relations}
 use Rattle.pdb_validation.specs.Roles.{known_roles, role_index, role_problem}
 use Rattle.pdb_validation.specs.Sizes.{directory_size, streams_size}
 use Rattle.pdb_validation.specs.Tables.{checked_id, checked_type}
@@ -95,7 +95,9 @@ pub record HasWholeParts (layout : LayoutValue) (file : List ℕ) : Type 0 where
   pub types_agree : AreConsistent (type_relations layout file)
   pub ids_agree : AreConsistent (id_relations layout file)
   pub names_agree : AreConsistent (name_relations layout file)
-  pub roles_agree : AreConsistent (role_relations layout file)
+  pub roles_agree : AreConsistent (debug_relations layout file)
+  pub symbols_agree : AreConsistent (symbol_relations layout file)
+  pub sections_agree : AreConsistent (section_relations layout file)
 
 -- The header and the directory of a file can be read, and the parts behind them are whole.
 abbrev pub IsWholeBehind : List ℕ → Answer LayoutValue → Type 0

@@ -67,6 +67,12 @@ words_before (kinds.HashSize size) = codes "no table has hashes of this size or 
 words_before kinds.NoHashStream = codes "the records have no hash stream"
 words_before (kinds.HashPart size) = codes "a part of "
 words_before (kinds.NameUnreached offset) = codes "the hash of the name at offset "
+words_before kinds.ModuleCut = codes "the entry of the module ends behind the list of modules"
+words_before (kinds.ModuleSizes stream) = codes "a module takes more bytes than there are in stream "
+words_before (kinds.SymbolHashVersion version) = codes "no hash table of symbols has signature or version "
+words_before kinds.SymbolHashSizes = codes "the hash table of symbols does not have the size it says"
+words_before kinds.PublicSizes = codes "the parts of the publics do not add up to their stream"
+words_before kinds.SymbolCut = codes "the record of the symbol ends behind its stream"
 
 -- the words behind the number
 abbrev pub words_after : Inconsistency → List ℕ
@@ -110,6 +116,8 @@ shown_number (kinds.RecordBytes number) = Decimal number
 shown_number (kinds.HashSize size) = Decimal size
 shown_number (kinds.HashPart size) = Decimal size
 shown_number (kinds.NameUnreached offset) = Decimal offset
+shown_number (kinds.ModuleSizes stream) = Decimal stream
+shown_number (kinds.SymbolHashVersion version) = Hexadecimal version
 shown_number other = Nothing
 
 abbrev pub text_of_shown : Shown → List ℕ

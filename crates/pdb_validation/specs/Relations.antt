@@ -1,6 +1,6 @@
 -- What is inconsistent between the parts of a file, as far as these can be read.
 use Rattle.std.specs.Prelude.{◌≡◌, ℕ, not, filter, ⊤, List, [], ◌∷◌, ◌++◌, map, Option, Some, None, Ok, Err}
-use Rattle.pdb_base.specs.Answer.{Answer}
+use Rattle.pdb_base.specs.Answer.{Answer, ◌>>=◌}
 use Rattle.pdb_base.specs.Index.{stream_number}
 use Rattle.pdb_msf.specs.Layout.{LayoutValue, stream_by}
 use Rattle.pdb_file.specs.DbiHeader.{dbi_header_of}
@@ -8,6 +8,7 @@ use Rattle.pdb_file.specs.DebugHeader.{extra_streams_of}
 use Rattle.pdb_file.specs.Information.{information_of}
 use Rattle.pdb_file.specs.SectionHeaders.{section_headers_of}
 use Rattle.pdb_file.specs.StreamNames.{stream_names_of}
+use Rattle.pdb_file.specs.declared.dbi_header.DBIHeader.{DBIHeader}
 use Rattle.pdb_file.specs.declared.debug_header.DBIExtraStreams.{DBIExtraStreams}
 use Rattle.pdb_tpi.specs.Table.{Table, table_of}
 use Rattle.pdb_consistency.specs.DebugHeader.{debug_header_mismatches}
@@ -16,10 +17,12 @@ use Rattle.pdb_consistency.specs.Hashes.{hashes_mismatches}
 use Rattle.pdb_consistency.specs.Information.{information_mismatches}
 use Rattle.pdb_consistency.specs.Mismatch.{asked_of, warns}
 use Rattle.pdb_consistency.specs.MissingStreams.{indexes_mismatches, names_mismatches, role_indexes, symbol_indexes}
+use Rattle.pdb_consistency.specs.Modules.{modules_mismatches}
 use Rattle.pdb_consistency.specs.Pages.{page_mismatches}
 use Rattle.pdb_consistency.specs.Records.{ids_mismatches, types_mismatches}
 use Rattle.pdb_consistency.specs.Sections.{section_mismatches}
 use Rattle.pdb_consistency.specs.StringTable.{names_mismatches_in}
+use Rattle.pdb_consistency.specs.Symbols.{globals_mismatches, publics_mismatches, symbols_mismatches}
 use Rattle.pdb_consistency.specs.TableHeader.{table_header_mismatches}
 use Rattle.pdb_consistency.specs.declared.mismatch.Extent.{Extent}
 use Rattle.pdb_consistency.specs.declared.mismatch.Mismatch.{Mismatch}
@@ -28,6 +31,8 @@ use Rattle.pdb_validation.specs.Names.{string_table_number}
 use Rattle.pdb_validation.specs.Places.{file_byte, stream_pages}
 use Rattle.pdb_validation.specs.Problem.{inconsistent}
 use Rattle.pdb_validation.specs.Roles.{known_roles, role_index}
+use Rattle.pdb_validation.specs.declared.debug.SymbolStream.{SymbolStream}
+use Rattle.pdb_validation.specs.declared.debug.SymbolStream.TheVariants.{Globals, Publics, Records}
 use Rattle.pdb_validation.specs.declared.finding.Part.{Part}
 use Rattle.pdb_validation.specs.declared.finding.Part.TheVariants as parts
 
@@ -132,18 +137,33 @@ buckets_relation layout file =
     if_answered (λ stream. if_answered (buckets_of layout file) (string_table_number stream))
     (stream_by layout file 1 None)
 
--- the header of stream 3, and the streams that have roles
-unfoldable pub debug_relation : LayoutValue → List ℕ → List Mismatch
-debug_relation layout file = if_answered debug_header_mismatches (stream_by layout file 3 None)
-
+-- the streams that have roles in stream 3
 unfoldable pub roles_in_stream : LayoutValue → List ℕ → List Mismatch
 roles_in_stream layout stream =
     if_answered (λ header. if_answered (λ roles.
     indexes_mismatches layout 3 (symbol_indexes header) ++ indexes_mismatches layout 3 (role_indexes roles))
     (extra_streams_of stream)) (dbi_header_of stream)
 
-unfoldable pub roles_relation : LayoutValue → List ℕ → List Mismatch
-roles_relation layout file = if_answered (roles_in_stream layout) (stream_by layout file 3 None)
+-- the index of a stream of symbols, and the mismatches in its bytes
+abbrev pub symbol_index : SymbolStream → DBIHeader → ℕ
+symbol_index Globals header = header.gs_symbols_stream.0
+symbol_index Publics header = header.ps_symbols_stream.0
+symbol_index Records header = header.symbol_records_stream.0
+
+abbrev pub symbol_mismatches : SymbolStream → ℕ → List ℕ → List Mismatch
+symbol_mismatches Globals number stream = globals_mismatches number stream
+symbol_mismatches Publics number stream = publics_mismatches number stream
+symbol_mismatches Records number stream = symbols_mismatches number stream
+
+-- a stream of symbols, if it has a number
+abbrev pub symbols_by : LayoutValue → List ℕ → SymbolStream → Option ℕ → List Mismatch
+symbols_by layout file symbols None = []
+symbols_by layout file symbols (Some number) =
+    if_answered (symbol_mismatches symbols number) (stream_by layout file number None)
+
+abbrev pub symbols_in : LayoutValue → List ℕ → SymbolStream → DBIHeader → List Mismatch
+symbols_in layout file symbols header =
+    symbols_by layout file symbols (stream_number (symbol_index symbols header))
 
 -- the sections in the stream of a role
 abbrev pub sections_in : LayoutValue → List ℕ → Option ℕ → List Mismatch
@@ -191,17 +211,38 @@ name_relations layout file =
     relation parts.Names (information_relation layout file) ∷ relation parts.Names (names_relation layout file)
     ∷ relation parts.StringTable (buckets_relation layout file) ∷ []
 
-unfoldable pub role_relations : LayoutValue → List ℕ → List Relation
-role_relations layout file =
-    relation parts.Roles (debug_relation layout file) ∷ relation parts.Roles (roles_relation layout file)
-    ∷ relation parts.SectionHeaders (sections_relation layout file parts.SectionHeaders)
+-- the header, the roles and the modules of stream 3
+unfoldable pub in_debug_stream : LayoutValue → Answer (List ℕ) → List Relation
+in_debug_stream layout stream =
+    relation parts.Roles (if_answered debug_header_mismatches stream)
+    ∷ relation parts.Roles (if_answered (roles_in_stream layout) stream)
+    ∷ relation parts.Roles (if_answered (modules_mismatches layout) stream) ∷ []
+
+abbrev pub debug_relations : LayoutValue → List ℕ → List Relation
+debug_relations layout file = in_debug_stream layout (stream_by layout file 3 None)
+
+-- the streams of symbols, which the header of stream 3 gives
+unfoldable pub in_symbol_streams : LayoutValue → List ℕ → Answer DBIHeader → List Relation
+in_symbol_streams layout file header =
+    relation parts.Roles (if_answered (symbols_in layout file Globals) header)
+    ∷ relation parts.Roles (if_answered (symbols_in layout file Publics) header)
+    ∷ relation parts.Roles (if_answered (symbols_in layout file Records) header) ∷ []
+
+abbrev pub symbol_relations : LayoutValue → List ℕ → List Relation
+symbol_relations layout file = in_symbol_streams layout file (stream_by layout file 3 None >>= dbi_header_of)
+
+unfoldable pub section_relations : LayoutValue → List ℕ → List Relation
+section_relations layout file =
+    relation parts.SectionHeaders (sections_relation layout file parts.SectionHeaders)
     ∷ relation parts.OriginalSectionHeaders (sections_relation layout file parts.OriginalSectionHeaders) ∷ []
 
 -- faults, and behind them those of all relations
 unfoldable pub related_faults : Extent → LayoutValue → List ℕ → List FaultPlace → List FaultPlace
 related_faults extent layout file faults =
-    with_relations extent layout (role_relations layout file)
+    with_relations extent layout (section_relations layout file)
+    (with_relations extent layout (symbol_relations layout file)
+    (with_relations extent layout (debug_relations layout file)
     (with_relations extent layout (name_relations layout file)
     (with_relations extent layout (id_relations layout file)
     (with_relations extent layout (type_relations layout file)
-    (with_relations extent layout (container_relations layout file) faults))))
+    (with_relations extent layout (container_relations layout file) faults))))))

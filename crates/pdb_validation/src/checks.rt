@@ -311,8 +311,8 @@ fn check_file<S: Source>(
 /// list of its own: the pages that the header counts, pages with two owners or marked as free, the
 /// references, sizes and kinds of records, the header and the hash stream of a table, streams that
 /// have a name or a role and are missing, the version of stream 1, the buckets of the string table,
-/// the header of stream 3, and sections that overlap. Some of it is no more than a warning. Modules
-/// and symbols are not read.
+/// the header of stream 3, the sizes of modules and of the streams of symbols, and sections that
+/// overlap. Some of it is no more than a warning. Modules and symbols are not read.
 ///
 /// Streams are read one at a time: each for its bytes, and those of the parts again for what they
 /// hold and for what is inconsistent. Since streams are read only if they are no larger together

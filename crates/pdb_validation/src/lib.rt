@@ -3,6 +3,7 @@
 #![tactic(auto)]
 
 mod checks;
+mod debug;
 mod finding;
 mod names;
 mod places;

@@ -78,6 +78,12 @@ fn words_before(what: Inconsistency) -> &'static str
         Inconsistency::NoHashStream => "the records have no hash stream",
         Inconsistency::HashPart(_) => "a part of ",
         Inconsistency::NameUnreached(_) => "the hash of the name at offset ",
+        Inconsistency::ModuleCut => "the entry of the module ends behind the list of modules",
+        Inconsistency::ModuleSizes(_) => "a module takes more bytes than there are in stream ",
+        Inconsistency::SymbolHashVersion(_) => "no hash table of symbols has signature or version ",
+        Inconsistency::SymbolHashSizes => "the hash table of symbols does not have the size it says",
+        Inconsistency::PublicSizes => "the parts of the publics do not add up to their stream",
+        Inconsistency::SymbolCut => "the record of the symbol ends behind its stream",
     }
 }
 
@@ -142,6 +148,8 @@ fn shown_number(what: Inconsistency) -> Shown
         Inconsistency::HashSize(size) => Shown::Decimal(size),
         Inconsistency::HashPart(size) => Shown::Decimal(size),
         Inconsistency::NameUnreached(offset) => Shown::Decimal(offset),
+        Inconsistency::ModuleSizes(stream) => Shown::Decimal(stream),
+        Inconsistency::SymbolHashVersion(version) => Shown::Hexadecimal(version),
         _ => Shown::Nothing,
     }
 }

@@ -9,14 +9,15 @@ ghost use Rattle.pdb_msf.specs.Layout.{layout_of};
 ghost use Rattle.pdb_msf.specs.Source.{IsFixed, ReadsSource};
 ghost use Rattle.pdb_validation.specs.Finding.{finding_view};
 ghost use Rattle.pdb_validation.specs.Places.{stream_pages};
-ghost use Rattle.pdb_validation.specs.Relations.{buckets_of, buckets_relation, container_relations, debug_relation};
+ghost use Rattle.pdb_validation.specs.Relations.{buckets_of, buckets_relation, container_relations};
 ghost use Rattle.pdb_validation.specs.Relations.{hashes_by, header_relations, id_relations, information_relation};
 ghost use Rattle.pdb_validation.specs.Relations.{mismatch_fault, name_relations};
-ghost use Rattle.pdb_validation.specs.Relations.{named_streams, names_relation, role_relations, roles_in_stream};
-ghost use Rattle.pdb_validation.specs.Relations.{roles_relation, sections_in, sections_relation};
+ghost use Rattle.pdb_validation.specs.Relations.{named_streams, names_relation};
+ghost use Rattle.pdb_validation.specs.Relations.{section_relations, sections_in, sections_relation};
 ghost use Rattle.pdb_validation.specs.Relations.{type_relations, types_end};
 ghost use Rattle.pdb_validation.specs.Relations.{related_faults, with_relations};
 
+use crate::debug::add_debug_relations;
 use crate::finding::{Finding, Part};
 use crate::names::string_table_number;
 use crate::places::LastPages;
@@ -25,21 +26,18 @@ use crate::read::read;
 use crate::roles::{known_roles, role_index};
 use pdb_base::{Error, ItemIndex, Result, Stream, StreamIndex};
 use pdb_consistency::{
-    Extent, Mismatch, check_buckets, check_debug_header, check_hashes, check_header,
-    check_id_records, check_information, check_named_streams, check_pages, check_roles,
-    check_section_order, check_table_header, check_type_records,
+    Extent, Mismatch, check_buckets, check_hashes, check_header, check_id_records,
+    check_information, check_named_streams, check_pages, check_section_order, check_table_header,
+    check_type_records,
 };
 use pdb_file::section_headers::section_headers;
-use pdb_file::{DBIExtraStreams, DBIHeader, ID_STREAM, PDBInformation, TYPE_STREAM};
+use pdb_file::{ID_STREAM, PDBInformation, TYPE_STREAM};
 use pdb_msf::{CountedSource, Layout, Source};
 use pdb_tpi::{IdInformation, ItemInformation, OpenTable, TypeInformation};
 use std::alloc::Global;
 
 /// The number of the stream that identifies the file and names streams.
 const INFORMATION_STREAM: u32 = 1;
-
-/// The number of the stream of debug information.
-const DEBUG_STREAM: u32 = 3;
 
 /// The end of the indexes of types where there is no table of types.
 const NO_END: u32 = 0xffff_ffff;
@@ -71,7 +69,7 @@ fn finding_of(
 
 /// Adds what is inconsistent in a part.
 #[tactic(auto, using(crate::proofs::RelationLemmas::mismatches_more))]
-fn add_mismatches(
+pub(crate) fn add_mismatches(
     alloc: Global,
     layout: &Layout,
     part: Part,
@@ -257,60 +255,6 @@ fn bucket_mismatches<S: Source>(
     }
 }
 
-/// Returns what is inconsistent in the header of stream 3.
-#[tactic(auto, unfolding(crate::specs::Relations::debug_relation), using(crate::proofs::RelationLemmas::nothing_asked))]
-fn debug_mismatches<S: Source>(
-    alloc: Global,
-    layout: &Layout,
-    source: &mut CountedSource<S>,
-    extent: Extent,
-) -> Result<Vec<Mismatch>>
-    ensures { ReadsSource (S.state source.old.source) (S.state source.new.source)
-        (λ mismatches. mismatches.items) result (λ file. Ok (asked_of extent (debug_relation layout.now file))) }
-{
-    match read(alloc, layout, source, DEBUG_STREAM)? {
-        Ok(stream) => check_debug_header(alloc, &stream, extent),
-        Err(_) => Ok(Vec::new(alloc)),
-    }
-}
-
-/// Returns which of the streams that have roles in these bytes of stream 3 are missing.
-#[tactic(auto, unfolding(crate::specs::Relations::roles_in_stream), using(crate::proofs::RelationLemmas::nothing_asked))]
-fn roles_in_stream(
-    alloc: Global,
-    layout: &Layout,
-    stream: &Stream,
-    extent: Extent,
-) -> Result<Vec<Mismatch>>
-    ensures { Answers (λ mismatches. mismatches.items) result
-        (Ok (asked_of extent (roles_in_stream layout.now stream.now))) }
-{
-    let Ok(header) = DBIHeader::parse(stream) else {
-        return Ok(Vec::new(alloc));
-    };
-    match DBIExtraStreams::new(stream) {
-        Ok(roles) => check_roles(alloc, layout, &header, &roles, extent),
-        Err(_) => Ok(Vec::new(alloc)),
-    }
-}
-
-/// Returns which of the streams that have roles are missing.
-#[tactic(auto, unfolding(crate::specs::Relations::roles_relation), using(crate::proofs::RelationLemmas::nothing_asked))]
-fn role_mismatches<S: Source>(
-    alloc: Global,
-    layout: &Layout,
-    source: &mut CountedSource<S>,
-    extent: Extent,
-) -> Result<Vec<Mismatch>>
-    ensures { ReadsSource (S.state source.old.source) (S.state source.new.source)
-        (λ mismatches. mismatches.items) result (λ file. Ok (asked_of extent (roles_relation layout.now file))) }
-{
-    match read(alloc, layout, source, DEBUG_STREAM)? {
-        Ok(stream) => roles_in_stream(alloc, layout, &stream, extent),
-        Err(_) => Ok(Vec::new(alloc)),
-    }
-}
-
 /// Returns which of the sections in the stream of a number overlap, if there is a number.
 #[tactic(auto, using(crate::proofs::RelationLemmas::nothing_asked))]
 fn sections_in<S: Source>(
@@ -455,9 +399,9 @@ fn add_name_relations<S: Source>(
     add_mismatches(alloc, layout, Part::StringTable, &buckets, findings)
 }
 
-/// Adds what is inconsistent in stream 3 and the streams of its roles.
-#[tactic(auto, unfolding(crate::specs::Relations::role_relations))]
-fn add_role_relations<S: Source>(
+/// Adds which sections overlap.
+#[tactic(auto, unfolding(crate::specs::Relations::section_relations))]
+fn add_section_relations<S: Source>(
     alloc: Global,
     layout: &Layout,
     source: &mut CountedSource<S>,
@@ -467,12 +411,8 @@ fn add_role_relations<S: Source>(
     requires { 0 < layout.now.head.geometry.page_size }
     ensures { ReadsSource (S.state source.old.source) (S.state source.new.source)
         (λ done. map finding_view findings.new.items) result (λ file. Ok (with_relations extent layout.now
-        (role_relations layout.now file) (map finding_view findings.old.items))) }
+        (section_relations layout.now file) (map finding_view findings.old.items))) }
 {
-    let header = debug_mismatches(alloc, layout, source, extent)?;
-    add_mismatches(alloc, layout, Part::Roles, &header, findings)?;
-    let roles = role_mismatches(alloc, layout, source, extent)?;
-    add_mismatches(alloc, layout, Part::Roles, &roles, findings)?;
     let sections = section_mismatches(alloc, layout, source, Part::SectionHeaders, extent)?;
     add_mismatches(alloc, layout, Part::SectionHeaders, &sections, findings)?;
     let original = section_mismatches(alloc, layout, source, Part::OriginalSectionHeaders, extent)?;
@@ -505,5 +445,6 @@ pub(crate) fn add_relations<S: Source>(
     add_type_relations(alloc, layout, source, extent, findings)?;
     add_id_relations(alloc, layout, source, extent, findings)?;
     add_name_relations(alloc, layout, source, extent, findings)?;
-    add_role_relations(alloc, layout, source, extent, findings)
+    add_debug_relations(alloc, layout, source, extent, findings)?;
+    add_section_relations(alloc, layout, source, extent, findings)
 }

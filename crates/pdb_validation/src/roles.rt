@@ -26,7 +26,7 @@ use pdb_space::OMAPTable;
 use std::alloc::Global;
 
 /// The number of the stream of debug information.
-const DEBUG_STREAM: u32 = 3;
+pub(crate) const DEBUG_STREAM: u32 = 3;
 
 /// Returns what is wrong in a list of records: that it is out of order, unless it is sorted.
 fn unless_sorted(is_sorted: bool) -> Option<Problem>

@@ -2,8 +2,9 @@
 
 use pdb_base::{Stream, TypeIndex};
 use pdb_consistency::{
-    Extent, Inconsistency, Mismatch, check_buckets, check_debug_header, check_hashes, check_pages,
-    check_section_order, check_type_records,
+    Extent, Inconsistency, Mismatch, check_buckets, check_debug_header, check_globals,
+    check_hashes, check_modules, check_pages, check_publics, check_section_order, check_symbols,
+    check_type_records,
 };
 use pdb_file::section_headers::section_headers;
 use pdb_fixtures::{file_of, stream_of, with_bytes};
@@ -39,6 +40,22 @@ const NAMES: &[u8] =
 const DEBUG: &[u8] =
     b"\xff\xff\xff\xff\x77\x09\x31\x01\0\0\0\0\0\0\0\0\0\0\0\0\0\0\0\0\0\0\0\0\0\0\0\0\0\0\0\0\0\0\0\0\0\0\0\0\0\0\0\0\0\0\0\0\0\0\0\0\0\0\x64\x86\0\0\0\0";
 
+/// Stream 3: a header, a module with 90 bytes of symbols and 10 of lines in stream 2, one without a
+/// stream, whose entry ends with a byte that fills it, and a byte behind both.
+const MODULES: &[u8] =
+    b"\xff\xff\xff\xffw\x091\x01\0\0\0\0\0\0\0\0\0\0\0\0\0\0\0\0\x8c\0\0\0\0\0\0\0\0\0\0\0\0\0\0\0\0\0\0\0\0\0\0\0\0\0\0\0\0\0\0\0\0\0d\x86\0\0\0\0\0\0\0\0\0\0\0\0\0\0\0\0\0\0\0\0\0\0\0\0\0\0\0\0\0\0\0\0\0\0\0\0\0\0\x02\0Z\0\0\0\0\0\0\0\x0a\0\0\0\0\0\0\0\0\0\0\0\0\0\0\0\0\0\0\0a\0b\0\0\0\0\0\0\0\0\0\0\0\0\0\0\0\0\0\0\0\0\0\0\0\0\0\0\0\0\0\0\0\0\0\0\0\xff\xff\0\0\0\0\0\0\0\0\0\0\0\0\0\0\0\0\0\0\0\0\0\0\0\0\0\0\0\0\0c.obj\0\0\x01";
+
+/// A hash table of symbols, with one record and four bytes of buckets.
+const GLOBALS: &[u8] =
+    b"\xff\xff\xff\xff\x1a\x09\x2f\xf1\x08\0\0\0\x04\0\0\0\x01\0\0\0\x01\0\0\0\0\0\0\0";
+
+/// The stream of publics: a hash table without records, an address, a thunk and a section.
+const PUBLICS: &[u8] =
+    b"\x10\0\0\0\x04\0\0\0\x01\0\0\0\x05\0\0\0\x01\0\0\0\0\0\0\0\x01\0\0\0\xff\xff\xff\xff\x1a\x09\x2f\xf1\0\0\0\0\0\0\0\0\0\0\0\0\0\0\0\0\0\0\0\0\0\0\0\0";
+
+/// Two records of symbols, which take four bytes and six.
+const SYMBOLS: &[u8] = b"\x02\0\x06\0\x04\0\x0e\x11\0\0";
+
 /// Two sections of 0x1000 bytes each, at 0x1000 and 0x2000.
 const SECTIONS: &[u8] =
     b"\0\0\0\0\0\0\0\0\0\x10\0\0\0\x10\0\0\0\0\0\0\0\0\0\0\0\0\0\0\0\0\0\0\0\0\0\0\0\0\0\0\0\0\0\0\0\0\0\0\0\x10\0\0\0\x20\0\0\0\0\0\0\0\0\0\0\0\0\0\0\0\0\0\0\0\0\0\0\0\0\0\0";
@@ -54,9 +71,17 @@ enum Checked {
     Hashes,
     /// The buckets of the string table.
     Buckets,
+    /// The modules of stream 3, in the file.
+    Modules,
+    /// The hash table of the globals.
+    Globals,
+    /// The stream of the publics.
+    Publics,
+    /// The records of symbols.
+    Symbols,
 }
 
-use Checked::{Buckets, Hashes, Pages, Records};
+use Checked::{Buckets, Globals, Hashes, Modules, Pages, Publics, Records, Symbols};
 
 /// A byte that is set to another, and what is then inconsistent first: its stream, the index of its
 /// record, and the byte of the stream.
@@ -92,6 +117,30 @@ const DAMAGES: &[Damage] = rows! {
     // The count of names, and one bucket more.
     Buckets, 0x22, 3, 5, None, 0x22, Inconsistency::NameCount(3);
     Buckets, 0x12, 4, 5, None, 0x26, Inconsistency::BucketsCut;
+    // The sizes of the symbols and of both kinds of lines, and the stream.
+    Modules, 0x64, 0x5b, 3, Some(0), 0x40, Inconsistency::ModuleSizes(2);
+    Modules, 0x69, 1, 3, Some(0), 0x40, Inconsistency::ModuleSizes(2);
+    Modules, 0x6c, 0x0b, 3, Some(0), 0x40, Inconsistency::ModuleSizes(2);
+    Modules, 0x62, 9, 3, Some(0), 0x40, Inconsistency::StreamMissing(9);
+    // The list ends a byte before the second entry, or behind it.
+    Modules, 0x18, 0x8b, 3, Some(1), 0x84, Inconsistency::ModuleCut;
+    Modules, 0x18, 0x8d, 3, Some(2), 0xcc, Inconsistency::ModuleCut;
+    // The signature, the version, the size of the records and that of the buckets.
+    Globals, 0, 0, 7, None, 0, Inconsistency::SymbolHashVersion(0xffff_ff00);
+    Globals, 4, 0x1b, 7, None, 4, Inconsistency::SymbolHashVersion(0xf12f_091b);
+    Globals, 8, 0, 7, None, 8, Inconsistency::SymbolHashSizes;
+    Globals, 12, 5, 7, None, 8, Inconsistency::SymbolHashSizes;
+    // The sizes of the parts of the publics, and their hash table.
+    Publics, 0, 0, 7, None, 0, Inconsistency::PublicSizes;
+    Publics, 4, 5, 7, None, 0, Inconsistency::PublicSizes;
+    Publics, 8, 2, 7, None, 0, Inconsistency::PublicSizes;
+    Publics, 0x18, 2, 7, None, 0, Inconsistency::PublicSizes;
+    Publics, 0x20, 0, 7, None, 0x20, Inconsistency::SymbolHashVersion(0xf12f_0900);
+    Publics, 0x24, 8, 7, None, 0x24, Inconsistency::SymbolHashSizes;
+    // The length of each record; the last one then ends a byte before the stream or behind it.
+    Symbols, 0, 1, 7, None, 0, Inconsistency::SymbolCut;
+    Symbols, 4, 3, 7, None, 9, Inconsistency::SymbolCut;
+    Symbols, 4, 5, 7, None, 4, Inconsistency::SymbolCut;
 };
 
 /// Returns a stream of these bytes, of which some are replaced.
@@ -110,6 +159,14 @@ fn page_mismatches(rt: &impl Abort, alloc: Global, file: &[u8], extent: Extent) 
     let mut source = CountedSource::new(file);
     let layout = Layout::read(alloc, &mut source).expect(rt, "a layout");
     check_pages(alloc, &layout, &mut source, extent).expect(rt, "memory")
+}
+
+/// Returns what is inconsistent in the modules of stream 3, in the file.
+fn module_mismatches(rt: &impl Abort, alloc: Global, bytes: &[u8], extent: Extent) -> Vec<Mismatch> {
+    let mut source = CountedSource::new(file(rt, alloc));
+    let layout = Layout::read(alloc, &mut source).expect(rt, "a layout");
+    let stream = stream(rt, alloc, bytes, &[]);
+    check_modules(alloc, &layout, &stream, extent).expect(rt, "memory")
 }
 
 /// Returns what is inconsistent between the records of a table of types.
@@ -139,6 +196,10 @@ impl Checked {
             Records => TYPES,
             Hashes => HASHES,
             Buckets => NAMES,
+            Modules => MODULES,
+            Globals => GLOBALS,
+            Publics => PUBLICS,
+            Symbols => SYMBOLS,
         };
         Vec::from_slice(alloc, bytes).expect(rt, "memory")
     }
@@ -156,6 +217,10 @@ impl Checked {
             Records => record_mismatches(rt, alloc, bytes, extent),
             Hashes => hash_mismatches(rt, alloc, bytes, extent),
             Buckets => check_buckets(alloc, 5, bytes, extent).expect(rt, "memory"),
+            Modules => module_mismatches(rt, alloc, bytes, extent),
+            Globals => check_globals(alloc, 7, bytes, extent).expect(rt, "memory"),
+            Publics => check_publics(alloc, 7, bytes, extent).expect(rt, "memory"),
+            Symbols => check_symbols(alloc, 7, bytes, extent).expect(rt, "memory"),
         }
     }
 }
@@ -184,7 +249,8 @@ fn is_found(rt: &impl Abort, alloc: Global, row: &Damage) -> bool {
 
 #[test]
 fn damages(rt: HostRuntime) {
-    for checked in [Pages, Records, Hashes, Buckets] {
+    let all = [Pages, Records, Hashes, Buckets, Modules, Globals, Publics, Symbols];
+    for checked in all {
         assert!(rt; is_whole(&rt, rt.alloc(), checked));
     }
     for row in DAMAGES {

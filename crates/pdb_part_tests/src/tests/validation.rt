@@ -14,9 +14,9 @@ const INFORMATION: &[u8] =
 const TYPES: &[u8] =
     b"\x0b\xca\x31\x01\x38\0\0\0\x00\x10\0\0\x03\x10\0\0\x1a\0\0\0\xff\xff\0\0\x04\0\0\0\0\x10\0\0\0\0\0\0\0\0\0\0\0\0\0\0\0\0\0\0\0\0\0\0\0\0\0\0\x08\0\x01\x10\x74\0\0\0\x01\0\x02\0\x03\x12\x0a\0\x03\x12\x04\x14\0\0\x01\x10\0\0";
 
-/// Stream 3: a header, and the roles of streams 6 to 9.
+/// Stream 3: a header without streams of symbols, and the roles of streams 6 to 9.
 const DEBUG: &[u8] =
-    b"\xff\xff\xff\xff\x77\x09\x31\x01\0\0\0\0\0\0\0\0\0\0\0\0\0\0\0\0\0\0\0\0\0\0\0\0\0\0\0\0\0\0\0\0\0\0\0\0\0\0\0\0\x16\0\0\0\0\0\0\0\0\0\x64\x86\0\0\0\0\x09\0\xff\xff\xff\xff\x07\0\xff\xff\x06\0\xff\xff\xff\xff\xff\xff\x08\0\xff\xff";
+    b"\xff\xff\xff\xff\x77\x09\x31\x01\0\0\0\0\xff\xff\0\0\xff\xff\0\0\xff\xff\0\0\0\0\0\0\0\0\0\0\0\0\0\0\0\0\0\0\0\0\0\0\0\0\0\0\x16\0\0\0\0\0\0\0\0\0\x64\x86\0\0\0\0\x09\0\xff\xff\xff\xff\x07\0\xff\xff\x06\0\xff\xff\xff\xff\xff\xff\x08\0\xff\xff";
 
 /// Stream 4: the id of a string.
 const IDS: &[u8] =
@@ -34,6 +34,23 @@ const NEW_FRAMES: &[u8] =
 
 /// Stream 9: two frames in the older format.
 const OLD_FRAMES: &[u8] = b"\x01\0\0\0\0\0\0\0\0\0\0\0\0\0\0\0\x02\0\0\0\0\0\0\0\0\0\0\0\0\0\0\0";
+
+/// Streams 10 to 12 of a file with symbols: a hash table of globals and the stream of publics, which
+/// have none, and a record.
+const GLOBALS: &[u8] = b"\xff\xff\xff\xff\x1a\x09\x2f\xf1\0\0\0\0\0\0\0\0";
+const PUBLICS: &[u8] =
+    b"\x10\0\0\0\0\0\0\0\0\0\0\0\0\0\0\0\0\0\0\0\0\0\0\0\0\0\0\0\xff\xff\xff\xff\x1a\x09\x2f\xf1\0\0\0\0\0\0\0\0";
+const SYMBOLS: &[u8] = b"\x02\0\x06\0";
+
+/// The bytes of the file with which stream 3 gives the streams of symbols their numbers.
+const SYMBOL_NUMBERS: &[(usize, u8)] = &[
+    (0xe0c, 10),
+    (0xe0d, 0),
+    (0xe10, 11),
+    (0xe11, 0),
+    (0xe14, 12),
+    (0xe15, 0),
+];
 
 /// Offsets in the file, the byte that is written there, and the first part that then has an error.
 const DAMAGES: &[(usize, u8, Part)] = &[
@@ -187,10 +204,31 @@ fn every_one(rt: HostRuntime) {
     assert!(rt; errors_in(&rt, rt.alloc(), &file, Extent::All) == 3);
 }
 
-/// Whether a validation of the small file whose view number `n` fails returns the error of the
-/// source. It makes fewer views than `n` if it finds no error instead.
-fn is_failure_told(rt: &impl Abort, alloc: Global, n: u64) -> bool {
-    let source = Failing::new(file(rt, alloc), n);
+/// Returns the small file with three streams behind it, to which stream 3 does not lead yet.
+fn file_with_streams(rt: &impl Abort, alloc: Global) -> Vec<u8> {
+    let streams = [
+        Some(b"".as_slice()),
+        Some(INFORMATION),
+        Some(TYPES),
+        Some(DEBUG),
+        Some(IDS),
+        Some(NAMES),
+        Some([0; 40].as_slice()),
+        Some(OMAP),
+        Some(NEW_FRAMES),
+        Some(OLD_FRAMES),
+        Some(GLOBALS),
+        Some(PUBLICS),
+        Some(SYMBOLS),
+    ];
+    file_of(alloc, &streams).expect(rt, "memory")
+}
+
+/// Whether a validation of a whole file whose view number `n` fails returns the error of the source.
+/// It makes fewer views than `n` if it finds no error instead.
+fn is_failure_told(rt: &impl Abort, alloc: Global, file: &[u8], n: u64) -> bool {
+    let bytes = Vec::from_slice(alloc, file).expect(rt, "memory");
+    let source = Failing::new(bytes, n);
     match validate(alloc, source, Extent::All) {
         Ok(findings) => {
             assert!(rt; error_count(&findings) == 0, "{n}");
@@ -203,15 +241,32 @@ fn is_failure_told(rt: &impl Abort, alloc: Global, n: u64) -> bool {
     }
 }
 
+/// Returns how many views of a whole file are made.
+fn view_count(rt: &impl Abort, alloc: Global, file: &[u8]) -> u64 {
+    let mut views = 0;
+    for n in 1..1000 {
+        if is_failure_told(rt, alloc, file, n) {
+            views = n;
+        }
+    }
+    views
+}
+
 /// Each view of the source fails in turn. The header, the directory and the bytes of nine streams
 /// are viewed, and the size of the file is looked for.
 #[test]
 fn failing_views(rt: HostRuntime) {
-    let mut views = 0;
-    for n in 1..1000 {
-        if is_failure_told(&rt, rt.alloc(), n) {
-            views = n;
-        }
-    }
+    let views = view_count(&rt, rt.alloc(), &file(&rt, rt.alloc()));
     assert!(rt; views > 100, "{views}");
+}
+
+/// What is inconsistent in each stream of symbols is found in one view of its page, and in no
+/// further view of stream 3.
+#[test]
+fn symbols_viewed_once(rt: HostRuntime) {
+    let unread = file_with_streams(&rt, rt.alloc());
+    let read = with_bytes(file_with_streams(&rt, rt.alloc()), SYMBOL_NUMBERS);
+    assert!(rt; errors_in(&rt, rt.alloc(), &read, Extent::All) == 0);
+    let views = view_count(&rt, rt.alloc(), &read);
+    assert!(rt; views.saturating_sub(view_count(&rt, rt.alloc(), &unread)) == 3, "{views}");
 }

@@ -1,0 +1,178 @@
+//! What is inconsistent in stream 3, and in the streams of symbols to which it leads.
+
+ghost use Rattle.std.specs.Prelude.{◌≡◌, ◌<◌, map, Ok};
+ghost use Rattle.pdb_base.specs.Answer.{Answers};
+ghost use Rattle.pdb_consistency.specs.Mismatch.{asked_of};
+ghost use Rattle.pdb_msf.specs.Source.{ReadsSource};
+ghost use Rattle.pdb_validation.specs.Finding.{finding_view};
+ghost use Rattle.pdb_validation.specs.Relations.{debug_relations, in_debug_stream, in_symbol_streams};
+ghost use Rattle.pdb_validation.specs.Relations.{roles_in_stream, symbol_index, symbol_mismatches, symbol_relations};
+ghost use Rattle.pdb_validation.specs.Relations.{symbols_in, with_relations};
+
+use crate::finding::{Finding, Part};
+use crate::read::read;
+use crate::relations::add_mismatches;
+use crate::roles::DEBUG_STREAM;
+use pdb_base::{Result, Stream, StreamIndex};
+use pdb_consistency::{
+    Extent, Mismatch, check_debug_header, check_globals, check_modules, check_publics, check_roles,
+    check_symbols,
+};
+use pdb_file::{DBIExtraStreams, DBIHeader};
+use pdb_msf::{CountedSource, Layout, Source};
+use std::alloc::Global;
+
+/// A stream of symbols.
+#[derive(Clone, Copy)]
+enum SymbolStream {
+    /// The one by which globals are found.
+    Globals,
+    /// The one by which publics are found.
+    Publics,
+    /// The one with the records of both.
+    Records,
+}
+
+impl SymbolStream {
+    /// Returns the index of the stream.
+    fn index(self, header: &DBIHeader) -> StreamIndex
+        ensures { result.0 ≡ symbol_index self header.now }
+    {
+        match self {
+            SymbolStream::Globals => header.gs_symbols_stream,
+            SymbolStream::Publics => header.ps_symbols_stream,
+            SymbolStream::Records => header.symbol_records_stream,
+        }
+    }
+
+    /// Returns what is inconsistent in the bytes of the stream, which has a number.
+    fn check(
+        self,
+        alloc: Global,
+        number: u32,
+        stream: &Stream,
+        extent: Extent,
+    ) -> Result<Vec<Mismatch>>
+        ensures { Answers (λ mismatches. mismatches.items) result
+            (Ok (asked_of extent (symbol_mismatches self number stream.now))) }
+    {
+        match self {
+            SymbolStream::Globals => check_globals(alloc, number, stream.as_slice(), extent),
+            SymbolStream::Publics => check_publics(alloc, number, stream.as_slice(), extent),
+            SymbolStream::Records => check_symbols(alloc, number, stream.as_slice(), extent),
+        }
+    }
+}
+
+/// Returns what is inconsistent in a stream of symbols, if it is there.
+#[tactic(auto, using(crate::proofs::RelationLemmas::nothing_asked))]
+fn symbols_in<S: Source>(
+    alloc: Global,
+    layout: &Layout,
+    source: &mut CountedSource<S>,
+    symbols: SymbolStream,
+    header: &DBIHeader,
+    extent: Extent,
+) -> Result<Vec<Mismatch>>
+    ensures { ReadsSource (S.state source.old.source) (S.state source.new.source)
+        (λ mismatches. mismatches.items) result (λ file. Ok (asked_of extent
+        (symbols_in layout.now file symbols header.now))) }
+{
+    let Some(number) = symbols.index(header).msf_number() else {
+        return Ok(Vec::new(alloc));
+    };
+    match read(alloc, layout, source, number)? {
+        Ok(stream) => symbols.check(alloc, number, &stream, extent),
+        Err(_) => Ok(Vec::new(alloc)),
+    }
+}
+
+/// Returns which of the streams that have roles in these bytes of stream 3 are missing.
+#[tactic(auto, unfolding(crate::specs::Relations::roles_in_stream), using(crate::proofs::RelationLemmas::nothing_asked))]
+fn roles_in_stream(
+    alloc: Global,
+    layout: &Layout,
+    stream: &Stream,
+    extent: Extent,
+) -> Result<Vec<Mismatch>>
+    ensures { Answers (λ mismatches. mismatches.items) result
+        (Ok (asked_of extent (roles_in_stream layout.now stream.now))) }
+{
+    let Ok(header) = DBIHeader::parse(stream) else {
+        return Ok(Vec::new(alloc));
+    };
+    match DBIExtraStreams::new(stream) {
+        Ok(roles) => check_roles(alloc, layout, &header, &roles, extent),
+        Err(_) => Ok(Vec::new(alloc)),
+    }
+}
+
+/// Adds what is inconsistent in these bytes of stream 3: in the header, the roles and the modules.
+#[tactic(auto, unfolding(crate::specs::Relations::in_debug_stream))]
+fn add_in_debug_stream(
+    alloc: Global,
+    layout: &Layout,
+    stream: &Stream,
+    extent: Extent,
+    findings: &mut Vec<Finding>,
+) -> Result<()>
+    requires { 0 < layout.now.head.geometry.page_size }
+    ensures { Answers (λ done. map finding_view findings.new.items) result
+        (Ok (with_relations extent layout.now (in_debug_stream layout.now (Ok stream.now))
+        (map finding_view findings.old.items))) }
+{
+    let header = check_debug_header(alloc, stream, extent)?;
+    add_mismatches(alloc, layout, Part::Roles, &header, findings)?;
+    let roles = roles_in_stream(alloc, layout, stream, extent)?;
+    add_mismatches(alloc, layout, Part::Roles, &roles, findings)?;
+    let modules = check_modules(alloc, layout, stream, extent)?;
+    add_mismatches(alloc, layout, Part::Roles, &modules, findings)
+}
+
+/// Adds what is inconsistent in the streams of symbols that a header of stream 3 gives.
+#[tactic(auto, unfolding(crate::specs::Relations::in_symbol_streams))]
+fn add_in_symbol_streams<S: Source>(
+    alloc: Global,
+    layout: &Layout,
+    source: &mut CountedSource<S>,
+    header: &DBIHeader,
+    extent: Extent,
+    findings: &mut Vec<Finding>,
+) -> Result<()>
+    requires { 0 < layout.now.head.geometry.page_size }
+    ensures { ReadsSource (S.state source.old.source) (S.state source.new.source)
+        (λ done. map finding_view findings.new.items) result (λ file. Ok (with_relations extent layout.now
+        (in_symbol_streams layout.now file (Ok header.now)) (map finding_view findings.old.items))) }
+{
+    let globals = symbols_in(alloc, layout, source, SymbolStream::Globals, header, extent)?;
+    add_mismatches(alloc, layout, Part::Roles, &globals, findings)?;
+    let publics = symbols_in(alloc, layout, source, SymbolStream::Publics, header, extent)?;
+    add_mismatches(alloc, layout, Part::Roles, &publics, findings)?;
+    let records = symbols_in(alloc, layout, source, SymbolStream::Records, header, extent)?;
+    add_mismatches(alloc, layout, Part::Roles, &records, findings)
+}
+
+/// Adds what is inconsistent in stream 3, which is read once, and in the streams of symbols.
+#[tactic(auto, unfolding(crate::specs::Relations::in_debug_stream, crate::specs::Relations::in_symbol_streams), using(crate::proofs::RelationLemmas::nothing_related))]
+pub(crate) fn add_debug_relations<S: Source>(
+    alloc: Global,
+    layout: &Layout,
+    source: &mut CountedSource<S>,
+    extent: Extent,
+    findings: &mut Vec<Finding>,
+) -> Result<()>
+    requires { 0 < layout.now.head.geometry.page_size }
+    ensures { ReadsSource (S.state source.old.source) (S.state source.new.source)
+        (λ done. map finding_view findings.new.items) result (λ file. Ok (with_relations extent layout.now
+        (symbol_relations layout.now file) (with_relations extent layout.now (debug_relations layout.now file)
+        (map finding_view findings.old.items)))) }
+{
+    let Ok(stream) = read(alloc, layout, source, DEBUG_STREAM)? else {
+        return Ok(());
+    };
+    add_in_debug_stream(alloc, layout, &stream, extent, findings)?;
+    match DBIHeader::parse(&stream) {
+        Ok(header) => add_in_symbol_streams(alloc, layout, source, &header, extent, findings),
+        Err(_) => Ok(()),
+    }
+}
