@@ -109,7 +109,8 @@ def check_misused(tally, dumper, words):
 
 
 def objects_of(tally, dumper, words):
-    """The objects that pdbdump writes as lines of JSON, none where a line is something else."""
+    """The objects that pdbdump writes as lines of JSON, none where a line is something else. The status has to be 1 if one
+    of them says that a record can't be read."""
     came = call(dumper, words)
     what = f"{dumper.name} {' '.join(map(str, words))}"
     try:
@@ -117,5 +118,6 @@ def objects_of(tally, dumper, words):
     except ValueError as error:
         tally.check(False, f"{what} shows a line that is no JSON: {error}")
         return []
-    tally.check(came.status == 0 and not came.err, f"{what}: status {came.status}, {came.err[:300]!r}")
+    wanted = 1 if any("error" in one for one in found) else 0
+    tally.check(came.status == wanted and not came.err, f"{what}: status {came.status}, {came.err[:300]!r}")
     return found

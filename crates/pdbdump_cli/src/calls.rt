@@ -34,10 +34,9 @@ pub enum Misuse<'w> {
 }
 
 /// The options whose values are numbers, and what help calls these.
-const NUMBERS: [(&str, &str); 13] = [
+const NUMBERS: [(&str, &str); 12] = [
     ("stream", "S"),
     ("index", "I"),
-    ("uses", "I"),
     ("old", "S"),
     ("new", "S"),
     ("sections", "S"),

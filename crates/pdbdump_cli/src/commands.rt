@@ -151,9 +151,10 @@ pub(crate) const TYPES: Description = Description {
     about: "List the types",
     details: "\
 Each type of the table, which is in stream 2 by default: its index, its kind and its name, and what it is made of.
-With --index a line for each field, and the fields of its list. With a NAME, an option or several of them only the
-types of which all holds. A kind is that of a record, such as LF_ENUM, and --kind may be given several times.
-The exit status is 1 if no type has a NAME.",
+With --index a line for each field, and the fields of its list. Only types are listed that have one of the NAMEs, if
+there are some, one of the kinds, such as LF_ENUM, and all else that options ask for. With --uses the types that refer
+to a TYPE, or to a forward reference that it defines; of a name, with * and ?, to each type that has it.
+The exit status is 1 if one of the NAMEs has no type, or a record can't be read.",
     flags: &[
         STREAM,
         INDEX,
@@ -165,8 +166,8 @@ The exit status is 1 if no type has a NAME.",
         flag!("no-forward", "Leave out forward references"),
         flag!(
             "uses",
-            Value::Number("I"),
-            "Show only types that refer to the type of this index"
+            Value::Text("TYPE"),
+            "Show only types that refer to this one, by its index or name"
         ),
         IGNORE_CASE,
         JSON,
@@ -183,9 +184,9 @@ pub(crate) const IDS: Description = Description {
     about: "List the ids: functions, source files and the like",
     details: "\
 Each id of the table, which is in stream 4 by default: its index, its kind and its name, and what it refers to.
-With --index a line for each field. With a NAME, an option or several of them only the ids of which all holds. A kind
-is that of a record, such as LF_FUNC_ID, and --kind may be given several times.
-The exit status is 1 if no id has a NAME.",
+With --index a line for each field. Only ids are listed that have one of the NAMEs, if there are some, one of the
+kinds, such as LF_FUNC_ID, and all else that options ask for.
+The exit status is 1 if one of the NAMEs has no id, or a record can't be read.",
     flags: &[
         STREAM,
         INDEX,
