@@ -371,8 +371,8 @@ pub(crate) const EXTRACT: Description = Description {
     name: "extract",
     about: "Write the bytes of a stream to standard output",
     details: "\
-A stream is given by its number, by a role that `summary` shows (types, ids, omap_from_src; not those of symbols and
-hashes), or by its name (/names, srcsrv).",
+A stream is given by its number, by a role that `summary` shows (types, omap_from_src, globals), or by its name
+(/names, srcsrv).",
     flags: &[
         flag!("skip", Value::Number("N"), "Leave out the first N bytes"),
         flag!("take", Value::Number("N"), "Write at most N bytes"),

@@ -9,6 +9,7 @@ mod extraction;
 mod file_tables;
 mod frame_programs;
 mod frames;
+mod header_roles;
 mod headers;
 mod hex_dump;
 mod id_listing;
