@@ -54,6 +54,12 @@ def line_of(name, code, text, is_json):
     return f"{told if is_json else f'pdbdump: {name}: {text}'}\n".encode()
 
 
+# What pdbdump says of the errors that pdbq tells by their names.
+SENTENCES = {
+    "UnexpectedEof": "data ends in the middle of a record or a table",
+    "TypeTooShort": "the length of a record leaves no room for its kind",
+    "StreamNameNotFound": "no stream has the name or the role that is looked for",
+}
 UNRECOGNIZED = refused("UnrecognizedFileFormat")
 NO_OMAP = refused("OMAP stream has an invalid length or alignment for its records")
 NO_NAMES = refused("Unimplemented PDB feature: invalid string table signature")
