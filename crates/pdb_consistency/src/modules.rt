@@ -97,7 +97,12 @@ fn add_entries(
         };
         match entry_at(left) {
             Ok((entry, behind)) => {
-                add_at(mismatches, extent, place, entry_inconsistency(layout, entry))?;
+                add_at(
+                    mismatches,
+                    extent,
+                    place,
+                    entry_inconsistency(layout, entry),
+                )?;
                 byte += entry.len() as u64;
                 left = behind;
             }

@@ -81,7 +81,8 @@ fn words_before(what: Inconsistency) -> &'static str
         Inconsistency::ModuleCut => "the entry of the module ends behind the list of modules",
         Inconsistency::ModuleSizes(_) => "a module takes more bytes than there are in stream ",
         Inconsistency::SymbolHashVersion(_) => "no hash table of symbols has signature or version ",
-        Inconsistency::SymbolHashSizes => "the hash table of symbols does not have the size it says",
+        Inconsistency::SymbolHashSizes =>
+            "the hash table of symbols does not have the size it says",
         Inconsistency::PublicSizes => "the parts of the publics do not add up to their stream",
         Inconsistency::SymbolCut => "the record of the symbol ends behind its stream",
     }
