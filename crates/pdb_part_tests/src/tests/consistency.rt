@@ -162,7 +162,12 @@ fn page_mismatches(rt: &impl Abort, alloc: Global, file: &[u8], extent: Extent) 
 }
 
 /// Returns what is inconsistent in the modules of stream 3, in the file.
-fn module_mismatches(rt: &impl Abort, alloc: Global, bytes: &[u8], extent: Extent) -> Vec<Mismatch> {
+fn module_mismatches(
+    rt: &impl Abort,
+    alloc: Global,
+    bytes: &[u8],
+    extent: Extent,
+) -> Vec<Mismatch> {
     let mut source = CountedSource::new(file(rt, alloc));
     let layout = Layout::read(alloc, &mut source).expect(rt, "a layout");
     let stream = stream(rt, alloc, bytes, &[]);
@@ -249,7 +254,9 @@ fn is_found(rt: &impl Abort, alloc: Global, row: &Damage) -> bool {
 
 #[test]
 fn damages(rt: HostRuntime) {
-    let all = [Pages, Records, Hashes, Buckets, Modules, Globals, Publics, Symbols];
+    let all = [
+        Pages, Records, Hashes, Buckets, Modules, Globals, Publics, Symbols,
+    ];
     for checked in all {
         assert!(rt; is_whole(&rt, rt.alloc(), checked));
     }

@@ -38,8 +38,10 @@ const OLD_FRAMES: &[u8] = b"\x01\0\0\0\0\0\0\0\0\0\0\0\0\0\0\0\x02\0\0\0\0\0\0\0
 /// Streams 10 to 12 of a file with symbols: a hash table of globals and the stream of publics, which
 /// have none, and a record.
 const GLOBALS: &[u8] = b"\xff\xff\xff\xff\x1a\x09\x2f\xf1\0\0\0\0\0\0\0\0";
+
 const PUBLICS: &[u8] =
     b"\x10\0\0\0\0\0\0\0\0\0\0\0\0\0\0\0\0\0\0\0\0\0\0\0\0\0\0\0\xff\xff\xff\xff\x1a\x09\x2f\xf1\0\0\0\0\0\0\0\0";
+
 const SYMBOLS: &[u8] = b"\x02\0\x06\0";
 
 /// The bytes of the file with which stream 3 gives the streams of symbols their numbers.
@@ -268,5 +270,8 @@ fn symbols_viewed_once(rt: HostRuntime) {
     let read = with_bytes(file_with_streams(&rt, rt.alloc()), SYMBOL_NUMBERS);
     assert!(rt; errors_in(&rt, rt.alloc(), &read, Extent::All) == 0);
     let views = view_count(&rt, rt.alloc(), &read);
-    assert!(rt; views.saturating_sub(view_count(&rt, rt.alloc(), &unread)) == 3, "{views}");
+    assert!(rt;
+        views.saturating_sub(view_count(&rt, rt.alloc(), &unread)) == 3,
+        "{views}"
+    );
 }
