@@ -23,9 +23,6 @@ use std::io::Write;
 /// How many bytes at the start of a file say which format it has.
 const FORMAT_SIZE: u64 = 42;
 
-/// What is reported of a file that is no program.
-const NO_IMAGE: &str = "not a program (PE)";
-
 /// What is written if the file is not the expected one.
 const UNEXPECTED: &[u8] = b"the file has another key than the expected one\n";
 
@@ -41,19 +38,6 @@ pub(crate) fn other_format(format: Format) -> Option<&'static str>
         Format::Image => Some("a program (PE), and not its program database"),
         Format::Unknown => Some("not a program database"),
     }
-}
-
-/// Returns what a file is that is no program though it should be one.
-///
-/// # Errors
-/// Fails if an allocation fails.
-pub(crate) fn no_image_text(alloc: Global, format: Format) -> Result<String, AllocError> {
-    let other = match format {
-        Format::Msf7 => "a program database",
-        Format::Image | Format::Unknown => return String::from_str(alloc, NO_IMAGE),
-        format => other_format(format).unwrap_or(""),
-    };
-    Ok(format!(in alloc; "{NO_IMAGE}, but {other}")?)
 }
 
 /// Reads what identifies a file.

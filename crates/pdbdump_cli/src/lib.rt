@@ -30,7 +30,6 @@ mod request;
 mod seen;
 mod selected;
 mod selection_calls;
-mod sentences;
 mod served;
 mod validated;
 

@@ -35,6 +35,44 @@ fn ids_number(stream: Option<u32>) -> u32
     stream.unwrap_or(ID_STREAM)
 }
 
+/// Lists the types of the table in a stream, or only the one of an index.
+fn list_types<S: Source + Drop, W: Write>(
+    alloc: Global,
+    file: PDB<S>,
+    number: u32,
+    index: Option<u32>,
+    form: Form,
+    out: &mut Output<W>,
+) -> Result<()>
+    ensures { WritesRead (Reads (S.state file.source) (λ bytes. stream_of bytes file.head number None))
+        (AreTypes form index) out.old out.new result }
+{
+    let stream = last_stream(alloc, file, number)?;
+    match index {
+        Some(index) => type_at(alloc, stream, number, index, form, out),
+        None => types(alloc, stream, number, form, out),
+    }
+}
+
+/// Lists the ids of the table in a stream, or only the one of an index.
+fn list_ids<S: Source + Drop, W: Write>(
+    alloc: Global,
+    file: PDB<S>,
+    number: u32,
+    index: Option<u32>,
+    form: Form,
+    out: &mut Output<W>,
+) -> Result<()>
+    ensures { WritesRead (Reads (S.state file.source) (λ bytes. stream_of bytes file.head number None))
+        (AreIds form index) out.old out.new result }
+{
+    let stream = last_stream(alloc, file, number)?;
+    match index {
+        Some(index) => id_at(alloc, stream, number, index, form, out),
+        None => ids(alloc, stream, number, form, out),
+    }
+}
+
 /// Returns that all was listed, unless a fault ended the listing.
 fn all_if_listed(listed: Result<()>) -> Result<bool>
     ensures { done_of result ≡ listed }
@@ -45,48 +83,38 @@ fn all_if_listed(listed: Result<()>) -> Result<bool>
     }
 }
 
-/// Lists the types of the table in a stream, or only the one of an index, and returns whether each
-/// could be parsed.
-fn list_types<S: Source + Drop, W: Write>(
+/// Writes the part of a file that a command lists. A summary has no such part.
+fn list_part<S: Source + Drop, W: Write>(
     alloc: Global,
     file: PDB<S>,
-    number: u32,
-    index: Option<u32>,
+    command: Command<'_, '_>,
     form: Form,
     out: &mut Output<W>,
-) -> Result<bool>
-    ensures { WritesRead (Reads (S.state file.source) (λ bytes. stream_of bytes file.head number None))
-        (AreTypes form index) out.old out.new (done_of result) }
+) -> Result<()>
+    ensures { DoesIn form command.entry (S.state file.source) file.head out.old out.new result }
 {
-    let stream = last_stream(alloc, file, number)?;
-    match index {
-        Some(index) => all_if_listed(type_at(alloc, stream, number, index, form, out)),
-        None => types(alloc, stream, number, form, out),
+    match command {
+        Command::Summary => Ok(()),
+        Command::Types { stream, index } => {
+            list_types(alloc, file, types_number(stream), index, form, out)
+        }
+        Command::Ids { stream, index } => {
+            list_ids(alloc, file, ids_number(stream), index, form, out)
+        }
+        Command::Names { stream } => list_names(alloc, file, stream, form, out),
+        Command::Sections { stream } => list_sections(alloc, file, stream, form, out),
+        Command::Omap { stream } => list_omap(alloc, file, stream, form, out),
+        Command::Frames => list_frames(alloc, file, form, out),
+        Command::FramesIn { old, new } => list_frames_in(alloc, file, old, new, form, out),
+        Command::BreakpadFrames => list_breakpad_frames(alloc, file, out),
+        Command::Map { addresses, streams } => list_map(alloc, file, addresses, streams, form, out),
+        Command::Extract(asked) => extract_opened(alloc, file, &asked, out),
+        Command::Dump(asked) => dump_opened(alloc, file, &asked, out),
     }
 }
 
-/// Lists the ids of the table in a stream, or only the one of an index, and returns whether each could
-/// be parsed.
-fn list_ids<S: Source + Drop, W: Write>(
-    alloc: Global,
-    file: PDB<S>,
-    number: u32,
-    index: Option<u32>,
-    form: Form,
-    out: &mut Output<W>,
-) -> Result<bool>
-    ensures { WritesRead (Reads (S.state file.source) (λ bytes. stream_of bytes file.head number None))
-        (AreIds form index) out.old out.new (done_of result) }
-{
-    let stream = last_stream(alloc, file, number)?;
-    match index {
-        Some(index) => all_if_listed(id_at(alloc, stream, number, index, form, out)),
-        None => ids(alloc, stream, number, form, out),
-    }
-}
-
-/// Writes what a command lists of a file of this size that was opened. Returns whether each part and
-/// each record that it lists could be read.
+/// Writes what a command lists of a file of this size that was opened. Returns whether each part
+/// could be read.
 fn list_opened<S: Source + Drop, W: Write>(
     alloc: Global,
     file: PDB<S>,
@@ -99,33 +127,13 @@ fn list_opened<S: Source + Drop, W: Write>(
 {
     match command {
         Command::Summary => list_summary(alloc, file, size, form, out),
-        Command::Types { stream, index } => {
-            list_types(alloc, file, types_number(stream), index, form, out)
-        }
-        Command::Ids { stream, index } => {
-            list_ids(alloc, file, ids_number(stream), index, form, out)
-        }
-        Command::Names { stream } => all_if_listed(list_names(alloc, file, stream, form, out)),
-        Command::Sections { stream } => all_if_listed(list_sections(
-            alloc, file, stream, form, out,
-        )),
-        Command::Omap { stream } => all_if_listed(list_omap(alloc, file, stream, form, out)),
-        Command::Frames => all_if_listed(list_frames(alloc, file, form, out)),
-        Command::FramesIn { old, new } => all_if_listed(list_frames_in(
-            alloc, file, old, new, form, out,
-        )),
-        Command::BreakpadFrames => all_if_listed(list_breakpad_frames(alloc, file, out)),
-        Command::Map { addresses, streams } => all_if_listed(list_map(
-            alloc, file, addresses, streams, form, out,
-        )),
-        Command::Extract(asked) => all_if_listed(extract_opened(alloc, file, &asked, out)),
-        Command::Dump(asked) => all_if_listed(dump_opened(alloc, file, &asked, out)),
+        other => all_if_listed(list_part(alloc, file, other, form, out)),
     }
 }
 
 /// Writes what a command lists of a file: a line for each record, or the bytes of a stream. Returns
-/// whether each part and each record that it lists could be read; for one that can't be, a line has
-/// the error.
+/// whether each part that it lists could be read; of one that can't, a summary has a line with the
+/// error.
 ///
 /// # Errors
 /// Fails with the errors of `PDB::open`, and then with those of the command, after the lines up to

@@ -6,7 +6,6 @@ use crate::asking::serve_questions;
 use crate::calls::{Misuse, check_call, diff_of, form_of, place_request, request_of, with_command};
 use crate::command::{Diff, Matching, Request};
 use crate::diffed::serve_diff;
-use crate::identified::no_image_text;
 use crate::image_identified::{image_in, image_text};
 use crate::input_file::{FileBytes, InputFile};
 use crate::laid_out::type_stream;
@@ -45,9 +44,6 @@ const TRY_HELP: &str = "For more information, try '--help'.\n";
 
 /// What is wrong with a number.
 const NO_NUMBER: &str = "no number from 0 to 4294967295, in decimal or in hexadecimal after 0x";
-
-/// What is wrong with a key.
-const NO_KEY: &str = "no key of 32 hexadecimal digits of the GUID and 1 to 8 of the age";
 
 /// A file that a process has opened.
 type ProcessFile<F> = InputFile<FileBytes<FileSource<SeekFile<F>>>>;
@@ -127,9 +123,8 @@ fn end_unparsed<P: Print + Eprint + AllocGlobal>(
 
 /// Returns the text of what is wrong with an argument that the parser took.
 fn misuse_text(alloc: Global, misuse: Misuse<'_>) -> Result<String> {
-    let (text, option, name, reason) = match misuse {
-        Misuse::NoNumber { text, option, name } => (text, option, name, NO_NUMBER),
-        Misuse::NoKey(text) => (text, Some("expect"), "KEY", NO_KEY),
+    let (text, option, name) = match misuse {
+        Misuse::NoNumber { text, option, name } => (text, option, name),
         Misuse::InputTwice => {
             return Ok(String::from_str(alloc, "standard input would be read twice")?);
         }
@@ -151,7 +146,7 @@ fn misuse_text(alloc: Global, misuse: Misuse<'_>) -> Result<String> {
         Some(option) => format!(in alloc; "--{option} <{name}>")?,
         None => format!(in alloc; "<{name}>")?,
     };
-    Ok(format!(in alloc; "invalid value '{shown}' for '{argument}': {reason}")?)
+    Ok(format!(in alloc; "invalid value '{shown}' for '{argument}': {NO_NUMBER}")?)
 }
 
 /// Reports what is wrong with an argument that the parser took.
@@ -335,16 +330,6 @@ fn compare_files<P: Files + Input + Print + Eprint + AllocGlobal>(
     Ok(status)
 }
 
-/// Reports what a file is that should be an image.
-fn report_no_image<P: Eprint + AllocGlobal>(process: &P, serving: &Serving<'_>) {
-    let alloc = process.alloc();
-    let line = match no_image_text(alloc, serving.seen.format()) {
-        Ok(text) => error_line(alloc, &serving.subject, "format", text.as_bytes()),
-        Err(error) => Err(error),
-    };
-    write_lines(process, line);
-}
-
 /// Returns what the image at a path, or in standard input if the path is `-`, says of its database,
 /// or reports why it names none.
 fn image_or_report<P: Files + Input + Eprint + AllocGlobal>(
@@ -355,11 +340,7 @@ fn image_or_report<P: Files + Input + Eprint + AllocGlobal>(
     let alloc = process.alloc();
     let mut serving = Serving::new(alloc, Some(path), form);
     let read = match open_file(process, path, &mut serving.seen) {
-        Ok(file) if serving.seen.is_image() => image_in(alloc, file.source),
-        Ok(_) => {
-            report_no_image(process, &serving);
-            return None;
-        }
+        Ok(file) => image_in(alloc, file.source),
         Err(fault) => Err(fault),
     };
     match read {

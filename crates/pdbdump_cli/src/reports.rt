@@ -5,7 +5,6 @@ ghost use Rattle.pdbdump_cli.specs.Reported.{IsAbout, front_of, named_front};
 
 use crate::identified::other_format;
 use crate::seen::Seen;
-use crate::sentences::clear_report;
 use bstr::ByteSlice;
 use pdb_base::IO_ERROR_FRONT;
 use pdb_output::Output;
@@ -215,10 +214,7 @@ impl Reported<'_> {
         }
         match self.other_format(report) {
             Some(format) => error_line(alloc, &self.subject, "format", format.as_bytes()),
-            None => {
-                let text = clear_report(alloc, report)?;
-                error_line(alloc, &self.subject, "content", &text)
-            }
+            None => error_line(alloc, &self.subject, "content", report),
         }
     }
 

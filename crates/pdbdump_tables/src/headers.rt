@@ -7,10 +7,10 @@ use pdb_tpi::{Header, TypeInformation};
 use std::alloc::{AllocError, Global};
 
 /// The number of the stream of debug information.
-pub(crate) const DEBUG_STREAM: u32 = 3;
+const DEBUG_STREAM: u32 = 3;
 
 /// How many bytes the header of that stream takes.
-pub(crate) const DEBUG_HEADER_SIZE: usize = 64;
+const DEBUG_HEADER_SIZE: usize = 64;
 
 /// How many bytes the header of a table takes at most.
 const TABLE_HEADER_SIZE: usize = 1024;

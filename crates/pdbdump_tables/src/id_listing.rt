@@ -1,7 +1,6 @@
 //! Tables of ids.
 
 ghost use Rattle.std.specs.Prelude.{Ok};
-ghost use Rattle.pdb_output.specs.Output.{done_of};
 ghost use Rattle.pdbdump_rows.specs.Line.{EndsRow, indexed};
 ghost use Rattle.pdbdump_rows.specs.Lines.{full_text};
 ghost use Rattle.pdbdump_tables.specs.Records.{id_shown, id_shown_in};
@@ -17,17 +16,16 @@ use pdbdump_rows::{Form, Line, LineResult, show_id};
 use std::alloc::Global;
 use std::io::Write;
 
-/// Writes a line for each id of a table, and returns whether each could be parsed.
+/// Writes a line for each id of a table.
 fn list_ids<W: Write>(
     alloc: Global,
     table: &IdInformation,
     stream: u32,
     form: Form,
     out: &mut Output<W>,
-) -> Result<bool>
-    ensures { IsWalked form table.now out.old out.new (done_of result) }
+) -> Result<()>
+    ensures { IsWalked form table.now out.old out.new result }
 {
-    let mut is_whole = true;
     let mut items = table.iter();
     let mut line = Line::new(alloc);
     loop {
@@ -37,19 +35,16 @@ fn list_ids<W: Write>(
             byte: byte as u32,
         };
         let Some(item) = items.next()? else {
-            return Ok(is_whole);
+            return Ok(());
         };
-        let parsed = item.parse(alloc);
-        is_whole &= parsed.is_ok();
-        make_id(alloc, form, &item, &parsed, place, &mut line)?;
+        make_id(alloc, form, &item, place, &mut line)?;
         out.write(line.as_bytes())?;
     }
 }
 
 /// Writes a line for each id of the table in a stream, in the order of the table. A record that
 /// can't be parsed has a line with the error, the number of the stream and the byte at which the
-/// record begins. Returns whether each could be parsed. At most one parsed record and its line are
-/// held in memory.
+/// record begins. At most one parsed record and its line are held in memory.
 ///
 /// # Errors
 /// Fails as `IdInformation::parse` does, before anything is written; with the error at which the
@@ -62,8 +57,8 @@ pub fn ids<W: Write>(
     number: u32,
     form: Form,
     out: &mut Output<W>,
-) -> Result<bool>
-    ensures { IsTableListed form stream out.old out.new (done_of result) }
+) -> Result<()>
+    ensures { IsTableListed form stream out.old out.new result }
 {
     let table = IdInformation::parse(stream)?;
     list_ids(alloc, &table, number, form, out)

@@ -46,11 +46,10 @@ pub(crate) fn show_parsed_type(
     }
 }
 
-/// Adds the fields of the type of an item that was parsed, or of why it can't be.
+/// Adds the fields of the type of an item, or of why it can't be parsed.
 fn show_type_item(
     alloc: Global,
     item: &Item<'_, TypeIndex>,
-    parsed: &Result<TypeData<'_>>,
     place: ItemPlace,
     line: &mut Line,
 ) -> LineResult
@@ -61,10 +60,11 @@ fn show_type_item(
         leaf: item.raw_kind(),
         place,
     };
-    show_parsed_type(alloc, head, parsed, line)
+    let parsed = item.parse(alloc);
+    show_parsed_type(alloc, head, &parsed, line)
 }
 
-/// Makes the line of a type whose record was parsed.
+/// Makes the line of a type.
 ///
 /// # Errors
 /// Fails if an allocation fails.
@@ -73,14 +73,13 @@ pub(crate) fn make_type(
     alloc: Global,
     form: Form,
     item: &Item<'_, TypeIndex>,
-    parsed: &Result<TypeData<'_>>,
     place: ItemPlace,
     line: &mut Line,
 ) -> LineResult
     ensures { EndsRow (row_text form) (indexed (index_of item.now).0) line.new result }
 {
     line.begin(form);
-    let added = show_type_item(alloc, item, parsed, place, line);
+    let added = show_type_item(alloc, item, place, line);
     line.finish(added)
 }
 
@@ -104,11 +103,10 @@ pub(crate) fn show_parsed_id(
     }
 }
 
-/// Adds the fields of the id of an item that was parsed, or of why it can't be.
+/// Adds the fields of the id of an item, or of why it can't be parsed.
 fn show_id_item(
     alloc: Global,
     item: &Item<'_, IdIndex>,
-    parsed: &Result<IdData<'_>>,
     place: ItemPlace,
     line: &mut Line,
 ) -> LineResult
@@ -119,10 +117,11 @@ fn show_id_item(
         leaf: item.raw_kind(),
         place,
     };
-    show_parsed_id(alloc, head, parsed, line)
+    let parsed = item.parse(alloc);
+    show_parsed_id(alloc, head, &parsed, line)
 }
 
-/// Makes the line of an id whose record was parsed.
+/// Makes the line of an id.
 ///
 /// # Errors
 /// Fails if an allocation fails.
@@ -131,13 +130,12 @@ pub(crate) fn make_id(
     alloc: Global,
     form: Form,
     item: &Item<'_, IdIndex>,
-    parsed: &Result<IdData<'_>>,
     place: ItemPlace,
     line: &mut Line,
 ) -> LineResult
     ensures { EndsRow (row_text form) (indexed (index_of item.now).0) line.new result }
 {
     line.begin(form);
-    let added = show_id_item(alloc, item, parsed, place, line);
+    let added = show_id_item(alloc, item, place, line);
     line.finish(added)
 }

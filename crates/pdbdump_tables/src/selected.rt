@@ -1,20 +1,18 @@
 //! Lists of some records of a table.
 
-ghost use Rattle.pdb_output.specs.Output.{done_of};
 ghost use Rattle.pdbdump_rows.specs.Line.{IsRow, WritesWhat, indexed};
 ghost use Rattle.pdbdump_rows.specs.Lines.{row_text};
 ghost use Rattle.pdbdump_tables.specs.Listing.{ListsLines};
 
 use crate::item_line::{RecordHead, show_parsed_id, show_parsed_type};
+use crate::name_search::NameSearch;
 use crate::refused_record::ItemPlace;
-use crate::search::Search;
 use crate::selection::Selection;
-use pdb_base::{Error, FallibleIterator, Stream};
+use pdb_base::{Error, FallibleIterator, Stream, TypeIndex};
 use pdb_output::Output;
 use pdb_tpi::{IdInformation, TypeInformation};
 use pdb_values::{IdData, TypeData};
 use pdbdump_rows::{Form, Line, write_line};
-use pdbdump_types::learn_table;
 use std::alloc::{AllocError, Global};
 use std::io::Write;
 
@@ -41,45 +39,44 @@ fn is_type_listed(
     leaf: u16,
     parsed: &Result<TypeData<'_>, Error>,
     selection: &Selection<'_, '_>,
-    search: &mut Search<'_, '_>,
+    search: &mut NameSearch<'_, '_>,
+    references: &mut Vec<TypeIndex>,
 ) -> Result<bool, AllocError> {
     match parsed {
-        Ok(value) => selection.has_type(alloc, leaf, value, search),
+        Ok(value) => selection.has_type(alloc, leaf, value, search, references),
         Err(Error::OutOfMemory) => Err(AllocError),
         Err(_) => Ok(selection.has_unread(leaf)),
     }
 }
 
-/// Writes a line for each type of a table that is selected, and returns whether each of these could be
-/// parsed.
+/// Writes a line for each type of a table that is selected.
 fn list_types<W: Write>(
     alloc: Global,
     table: &TypeInformation,
     stream: u32,
     selection: &Selection<'_, '_>,
-    search: &mut Search<'_, '_>,
+    search: &mut NameSearch<'_, '_>,
     form: Form,
     out: &mut Output<W>,
-) -> Result<bool, Error>
-    ensures { ListsLines form out.old out.new (done_of result) }
+) -> Result<(), Error>
+    ensures { ListsLines form out.old out.new result }
 {
-    let mut is_whole = true;
     let mut items = table.iter();
     let mut line = Line::new(alloc);
+    let mut references = Vec::new(alloc);
     'records: loop {
         let (_, byte) = items.place();
         let Some(item) = items.next()? else {
-            return Ok(is_whole);
+            return Ok(());
         };
         let leaf = item.raw_kind();
         if selection.leaves_out_kind(leaf) {
             continue 'records;
         }
         let parsed = item.parse(alloc);
-        if !is_type_listed(alloc, leaf, &parsed, selection, search)? {
+        if !is_type_listed(alloc, leaf, &parsed, selection, search, &mut references)? {
             continue 'records;
         }
-        is_whole &= parsed.is_ok();
         let head = RecordHead {
             index: item.index().0,
             leaf,
@@ -93,9 +90,8 @@ fn list_types<W: Write>(
 }
 
 /// Writes a line for each type of the table in a stream that is selected, in the order of the table,
-/// as `types` does, and returns whether each of these could be parsed. The names that were found are
-/// noted in the search, which begins with those of the selection. A name is found if a type has it,
-/// also if that isn't listed for another reason.
+/// as `types` does. The names that were found are noted in the search, which begins with those of
+/// the selection. A name is found if a type has it, also if that isn't listed for another reason.
 ///
 /// # Errors
 /// Fails as `types` does.
@@ -104,15 +100,14 @@ pub fn select_types<W: Write>(
     stream: Stream,
     number: u32,
     selection: &Selection<'_, '_>,
-    search: &mut Search<'_, '_>,
+    search: &mut NameSearch<'_, '_>,
     form: Form,
     out: &mut Output<W>,
-) -> Result<bool, Error>
-    ensures { ListsLines form out.old out.new (done_of result) }
+) -> Result<(), Error>
+    ensures { ListsLines form out.old out.new result }
 {
-    let types = learn_table(alloc, stream)?;
-    search.find_used(alloc, &types, selection)?;
-    list_types(alloc, types.items(), number, selection, search, form, out)
+    let table = TypeInformation::parse(stream)?;
+    list_types(alloc, &table, number, selection, search, form, out)
 }
 
 /// Writes the line of the id of a record.
@@ -138,7 +133,7 @@ fn is_id_listed(
     leaf: u16,
     parsed: &Result<IdData<'_>, Error>,
     selection: &Selection<'_, '_>,
-    search: &mut Search<'_, '_>,
+    search: &mut NameSearch<'_, '_>,
 ) -> Result<bool, AllocError> {
     match parsed {
         Ok(value) => selection.has_id(alloc, leaf, value, search),
@@ -147,26 +142,24 @@ fn is_id_listed(
     }
 }
 
-/// Writes a line for each id of a table that is selected, and returns whether each of these could be
-/// parsed.
+/// Writes a line for each id of a table that is selected.
 fn list_ids<W: Write>(
     alloc: Global,
     table: &IdInformation,
     stream: u32,
     selection: &Selection<'_, '_>,
-    search: &mut Search<'_, '_>,
+    search: &mut NameSearch<'_, '_>,
     form: Form,
     out: &mut Output<W>,
-) -> Result<bool, Error>
-    ensures { ListsLines form out.old out.new (done_of result) }
+) -> Result<(), Error>
+    ensures { ListsLines form out.old out.new result }
 {
-    let mut is_whole = true;
     let mut items = table.iter();
     let mut line = Line::new(alloc);
     'records: loop {
         let (_, byte) = items.place();
         let Some(item) = items.next()? else {
-            return Ok(is_whole);
+            return Ok(());
         };
         let leaf = item.raw_kind();
         if selection.leaves_out_kind(leaf) {
@@ -176,7 +169,6 @@ fn list_ids<W: Write>(
         if !is_id_listed(alloc, leaf, &parsed, selection, search)? {
             continue 'records;
         }
-        is_whole &= parsed.is_ok();
         let head = RecordHead {
             index: item.index().0,
             leaf,
@@ -199,11 +191,11 @@ pub fn select_ids<W: Write>(
     stream: Stream,
     number: u32,
     selection: &Selection<'_, '_>,
-    search: &mut Search<'_, '_>,
+    search: &mut NameSearch<'_, '_>,
     form: Form,
     out: &mut Output<W>,
-) -> Result<bool, Error>
-    ensures { ListsLines form out.old out.new (done_of result) }
+) -> Result<(), Error>
+    ensures { ListsLines form out.old out.new result }
 {
     let table = IdInformation::parse(stream)?;
     list_ids(alloc, &table, number, selection, search, form, out)

@@ -3,7 +3,6 @@
 ghost use Rattle.std.specs.Prelude.{Ok, ◌≡◌, IfOk};
 ghost use Rattle.pdb_base.specs.Memory.{FailsOnlyForMemory};
 ghost use Rattle.pdb_values.specs.TypeView.{type_value};
-ghost use Rattle.pdb_output.specs.Output.{done_of};
 ghost use Rattle.pdbdump_rows.specs.Line.{EndsRow, indexed};
 ghost use Rattle.pdbdump_rows.specs.Lines.{full_text};
 ghost use Rattle.pdbdump_tables.specs.Records.{members_end, type_shown, type_shown_in};
@@ -21,17 +20,16 @@ use pdbdump_rows::{Form, Line, LineResult, show_type};
 use std::alloc::Global;
 use std::io::Write;
 
-/// Writes a line for each type of a table, and returns whether each could be parsed.
+/// Writes a line for each type of a table.
 fn list_types<W: Write>(
     alloc: Global,
     table: &TypeInformation,
     stream: u32,
     form: Form,
     out: &mut Output<W>,
-) -> Result<bool>
-    ensures { IsWalked form table.now out.old out.new (done_of result) }
+) -> Result<()>
+    ensures { IsWalked form table.now out.old out.new result }
 {
-    let mut is_whole = true;
     let mut items = table.iter();
     let mut line = Line::new(alloc);
     loop {
@@ -41,19 +39,16 @@ fn list_types<W: Write>(
             byte: byte as u32,
         };
         let Some(item) = items.next()? else {
-            return Ok(is_whole);
+            return Ok(());
         };
-        let parsed = item.parse(alloc);
-        is_whole &= parsed.is_ok();
-        make_type(alloc, form, &item, &parsed, place, &mut line)?;
+        make_type(alloc, form, &item, place, &mut line)?;
         out.write(line.as_bytes())?;
     }
 }
 
 /// Writes a line for each type of the table in a stream, in the order of the table. A record that
 /// can't be parsed has a line with the error, the number of the stream and the byte at which the
-/// record begins. Returns whether each could be parsed. At most one parsed record and its line are
-/// held in memory.
+/// record begins. At most one parsed record and its line are held in memory.
 ///
 /// # Errors
 /// Fails as `TypeInformation::parse` does, before anything is written; with the error at which the
@@ -66,8 +61,8 @@ pub fn types<W: Write>(
     number: u32,
     form: Form,
     out: &mut Output<W>,
-) -> Result<bool>
-    ensures { IsTableListed form stream out.old out.new (done_of result) }
+) -> Result<()>
+    ensures { IsTableListed form stream out.old out.new result }
 {
     let table = TypeInformation::parse(stream)?;
     list_types(alloc, &table, number, form, out)

@@ -4,12 +4,10 @@ use Rattle.pdbdump_tables.specs.Reading.{unread, written}
 use Rattle.pdbdump_cli.proofs.listed.list_ids.Goals as goal
 
 pub returns-in_err-stream : goal.returns-in_err-stream
-returns-in_err-stream g c =
-    rw (passed_on _ _ c.from_residual.ensures.1) (unread _ refl c.in_err-stream.ensures refl)
+returns-in_err-stream g c = unread _ (passed_on _ _ c.from_residual.ensures.1) c.in_err-stream.ensures refl
 
 pub returns-in-Some : goal.returns-in-Some
-returns-in-Some g c =
-    rw (c.in-Some.is, c.all_if_listed.ensures) (written _ c.in_ok-stream.ensures c.id_at.ensures)
+returns-in-Some g c = rw c.in-Some.is (written _ c.in_ok-stream.ensures c.id_at.ensures)
 
 pub returns-in-None : goal.returns-in-None
 returns-in-None g c = rw c.in-None.is (written _ c.in_ok-stream.ensures c.ids.ensures)

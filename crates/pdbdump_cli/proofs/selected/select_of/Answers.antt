@@ -7,9 +7,9 @@ use Rattle.pdbdump_cli.proofs.selected.select_of.Goals as goal
 pub returns-in_err-search-clause-lists : goal.returns-in_err-search-clause-lists
 returns-in_err-search-clause-lists g c = inl (lines_none _ _)
 
-pub returns-in_err-is_whole-clause-lists : goal.returns-in_err-is_whole-clause-lists
-returns-in_err-is_whole-clause-lists g c =
-    rw (passed_on _ _ c.from_residual-in_err-is_whole.ensures.1) c.in_err-is_whole.ensures
+pub returns-in_err-list_selected-clause-lists : goal.returns-in_err-list_selected-clause-lists
+returns-in_err-list_selected-clause-lists g c =
+    rw (passed_on _ _ c.from_residual-in_err-list_selected.ensures.1) c.in_err-list_selected.ensures
 
 pub returns-clause-lists : goal.returns-clause-lists
-returns-clause-lists g c = inl (lists_whole _ _ _ c.in_ok-is_whole.ensures)
+returns-clause-lists g c = inl (lists_whole _ _ _ c.in_ok-list_selected.ensures)

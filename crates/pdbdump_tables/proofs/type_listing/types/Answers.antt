@@ -5,8 +5,8 @@ use Rattle.pdbdump_tables.specs.Listed.{refused, walked}
 use Rattle.pdbdump_tables.proofs.type_listing.types.Goals as goal
 
 pub returns-in_err-table : goal.returns-in_err-table
-returns-in_err-table g c =
-    rw (passed_on _ _ c.from_residual.ensures.1) (refused _ refl c.in_err-table.ensures refl)
+returns-in_err-table g c = refused c.in_err-table.field-0.0
+    (passed_on _ _ c.from_residual.ensures.1) c.in_err-table.ensures refl
 
 pub returns : goal.returns
 returns g c = walked c.in_ok-table.table c.in_ok-table.ensures c.list_types.ensures

@@ -1,5 +1,0 @@
-use Rattle.pdb_tpi.specs.Steps.{items_left}
-use Rattle.pdbdump_tables.proofs.used_types.push_declared.Given as goal
-
-abbrev pub decreases-loop-items : goal.decreases-loop-items
-decreases-loop-items g l = items_left l.items
