@@ -151,9 +151,9 @@ pub(crate) const TYPES: Description = Description {
     about: "List the types",
     details: "\
 Each type of the table, which is in stream 2 by default: its index, its kind and its name, and what it is made of.
-With --index a line for each field, and the fields of its list. With a NAME, an option or several of them only the
-types of which all holds. A kind is that of a record, such as LF_ENUM, and --kind may be given several times.
-The exit status is 1 if no type has a NAME.",
+With --index a line for each field, and the fields of its list. Only types are listed that have one of the NAMEs, if
+there are some, one of the kinds, such as LF_ENUM, and all else that options ask for.
+The exit status is 1 if one of the NAMEs has no type.",
     flags: &[
         STREAM,
         INDEX,
@@ -183,9 +183,9 @@ pub(crate) const IDS: Description = Description {
     about: "List the ids: functions, source files and the like",
     details: "\
 Each id of the table, which is in stream 4 by default: its index, its kind and its name, and what it refers to.
-With --index a line for each field. With a NAME, an option or several of them only the ids of which all holds. A kind
-is that of a record, such as LF_FUNC_ID, and --kind may be given several times.
-The exit status is 1 if no id has a NAME.",
+With --index a line for each field. Only ids are listed that have one of the NAMEs, if there are some, one of the
+kinds, such as LF_FUNC_ID, and all else that options ask for.
+The exit status is 1 if one of the NAMEs has no id.",
     flags: &[
         STREAM,
         INDEX,
@@ -264,11 +264,11 @@ pub(crate) const MAP: Description = Description {
     name: "map",
     about: "Translate addresses by the address map",
     details: "\
-A line for each conversion, whether it finds anything or not: RVA as an address of the image as it is loaded, its
-place in a section there, the address in the original image from which it was moved, and the place of that; and then
-the same of RVA as an address of the original image. An address may also be a section and an offset in it, as 1:0x20; of
-several, each line says which it is about. With an option the map is made of the given streams in place of the file's
-own.",
+A line for each conversion, whether it finds anything or not. First RVA is an address of the image as it is loaded:
+the lines have its section and offset there, its address in the original image, and the section and offset of that.
+Then it is an address of the original image, and the lines lead to the image as it is loaded. An address may also be a
+section and an offset in it, as 1:0x20; of several, each line says which it is about. With an option the map is made of
+the given streams in place of the file's own.",
     flags: &[
         flag!(
             "sections",
@@ -323,8 +323,8 @@ pub(crate) const ID: Description = Description {
 The path of each file in a symbol store, NAME/KEY/NAME. The key is the GUID of the file and its age: that of the debug
 information, or that of stream 1 if the file has none. Formats: `key` is that path, `ssqp` the same in lower case,
 `breakpad` the line that a symbol file of Breakpad begins with, and `guid` the GUID alone, with hyphens. With --json
-all numbers by which the file is known and its features. Of a program or library (PE) it is the database that its debug
-directory names, by the last part of the path there. A file of another format is refused with the name of that.",
+all numbers by which the file is known and its features. For a program or library (PE) it is the path of the database
+that its debug directory names, without folders. A file of another format is refused, by name if the format is known.",
     flags: &[
         flag!(
             "format",
@@ -408,16 +408,16 @@ pub(crate) const VALIDATE: Description = Description {
     name: "validate",
     about: "Check whether files are whole",
     details: "\
-For each file a line that says whether it is whole, after a line for each part with a finding, for the first finding in
-it: whether it is an error or a warning, its code, what is wrong, the number of the stream, the index and the byte of
-the record, and the byte of the file. A file is whole if there is no error in any part that this program reads: the
-header, the directory, the sizes and the bytes of all streams, the names, the roles, each record of both tables of a
-kind that is read, the section headers, the OMAP tables and the frames. Modules and symbols are not read.
+For each part with a finding a line about the first one: error or warning, its code, what is wrong, the number of the
+stream, the index and the offset of the record, and the offset in the file; then a line that says whether the file is
+whole. It is whole if there is no error in any part that this program reads: the header, the directory, the sizes and
+the bytes of all streams, the names, the roles, each type and id record of a kind that is read, the section headers, the
+OMAP tables and the frames. Of modules and symbols only the sizes are read.
 The exit status is 0 if all files are whole.",
     flags: &[
         flag!("all", "Show every finding of each part"),
         flag!("strict", "End with status 1 for a warning too"),
-        flag!("quiet", "Write nothing"),
+        flag!("quiet", "Write nothing to standard output"),
         JSON,
     ],
     operands: &[FILES],
@@ -428,12 +428,14 @@ pub(crate) const LAYOUT: Description = Description {
     name: "layout",
     about: "Show where the members of classes lie, and the holes between them",
     details: "\
-A NAME is that of a class, a union or an enumeration, one with * and ?, the index of a type such as 0x1026, or a member
-of a class such as Derived.inner.next.tag or Derived.grid[1], for which a line shows its offset, its size and its type:
-also one of a base class, a base class itself, and one behind a pointer, with the offset from what that points to.
-Styles: `c` is the declaration in C++, with places in comments, and `dt` that of the command dt of WinDbg. Orders: the
-largest first (size), the most bytes in holes first (holes), or by name. Bytes behind the last member are padding, and
-no hole. With --json an object for each type, with its rows.",
+A NAME is the name of a class, a union or an enumeration, in which * and ? are wildcards; the index of a type, such as
+0x1026; or the path of a member, such as Derived.inner.tag or Derived.grid[1], whose line has the offset, the size and
+the type of the member. A path may also lead to a base class, to a member of one, or through a pointer; then the offset
+is that in what the pointer points to. A NAME is required unless --all is given.
+Styles: `c` is the declaration in C++, with the offset and the size of each member in comments; `dt` is the format of
+WinDbg's command dt. Orders: the largest first (size), the most bytes in holes first (holes), or by name. A hole is
+bytes between members that no member takes; those after the last member are padding. With --json an object for each
+type, with its rows.",
     flags: &[
         flag!(
             "style",
@@ -479,12 +481,14 @@ pub(crate) const DIFF: Description = Description {
     name: "diff",
     about: "Compare the types of two files",
     details: "\
-The classes, unions and enumerations that OLD defines and NEW doesn't, or differently, and then those that only NEW
-defines: after --- as it was, after +++ as it is, and then after - and + each member that went, came, moved, or has
-another width or type, and each enumerator that has another value. Definitions are paired by their names, and those of
-one name in their order. With --json an object for each definition, with its members that differ.
+First the classes, unions and enumerations that OLD defines and NEW doesn't define, or defines differently; then those
+that only NEW defines. A line that begins with --- has the definition of OLD, and one with +++ that of NEW. Below are
+the members and enumerators that differ, of OLD after - and of NEW after +: those that only one file has, and those
+with another offset, size, type or value. Definitions are paired by their decorated names, or by their names if they
+have none; several of one name in their order in each file. With --json an object for each definition, with its members
+that differ.
 The exit status is 0 if nothing differs, 1 if something does, and 2 if a file, or a part of one, can't be compared, or
-if no type has a NAME.",
+if neither file defines a type with one of the NAMEs.",
     flags: &[
         flag!(
             "layout-only",
