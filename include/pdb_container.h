@@ -355,8 +355,8 @@ typedef struct pdb_finding {
 
 /* Writes what is wrong in a file. If `every` is 0, this is the first error of each part, or its
  * first warning if it has no error; otherwise it is everything. The file is whole exactly if no
- * finding is an error. That is about its types, ids, names, sections, addresses and frames: modules
- * and symbols are not read. */
+ * finding is an error. That is about its types, ids, names, sections, addresses and frames; of
+ * modules and symbols only the sizes are read. */
 uint32_t pdb_validate(const uint8_t *file, size_t file_length, uint32_t every, pdb_finding *room,
                       size_t room_length, size_t *length, pdb_fault *fault);
 
