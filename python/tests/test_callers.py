@@ -93,7 +93,7 @@ class Threads(unittest.TestCase):
             lambda pdb: len(pdb.streams[:]),
             lambda pdb: pdb.address_map.rva(0x1000),
             lambda pdb: pdb.types[0x1000],
-            lambda pdb: pdb_container.AddressMap(pdb._lent),
+            lambda pdb: pdb_container.AddressMap(pdb._source),
         ]
         usual, failed = sys.getswitchinterval(), []
         sys.setswitchinterval(1e-6)
