@@ -206,11 +206,17 @@ def definition_lines():
 
 # What is told of calls that are refused, with plenty of memory: the status, and the numbers that go with it.
 WHOLE = ["open", "information", "identity", "stream names", "named stream", "roles", "addresses", "frames"]
-NO_TEXT = 104
+NOT_OPEN, NO_TEXT = 101, 104
+
+
+def refused_file(what, status, number):
+    """The calls on a file that can't be opened: the others take an open one."""
+    for call in WHOLE:
+        yield (f"{what} {call}", status, number) if call in ("open", "identity") else (f"{what} {call}", NOT_OPEN, 0)
+
+
 REFUSED = [
-    *((f"cut {call}", 1, 0) for call in WHOLE),
-    *((f"empty {call}", 1, 0) for call in WHOLE),
-    *((f"page size {call}", 3, 768) for call in WHOLE),
+    *refused_file("cut", 1, 0), *refused_file("empty", 1, 0), *refused_file("page size", 3, 768),
     ("no named stream", 5, 0), ("name of no stream", 5, 0), ("no stream", 4, 99), ("no size", 4, 99),
     ("names", 8, 0), ("signature", 9, 6), ("omap", 6, 1), ("table", 8, 0), ("header", 13, 10), ("definitions", 8, 0),
     ("header of definitions", 13, 10), ("sections", 8, 0), ("no name", 8, 0), ("no place", 8, 0), ("cut row", 8, 0),
