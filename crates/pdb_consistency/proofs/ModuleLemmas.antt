@@ -1,10 +1,10 @@
 -- The entries of modules, one behind another.
 use Rattle.std.proofs.Common.{◌≡◌, ◌≢◌, ℕ, zero, suc, ◌+◌, ◌-◌, ◌*◌, ◌<◌, ◌≤◌, List, [], ◌∷◌, ◌++◌, length, refl, sym}
-use Rattle.std.proofs.Common.{◌∙◌, arith, inl, inr, Option, Ok, Err}
+use Rattle.std.proofs.Common.{◌∙◌, arith, inl, inr, Option, eqb, false, Ok, Err}
 use Rattle.std.specs.Int.{div_ceil}
 use Rattle.std.specs.Option.{option_map, option_to_list}
 use Rattle.std.proofs.Math.Dec.{eqb-suc-zero}
-use Rattle.std.proofs.lemmas.Bool.{cases_lt}
+use Rattle.std.proofs.lemmas.Bool.{cases_lt, false≢true}
 use Rattle.std.proofs.lemmas.Grind.{div_ceil_times}
 use Rattle.std.proofs.lemmas.List.{length-drop, length-take-le}
 use Rattle.pdb_base.specs.Reading.{front_at, text_at}
@@ -13,7 +13,7 @@ use Rattle.pdb_base.proofs.lemmas.Collected.{bind_ok, ok_is}
 use Rattle.pdb_base.proofs.lemmas.Reading.{front_cut, front_whole}
 use Rattle.pdb_msf.specs.Layout.{LayoutValue}
 use Rattle.pdb_consistency.specs.Mismatch.{with_further}
-use Rattle.pdb_consistency.specs.Modules.{entries_mismatches, entry_at, entry_inconsistency, entry_mismatches}
+use Rattle.pdb_consistency.specs.Modules.{entries_mismatches, module_at, entry_inconsistency, entry_mismatches}
 use Rattle.pdb_consistency.specs.Modules.{entry_size}
 use Rattle.pdb_consistency.specs.Records.{at_byte}
 use Rattle.pdb_consistency.specs.declared.inconsistency.Inconsistency.{Inconsistency}
@@ -21,6 +21,11 @@ use Rattle.pdb_consistency.specs.declared.inconsistency.Inconsistency.TheVariant
 use Rattle.pdb_consistency.specs.declared.mismatch.Extent.{Extent}
 use Rattle.pdb_consistency.specs.declared.mismatch.Mismatch.{Mismatch}
 use Rattle.pdb_consistency.proofs.MismatchLemmas.{further_more, told}
+
+-- there are bytes if their number is not 0
+pub some_bytes : (bytes : List ℕ) → eqb (length bytes) 0 ≡ false → bytes ≢ []
+some_bytes [] e none = absurd (false≢true (sym e))
+some_bytes (byte ∷ bytes) e none = cc
 
 -- ---- one entry
 
@@ -60,9 +65,9 @@ entry_fields bytes size is =
     (omega (arith, behind, first, second)) refl)
 
 -- an entry and the bytes behind it are the bytes
-pub entry_joined : (bytes : List ℕ) (entry : List ℕ × List ℕ) → entry_at bytes ≡ Ok entry
+pub entry_joined : (bytes : List ℕ) (entry : List ℕ × List ℕ) → module_at bytes ≡ Ok entry
     → length entry.0 + length entry.1 ≡ length bytes
-unfolding entry_at
+unfolding module_at
 entry_joined bytes entry is =
     let size = bind_ok (entry_size bytes) (λ size. front_at size bytes) entry is in
     elim (cases_lt (length bytes) size.0) [
@@ -84,7 +89,7 @@ entries_past layout index byte [] = refl
 entries_past layout index byte (b ∷ left) = refl
 
 pub entries_more : (layout : LayoutValue) (limit most index byte : ℕ) (left : List ℕ) (entry : List ℕ × List ℕ)
-    → limit ≡ suc most → left ≢ [] → entry_at left ≡ Ok entry
+    → limit ≡ suc most → left ≢ [] → module_at left ≡ Ok entry
     → entries_mismatches layout limit index byte left
     ≡ entry_mismatches layout index byte entry.0
     ++ entries_mismatches layout most (index + 1) (byte + length entry.0) entry.1
@@ -92,7 +97,7 @@ entries_more layout limit most index byte [] entry here some is = absurd (some r
 entries_more layout limit most index byte (b ∷ left) entry here some is = rw (here, is) refl
 
 pub entries_cut : (layout : LayoutValue) (limit most index byte : ℕ) (left : List ℕ) (refusal : Refusal)
-    → limit ≡ suc most → left ≢ [] → entry_at left ≡ Err refusal
+    → limit ≡ suc most → left ≢ [] → module_at left ≡ Err refusal
     → entries_mismatches layout limit index byte left ≡ at_byte 3 index byte ModuleCut ∷ []
 entries_cut layout limit most index byte [] refusal here some is = absurd (some refl)
 entries_cut layout limit most index byte (b ∷ left) refusal here some is = rw (here, is) refl
@@ -101,7 +106,7 @@ entries_cut layout limit most index byte (b ∷ left) refusal here some is = rw 
 pub adding_entry : (extent : Extent) (layout : LayoutValue) (index byte count : ℕ) (left : List ℕ)
     (entry : List ℕ × List ℕ) (what : Option Inconsistency) (kept now all : List Mismatch)
     → with_further extent kept (entries_mismatches layout (count - index) index byte left) ≡ all
-    → index < count → left ≢ [] → entry_at left ≡ Ok entry → what ≡ entry_inconsistency layout entry.0
+    → index < count → left ≢ [] → module_at left ≡ Ok entry → what ≡ entry_inconsistency layout entry.0
     → told (with_further extent kept (option_to_list (option_map (at_byte 3 index byte) what))) ≡ Ok now
     → with_further extent now
     (entries_mismatches layout (count - (index + 1)) (index + 1) (byte + length entry.0) entry.1) ≡ all
@@ -116,7 +121,8 @@ adding_entry extent layout index byte count left entry what kept now all so_far 
 pub adding_cut : (extent : Extent) (layout : LayoutValue) (index byte count : ℕ) (left : List ℕ) (refusal : Refusal)
     (kept all : List Mismatch)
     → with_further extent kept (entries_mismatches layout (count - index) index byte left) ≡ all
-    → index < count → left ≢ [] → entry_at left ≡ Err refusal
+    → index < count → left ≢ [] → module_at left ≡ Err refusal
     → with_further extent kept (at_byte 3 index byte ModuleCut ∷ []) ≡ all
 adding_cut extent layout index byte count left refusal kept all so_far within some is =
-    rw (entries_cut layout (count - index) (count - (index + 1)) index byte left refusal (omega arith) some is) at so_far
+    let cut = entries_cut layout (count - index) (count - (index + 1)) index byte left refusal (omega arith) some is in
+    rw cut at so_far

@@ -12,7 +12,8 @@ use Rattle.pdb_consistency.specs.declared.inconsistency.Inconsistency.TheVariant
 use Rattle.pdb_consistency.specs.declared.inconsistency.Inconsistency.TheVariants.{UnknownVersion, UnknownMachine}
 use Rattle.pdb_consistency.specs.declared.inconsistency.Inconsistency.TheVariants.{NamedStreamCount, RecordBytes}
 use Rattle.pdb_consistency.specs.declared.inconsistency.Inconsistency.TheVariants.{HashSize, NoHashStream, HashPart}
-use Rattle.pdb_consistency.specs.declared.inconsistency.Inconsistency.TheVariants.{NameUnreached, ModuleCut, ModuleSizes}
+use Rattle.pdb_consistency.specs.declared.inconsistency.Inconsistency.TheVariants.{NameUnreached, ModuleCut}
+use Rattle.pdb_consistency.specs.declared.inconsistency.Inconsistency.TheVariants.{ModuleSizes}
 use Rattle.pdb_consistency.specs.declared.inconsistency.Inconsistency.TheVariants.{SymbolHashVersion, SymbolHashSizes}
 use Rattle.pdb_consistency.specs.declared.inconsistency.Inconsistency.TheVariants.{PublicSizes, SymbolCut}
 

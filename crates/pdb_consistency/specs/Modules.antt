@@ -1,7 +1,7 @@
--- The list of modules in stream 3 (`MODI_60_Persist` in Microsoft's dbi.h, `ModuleInfoHeader` in LLVM): entries laid end
--- to end that fill their part, each with the stream of its module.
-use Rattle.std.specs.Prelude.{ℕ, zero, suc, ◌+◌, ◌-◌, ◌*◌, nat_lt, List, [], ◌∷◌, ◌++◌, length, take, drop, Option, Some, None}
-use Rattle.std.specs.Prelude.{Ok, Err}
+-- The list of modules in stream 3 (`MODI_60_Persist` in Microsoft's dbi.h, `ModuleInfoHeader` in LLVM): entries laid
+-- end to end that fill their part, each with the stream of its module.
+use Rattle.std.specs.Prelude.{ℕ, zero, suc, ◌+◌, ◌-◌, ◌*◌, nat_lt, List, [], ◌∷◌, ◌++◌, length, take, drop}
+use Rattle.std.specs.Prelude.{Option, Some, None, Ok, Err}
 use Rattle.std.specs.Bool.{then_some}
 use Rattle.std.specs.Int.{div_ceil}
 use Rattle.std.specs.Option.{option_map, option_to_list}
@@ -14,7 +14,8 @@ use Rattle.pdb_file.specs.declared.dbi_header.DBIHeader.{DBIHeader}
 use Rattle.pdb_msf.specs.Layout.{LayoutValue, size_by}
 use Rattle.pdb_consistency.specs.Records.{at_byte}
 use Rattle.pdb_consistency.specs.declared.inconsistency.Inconsistency.{Inconsistency}
-use Rattle.pdb_consistency.specs.declared.inconsistency.Inconsistency.TheVariants.{ModuleCut, ModuleSizes, StreamMissing}
+use Rattle.pdb_consistency.specs.declared.inconsistency.Inconsistency.TheVariants.{ModuleCut, ModuleSizes}
+use Rattle.pdb_consistency.specs.declared.inconsistency.Inconsistency.TheVariants.{StreamMissing}
 use Rattle.pdb_consistency.specs.declared.mismatch.Mismatch.{Mismatch}
 
 -- ---- one entry
@@ -29,8 +30,8 @@ entry_size bytes = do
   Ok (div_ceil (length bytes - length object.1) 4 * 4)
 
 -- the entry at the front of bytes, and the bytes behind it
-unfoldable pub entry_at : List ℕ → Answer (List ℕ × List ℕ)
-entry_at bytes = entry_size bytes >>= λ size. front_at size bytes
+unfoldable pub module_at : List ℕ → Answer (List ℕ × List ℕ)
+module_at bytes = entry_size bytes >>= λ size. front_at size bytes
 
 -- how many bytes the module's symbols, its lines in the older format and its lines take, which its stream begins with
 abbrev pub module_bytes : List ℕ → ℕ
@@ -70,7 +71,7 @@ entries_mismatches layout (suc most) index byte (b ∷ bytes) =
     with_entry index byte
     (λ entry. entry_mismatches layout index byte entry.0
     ++ entries_mismatches layout most (index + 1) (byte + length entry.0) entry.1)
-    (entry_at (b ∷ bytes))
+    (module_at (b ∷ bytes))
 
 -- the part of stream 3 with the list, behind the header, as much of it as there is
 abbrev pub module_list : List ℕ → DBIHeader → List ℕ

@@ -3,7 +3,7 @@
 ghost use Rattle.std.specs.Prelude.{◌≡◌, ◌≤◌, ◌<◌, ◌^◌, length, Ok, IfOk};
 ghost use Rattle.pdb_base.specs.Answer.{Answers, Gives};
 ghost use Rattle.pdb_consistency.specs.Mismatch.{asked_of, with_further};
-ghost use Rattle.pdb_consistency.specs.Modules.{entries_mismatches, entry_at, entry_inconsistency, entry_size};
+ghost use Rattle.pdb_consistency.specs.Modules.{entries_mismatches, module_at, entry_inconsistency, entry_size};
 ghost use Rattle.pdb_consistency.specs.Modules.{module_bytes, modules_mismatches};
 
 use crate::debug_header::DEBUG_STREAM;
@@ -36,9 +36,9 @@ fn entry_size(bytes: &[u8]) -> Result<usize>
 }
 
 /// Returns the entry at the front of bytes, and the bytes behind it.
-#[tactic(auto, unfolding(crate::specs::Modules::entry_at, pdb_base::specs::Reading::front_at))]
-fn entry_at(bytes: &[u8]) -> Result<(&[u8], &[u8])>
-    ensures entry { Gives (λ parts. (parts.0.now, parts.1.now)) result (entry_at bytes.now) }
+#[tactic(auto, unfolding(crate::specs::Modules::module_at, pdb_base::specs::Reading::front_at))]
+fn module_at(bytes: &[u8]) -> Result<(&[u8], &[u8])>
+    ensures entry { Gives (λ parts. (parts.0.now, parts.1.now)) result (module_at bytes.now) }
     ensures fields { IfOk result (λ parts. 64 ≤ length parts.0.now) }
 {
     let size = entry_size(bytes)?;
@@ -95,7 +95,7 @@ fn add_entries(
             index: index as u64,
             byte,
         };
-        match entry_at(left) {
+        match module_at(left) {
             Ok((entry, behind)) => {
                 add_at(
                     mismatches,

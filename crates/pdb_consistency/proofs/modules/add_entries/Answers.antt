@@ -1,6 +1,5 @@
 use Rattle.std.proofs.Common.{sym, ◌∙◌, arith}
-use Rattle.pdb_tpi.proofs.StepLemmas.{some_left}
-use Rattle.pdb_consistency.proofs.ModuleLemmas.{adding_entry, entry_joined}
+use Rattle.pdb_consistency.proofs.ModuleLemmas.{adding_entry, entry_joined, some_bytes}
 use Rattle.pdb_consistency.proofs.modules.add_entries.Goals as goal
 
 pub loop-index-preserved : goal.loop-index-preserved
@@ -10,6 +9,6 @@ loop-index-preserved c =
       place = omega (arith, joined, c.loop-index.invariant.place);
       all = adding_entry c.args.extent c.args.layout.now _ _ _ _ (c.in-Ok.entry.now, c.in-Ok.behind.now) _ _ _ _
           c.loop-index.invariant.all c.loop-index-test.true
-          (some_left c.loop-index.left.now (sym c.is_empty.ensures ∙ c.if-is_empty.false)) c.in-Ok.ensures.entry
+          (some_bytes c.loop-index.left.now (sym c.is_empty.ensures ∙ c.if-is_empty.false)) c.in-Ok.ensures.entry
           c.entry_inconsistency.ensures c.in_ok-add_at-in-Ok.ensures;
     }

@@ -1,7 +1,7 @@
 use Rattle.std.proofs.Common.{arith}
 use Rattle.std.proofs.lemmas.List.{length-take-le}
 use Rattle.pdb_consistency.proofs.ModuleLemmas.{entry_fields}
-use Rattle.pdb_consistency.proofs.modules.entry_at.Goals as goal
+use Rattle.pdb_consistency.proofs.modules.module_at.Goals as goal
 
 pub returns-clause-fields : goal.returns-clause-fields
 returns-clause-fields c =
