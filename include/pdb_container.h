@@ -26,9 +26,9 @@
  * - The bytes that a file is opened with stay where they are until the file is closed, and do not
  *   change during a call. A call after a change reads the changed bytes.
  * - A structure that a call writes is initialized before, such as with = {0}.
- * - malloc, realloc and free belong to one allocator, which aligns a block as C libraries do: to
- *   the largest power of two up to 16 that divides its size. No call is made from a signal handler,
- *   nor in the child of a fork of a process with threads. */
+ * - malloc, realloc and free belong to one allocator, which aligns a block as C libraries do: at
+ *   least to the largest power of two up to 16 that divides its size. No call is made from a
+ *   signal handler, nor in the child of a fork of a process with threads. */
 #ifndef PDB_CONTAINER_H
 #define PDB_CONTAINER_H
 
@@ -126,8 +126,8 @@ static inline const char *pdb_status_text(uint32_t status) {
     }
 }
 
-/* Copies the text of the error in `about`, which has the numbers in it and no NUL at its end. The
- * status is PDB_NO_TEXT for PDB_OK, for PDB_IO_ERROR and from PDB_ALREADY_OPEN on. */
+/* Copies the text of the error in `about`, with its numbers, and no NUL. The status is PDB_NO_TEXT
+ * for PDB_OK, for PDB_IO_ERROR and from PDB_ALREADY_OPEN on. */
 uint32_t pdb_error_text(const pdb_fault *about, uint8_t *room, size_t room_length, size_t *length,
                         pdb_fault *fault);
 
@@ -221,9 +221,8 @@ typedef struct pdb_identity {
     uint16_t flags;            /* values of enum pdb_identity_flag, added up */
     uint8_t guid[16];          /* the bytes as they stand in the file, and in the image's debug
                                   directory */
-    uint32_t has_features;     /* whether the table of stream names in stream 1 is not cut, so that
-                                  the features after it can be found, 0 or 1; if not, the next
-                                  number is 0 */
+    uint32_t has_features;     /* 1 if the features can be found; 0 if the table of stream names
+                                  before them is cut, and then the next number is 0 */
     uint32_t features;         /* values of enum pdb_feature, added up */
 } pdb_identity;
 
@@ -235,7 +234,7 @@ enum pdb_identity_flag {
 };
 
 /* The features that the file tells of itself, in the numbers after the stream names in stream 1.
- * The list ends with the number of VC110: what follows it in the stream is ignored. */
+ * They are read up to the number of VC110, if that is there. */
 enum pdb_feature {
     PDB_FEATURE_VC110 = 1,         /* in the format of Visual C++ 11, with a table of ids */
     PDB_FEATURE_VC140 = 2,         /* in the format of Visual C++ 14, with a table of ids */
@@ -347,7 +346,7 @@ typedef struct pdb_finding {
     uint32_t has_index;
     uint32_t has_byte;
     uint32_t has_file_byte;
-    uint32_t is_warning;    /* whether whole files of known tools have it too */
+    uint32_t is_warning;    /* 1 if known tools write it too, so that the file still is whole */
     uint32_t inconsistency; /* a value of enum pdb_inconsistency */
     uint32_t number;        /* the number that goes with it */
     pdb_fault fault;        /* why the part can't be read; its status is PDB_OK if it can */
@@ -711,8 +710,7 @@ enum pdb_id_shape {
 };
 
 /* The bits of `has`, which say which numbers a record has. The other numbers are 0. The second
- * group are other names for bits of the first: what the number is in shapes where it may be
- * absent. */
+ * group names the same bits by what the number is in shapes where it may be absent. */
 enum pdb_has {
     PDB_HAS_KIND = 1,
     PDB_HAS_ATTRIBUTES = 2,

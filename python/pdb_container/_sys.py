@@ -47,7 +47,7 @@ class IdentityFlag(IntFlag):
 
 class Feature(IntFlag):
     """The features that the file tells of itself, in the numbers after the stream names in stream
-    1. The list ends with the number of VC110: what follows it in the stream is ignored."""
+    1. They are read up to the number of VC110, if that is there."""
 
     VC110 = 1
     VC140 = 2
@@ -204,8 +204,7 @@ class IdShape(IntEnum):
 
 class Has(IntFlag):
     """The bits of `has`, which say which numbers a record has. The other numbers are 0. The second
-    group are other names for bits of the first: what the number is in shapes where it may be
-    absent."""
+    group names the same bits by what the number is in shapes where it may be absent."""
 
     KIND = 1
     ATTRIBUTES = 2
