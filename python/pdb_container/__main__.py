@@ -10,8 +10,7 @@ from . import Enumerator, LibraryError, Pdb, PdbError, open
 
 
 def print_summary(pdb: Pdb) -> None:
-    about = pdb.information
-    print(f"guid {about.guid}, age {about.age}, pages of {pdb.page_size} bytes")
+    print(f"key {pdb.identity.key()}, pages of {pdb.page_size} bytes")
     for stream in pdb.streams:
         size = "absent" if stream.size is None else f"{stream.size} bytes"
         print(f"stream {stream.number}: {size} {stream.name or stream.role or ''}".rstrip())
