@@ -12,11 +12,11 @@
  *     if (status == PDB_TOO_SMALL && bytes)
  *         status = pdb_file_stream(&file, 2, SIZE_MAX, bytes, length, &length, &fault);
  *
- * With PDB_TOO_SMALL nothing is written but the length, which is exact. With PDB_OK the answer is
- * at the start of the array, and the items after it are unchanged. With any other status, lengths
- * are 0, and arrays and structures are unchanged, except `fault` and the record of pdb_types_next.
- * pdb_types_read is another exception: call it without asking for a length. It writes as many
- * records as there is room for, also before PDB_END or an error.
+ * With PDB_TOO_SMALL nothing is written but `fault` and the length, which is exact. With PDB_OK the
+ * answer is at the start of the array, and the items after it are unchanged. With any other status,
+ * lengths are 0, and arrays, structures and numbers are unchanged, except `fault` and the record of
+ * pdb_types_next. pdb_types_read has no length to ask for: it writes as many records as there is
+ * room for, also before PDB_END or an error.
  *
  * The caller must ensure the following, which nothing checks:
  * - A pointer points to as many items as its length says. It may be null if that is 0, and no
@@ -24,10 +24,10 @@
  * - A handle, such as a pdb_file, is all zero before it is first opened. It is not copied. It may
  *   move to another thread, but two threads never use one handle at once.
  * - The bytes that a file is opened with stay where they are until the file is closed, and do not
- *   change during a call. After a change, streams have the bytes that the next call finds.
+ *   change during a call. A call after a change reads the changed bytes.
  * - A structure that a call writes is initialized before, such as with = {0}.
- * - malloc, realloc and free belong to one allocator, which aligns a block as the allocators of C
- *   libraries do: to each power of two up to 16 that divides its size. No call is made from a
+ * - malloc, realloc and free belong to one allocator, which aligns a block as C libraries do: at
+ *   least to the largest power of two up to 16 that divides its size. No call is made from a
  *   signal handler, nor in the child of a fork of a process with threads. */
 #ifndef PDB_CONTAINER_H
 #define PDB_CONTAINER_H
@@ -50,8 +50,7 @@ uint32_t pdb_version(void);
 enum pdb_status {
     PDB_OK = 0,
 
-    /* Errors of the file. In brackets is what `first` is, and then `second`; a number that is not
-       named there is 0. */
+    /* Errors of the file. In brackets is what `first` is, which otherwise is 0; `second` is 0. */
     PDB_UNRECOGNIZED_FILE_FORMAT = 1,       /* the file has no known magic, or fewer than 4096
                                                bytes */
     PDB_PAGE_REFERENCE_OUT_OF_RANGE = 2,    /* a page number is 0, or above the number of used pages
@@ -60,35 +59,22 @@ enum pdb_status {
                                                8,388,608 [the size] */
     PDB_STREAM_NOT_FOUND = 4,               /* there is no such stream [its number] */
     PDB_STREAM_NAME_NOT_FOUND = 5,          /* no stream has this name */
-    PDB_INVALID_STREAM_LENGTH = 6,          /* not a multiple of the length of its records [the
-                                               number of a text] */
-    PDB_IO_ERROR = 7,                       /* the file ends too soon [1], or an allocation to read
-                                               it failed [2] */
+    PDB_INVALID_STREAM_LENGTH = 6,          /* not a multiple of the length of its records [which
+                                               stream: pdb_error_text says it] */
+    PDB_IO_ERROR = 7,                       /* the file ends too soon [always 1] */
     PDB_UNEXPECTED_EOF = 8,                 /* the bytes end before the value that is to be read
                                                from them does */
-    PDB_UNIMPLEMENTED_FEATURE = 9,          /* a part of the format that is not read [the number of
-                                               a text] */
-    PDB_GLOBAL_SYMBOLS_NOT_FOUND = 10,
-    PDB_SYMBOL_TOO_SHORT = 11,
-    PDB_UNIMPLEMENTED_SYMBOL_KIND = 12,     /* [the kind] */
-    PDB_INVALID_TYPE_INFORMATION_HEADER = 13, /* [the number of a text] */
+    PDB_UNIMPLEMENTED_FEATURE = 9,          /* a part of the format that is not read [which:
+                                               pdb_error_text says it] */
+    PDB_INVALID_TYPE_INFORMATION_HEADER = 13, /* [what is wrong: pdb_error_text says it] */
     PDB_TYPE_TOO_SHORT = 14,                /* an item's length leaves no room for its kind */
     PDB_TYPE_NOT_FOUND = 15,                /* [the index] */
-    PDB_TYPE_NOT_INDEXED = 16,              /* [the index, and the one up to which indexes are
-                                               known] */
     PDB_UNIMPLEMENTED_TYPE_KIND = 17,       /* [the kind] */
-    PDB_NOT_A_CROSS_MODULE_REF = 18,        /* [the index] */
-    PDB_CROSS_MODULE_REF_NOT_FOUND = 19,    /* [the index] */
     PDB_UNEXPECTED_NUMERIC_PREFIX = 20,     /* a number begins with a prefix that announces no width
                                                [the prefix] */
-    PDB_ADDRESS_MAP_NOT_FOUND = 21,
-    PDB_UNIMPLEMENTED_DEBUG_SUBSECTION = 22, /* [the kind] */
-    PDB_UNIMPLEMENTED_FILE_CHECKSUM_KIND = 23, /* [the kind] */
-    PDB_INVALID_FILE_CHECKSUM_OFFSET = 24,  /* [the offset] */
-    PDB_LINES_NOT_FOUND = 25,
-    PDB_INVALID_COMPRESSED_ANNOTATION = 26,
-    PDB_UNKNOWN_BINARY_ANNOTATION = 27,     /* [the number] */
-    PDB_OUT_OF_MEMORY = 28,
+    PDB_ADDRESS_MAP_NOT_FOUND = 21,         /* the file has no section headers */
+
+    PDB_OUT_OF_MEMORY = 28, /* an allocation failed */
 
     /* Misuse by the caller, and statuses of calls without a result. */
     PDB_ALREADY_OPEN = 100, /* the handle holds something already */
@@ -108,7 +94,7 @@ typedef struct pdb_fault {
     uint32_t second;
 } pdb_fault;
 
-/* Returns the text of a status, of any number. */
+/* Returns a text for every status. */
 static inline const char *pdb_status_text(uint32_t status) {
     switch (status) {
     case PDB_OK: return "success";
@@ -118,27 +104,15 @@ static inline const char *pdb_status_text(uint32_t status) {
     case PDB_STREAM_NOT_FOUND: return "no such stream";
     case PDB_STREAM_NAME_NOT_FOUND: return "no stream of this name";
     case PDB_INVALID_STREAM_LENGTH: return "the stream's length is no multiple of its records'";
-    case PDB_IO_ERROR: return "IO error while reading PDB: it ends too soon, or no memory";
+    case PDB_IO_ERROR: return "IO error while reading PDB: the file ends too soon";
     case PDB_UNEXPECTED_EOF: return "the bytes end too soon";
     case PDB_UNIMPLEMENTED_FEATURE: return "a part of the format that is not read";
-    case PDB_GLOBAL_SYMBOLS_NOT_FOUND: return "no global symbols";
-    case PDB_SYMBOL_TOO_SHORT: return "a symbol's length leaves no room for its kind";
-    case PDB_UNIMPLEMENTED_SYMBOL_KIND: return "a symbol kind that is not read";
     case PDB_INVALID_TYPE_INFORMATION_HEADER: return "invalid header of a table of types or ids";
     case PDB_TYPE_TOO_SHORT: return "a record's length leaves no room for its kind";
     case PDB_TYPE_NOT_FOUND: return "no type or id of this index";
-    case PDB_TYPE_NOT_INDEXED: return "an index whose place is not known";
     case PDB_UNIMPLEMENTED_TYPE_KIND: return "a record kind that is not read";
-    case PDB_NOT_A_CROSS_MODULE_REF: return "not a reference to another module";
-    case PDB_CROSS_MODULE_REF_NOT_FOUND: return "no such reference to another module";
     case PDB_UNEXPECTED_NUMERIC_PREFIX: return "a number's prefix announces no width";
     case PDB_ADDRESS_MAP_NOT_FOUND: return "no section headers, and so no address map";
-    case PDB_UNIMPLEMENTED_DEBUG_SUBSECTION: return "a debug subsection that is not read";
-    case PDB_UNIMPLEMENTED_FILE_CHECKSUM_KIND: return "a checksum kind that is not read";
-    case PDB_INVALID_FILE_CHECKSUM_OFFSET: return "invalid offset of a checksum";
-    case PDB_LINES_NOT_FOUND: return "no lines";
-    case PDB_INVALID_COMPRESSED_ANNOTATION: return "invalid compressed annotation";
-    case PDB_UNKNOWN_BINARY_ANNOTATION: return "unknown binary annotation";
     case PDB_OUT_OF_MEMORY: return "an allocation failed";
     case PDB_ALREADY_OPEN: return "the handle is open already";
     case PDB_NOT_OPEN: return "the handle is not open";
@@ -152,8 +126,8 @@ static inline const char *pdb_status_text(uint32_t status) {
     }
 }
 
-/* Copies the text of the error that the fault `about` reports, with its numbers and without a NUL.
- * The status is PDB_NO_TEXT for PDB_IO_ERROR and for each status that is no error of a file. */
+/* Copies the text of the error in `about`, with its numbers, and no NUL. The status is PDB_NO_TEXT
+ * for PDB_OK, for PDB_IO_ERROR and from PDB_ALREADY_OPEN on. */
 uint32_t pdb_error_text(const pdb_fault *about, uint8_t *room, size_t room_length, size_t *length,
                         pdb_fault *fault);
 
@@ -192,38 +166,43 @@ typedef struct pdb_frames {
     pdb_handle handle;
 } pdb_frames;
 
-/* A table of types. */
+/* A table of types or of ids. */
 typedef struct pdb_types {
     pdb_handle handle;
 } pdb_types;
-
-/* A table of ids, which is read as one of types is. */
-typedef struct pdb_ids {
-    pdb_types table;
-} pdb_ids;
 
 /* The definitions of a table of types. */
 typedef struct pdb_definitions {
     pdb_handle handle;
 } pdb_definitions;
 
-/* Closes a handle and frees what it held. A handle that holds nothing is left unchanged. The
- * functions after this one close each kind of handle. */
+/* Closes a handle and frees what it held. A handle that holds nothing is left unchanged. */
 void pdb_close(pdb_handle *handle);
 
+/* These close each kind of handle. Like free, they accept NULL. */
 static inline void pdb_file_close(pdb_file *file) {
+    if (!file) return;
     pdb_close(&file->handle);
     file->bytes = NULL;
     file->length = 0;
 }
-static inline void pdb_names_close(pdb_names *names) { pdb_close(&names->handle); }
-static inline void pdb_omap_close(pdb_omap *omap) { pdb_close(&omap->handle); }
-static inline void pdb_address_map_close(pdb_address_map *map) { pdb_close(&map->handle); }
-static inline void pdb_frames_close(pdb_frames *frames) { pdb_close(&frames->handle); }
-static inline void pdb_types_close(pdb_types *types) { pdb_close(&types->handle); }
-static inline void pdb_ids_close(pdb_ids *ids) { pdb_close(&ids->table.handle); }
+static inline void pdb_names_close(pdb_names *names) {
+    if (names) pdb_close(&names->handle);
+}
+static inline void pdb_omap_close(pdb_omap *omap) {
+    if (omap) pdb_close(&omap->handle);
+}
+static inline void pdb_address_map_close(pdb_address_map *map) {
+    if (map) pdb_close(&map->handle);
+}
+static inline void pdb_frames_close(pdb_frames *frames) {
+    if (frames) pdb_close(&frames->handle);
+}
+static inline void pdb_types_close(pdb_types *types) {
+    if (types) pdb_close(&types->handle);
+}
 static inline void pdb_definitions_close(pdb_definitions *definitions) {
-    pdb_close(&definitions->handle);
+    if (definitions) pdb_close(&definitions->handle);
 }
 
 /* ---- which file it is, from its bytes alone */
@@ -242,8 +221,8 @@ typedef struct pdb_identity {
     uint16_t flags;            /* values of enum pdb_identity_flag, added up */
     uint8_t guid[16];          /* the bytes as they stand in the file, and in the image's debug
                                   directory */
-    uint32_t has_features;     /* whether all stream names are in stream 1, before the features, 0
-                                  or 1; if not, the next number is 0 */
+    uint32_t has_features;     /* 1 if the features can be found; 0 if the table of stream names
+                                  before them is cut, and then the next number is 0 */
     uint32_t features;         /* values of enum pdb_feature, added up */
 } pdb_identity;
 
@@ -255,7 +234,7 @@ enum pdb_identity_flag {
 };
 
 /* The features that the file tells of itself, in the numbers after the stream names in stream 1.
- * What follows the number of VC110 is not read. */
+ * They are read up to the number of VC110, if that is there. */
 enum pdb_feature {
     PDB_FEATURE_VC110 = 1,         /* in the format of Visual C++ 11, with a table of ids */
     PDB_FEATURE_VC140 = 2,         /* in the format of Visual C++ 14, with a table of ids */
@@ -291,7 +270,7 @@ enum pdb_format {
     PDB_FORMAT_IMAGE = 5       /* a program or a library */
 };
 
-/* Returns the format with whose first bytes a file begins, a value of enum pdb_format. It needs no
+/* Returns the format that the first bytes of a file show, a value of enum pdb_format. It needs no
  * more than the first 42 bytes. */
 uint32_t pdb_format_of(const uint8_t *file, size_t file_length);
 
@@ -321,37 +300,45 @@ enum pdb_inconsistency {
     PDB_NO_INCONSISTENCY = 0,      /* the part can't be read, for the reason in `fault` */
     PDB_DIRECTORY_TOO_LARGE = 1,   /* the directory is larger than the file */
     PDB_STREAMS_TOO_LARGE = 2,     /* the streams together are larger than the file */
-    PDB_OUT_OF_ORDER = 3,          /* OMAP records or frames are not in increasing order */
+    PDB_OUT_OF_ORDER = 3,          /* sources of OMAP records decrease, or starts of frames do not
+                                      increase */
     PDB_PAGE_SHARED = 4,           /* a page has two owners [the page] */
     PDB_PAGE_FREE = 5,             /* a page is in use and marked as free; a warning [the page] */
-    PDB_STREAM_MISSING = 6,        /* a stream with a name or a role is missing [its number] */
+    PDB_STREAM_MISSING = 6,        /* a stream that is named or numbered is missing [its number] */
     PDB_DEBUG_SIZES = 7,           /* the parts of stream 3 do not add up to its size */
     PDB_REFERENCE_NOT_BELOW = 8,   /* a record refers to an index that is not below its own [it] */
     PDB_RECORD_UNALIGNED = 9,      /* a record takes no multiple of four bytes; a warning */
     PDB_KIND_NOT_READ = 10,        /* a record kind that is not read; a warning [the kind] */
-    PDB_HASH_COUNT = 11,           /* not one hash value for each record [their number] */
+    PDB_HASH_COUNT = 11,           /* not as many hash values as records [the hash values] */
     PDB_HASH_TOO_LARGE = 12,       /* a hash value that is not below the number of buckets [it] */
-    PDB_INDEX_OFFSET = 13,         /* a stored place is not that of its record [the index] */
+    PDB_INDEX_OFFSET = 13,         /* a stored offset is not that of its record [the index] */
     PDB_BUCKETS_CUT = 14,          /* the string table ends before its buckets do */
     PDB_NAME_OFFSET = 15,          /* a bucket's offset at which no name begins [the offset] */
-    PDB_NAME_COUNT = 16,           /* the buckets hold another number of names [the table's] */
+    PDB_NAME_COUNT = 16,           /* the count of names is not that in the buckets [the count] */
     PDB_SECTIONS_OVERLAP = 17,     /* a section begins below the end of the one before it */
     PDB_FREE_PAGE_MAP = 18,        /* the free page map is neither 1 nor 2 [its number] */
     PDB_PAGE_COUNT = 19,           /* more pages are in use than the file has [their number] */
     PDB_UNKNOWN_VERSION = 20,      /* stream 1, stream 3 or a table has an unknown version [it] */
     PDB_UNKNOWN_MACHINE = 21,      /* an unknown machine; a warning [its number] */
-    PDB_NAMED_STREAM_COUNT = 22,   /* the bits of the table of names are others [its count] */
+    PDB_NAMED_STREAM_COUNT = 22,   /* the count of stream names is not that of the bits [it] */
     PDB_RECORD_BYTES = 23,         /* the records do not end where the header says [the field] */
-    PDB_HASH_SIZE = 24,            /* no table has hashes or buckets so [the field] */
+    PDB_HASH_SIZE = 24,            /* an impossible size of hashes or count of buckets [it] */
     PDB_NO_HASH_STREAM = 25,       /* records without a hash stream; a warning */
     PDB_HASH_PART = 26,            /* a part does not fit the hash stream [its size] */
-    PDB_NAME_UNREACHED = 27        /* the hash of a name leads to another bucket [the offset] */
+    PDB_NAME_UNREACHED = 27,       /* the hash of a name leads to another bucket [the offset] */
+    PDB_MODULE_CUT = 28,           /* a module's entry ends behind the list of modules */
+    PDB_MODULE_SIZES = 29,         /* a module takes more bytes than its stream has [its number] */
+    PDB_SYMBOL_HASH_VERSION = 30,  /* no signature or version of a hash table of symbols [it] */
+    PDB_SYMBOL_HASH_SIZES = 31,    /* a hash table of symbols does not have the size it says */
+    PDB_PUBLIC_SIZES = 32,         /* the parts of the publics do not add up to their stream */
+    PDB_SYMBOL_CUT = 33            /* the record of a symbol ends behind its stream */
 };
 
 /* What is wrong in a part of a file, and where. */
 typedef struct pdb_finding {
     uint64_t index;     /* the index of the record */
-    uint64_t byte;      /* the byte of the stream: of a record, that at which its length begins */
+    uint64_t byte;      /* the offset in the stream; for a record, that of the two-byte length
+                           before it */
     uint64_t file_byte; /* that byte's place in the file */
     uint32_t part;      /* a value of enum pdb_part */
     uint32_t has_stream; /* each flag is 0 or 1; if it is 0, so is its number */
@@ -359,32 +346,49 @@ typedef struct pdb_finding {
     uint32_t has_index;
     uint32_t has_byte;
     uint32_t has_file_byte;
-    uint32_t is_warning;    /* whether files of known tools have it too, which are whole */
+    uint32_t is_warning;    /* 1 if known tools write it too, so that the file still is whole */
     uint32_t inconsistency; /* a value of enum pdb_inconsistency */
     uint32_t number;        /* the number that goes with it */
     pdb_fault fault;        /* why the part can't be read; its status is PDB_OK if it can */
 } pdb_finding;
 
-/* Writes what is wrong in a file: the first error of each part, or its first warning if it has no
- * error; or everything, unless `every` is 0. The file is whole exactly if nothing of it is an
- * error: its types, ids, names, sections, addresses and frames, since modules and symbols are not
- * read. */
+/* Writes what is wrong in a file. If `every` is 0, this is the first error of each part, or its
+ * first warning if it has no error; otherwise it is everything. The file is whole exactly if no
+ * finding is an error. That is about its types, ids, names, sections, addresses and frames; of
+ * modules and symbols only the sizes are read. */
 uint32_t pdb_validate(const uint8_t *file, size_t file_length, uint32_t every, pdb_finding *room,
                       size_t room_length, size_t *length, pdb_fault *fault);
 
 /* ---- the streams of a file */
 
-/* The calls that are given the bytes of a file, for programs that keep the bytes themselves. The
- * pdb_file_ functions after them pass the bytes with which a pdb_file was opened. If it isn't open,
- * the status is PDB_NOT_OPEN or PDB_UNRECOGNIZED_FILE_FORMAT. */
-uint32_t pdb_bytes_open(const uint8_t *bytes, size_t bytes_length, pdb_file *file,
-                        pdb_fault *fault);
-uint32_t pdb_bytes_stream(pdb_file *file, const uint8_t *bytes, size_t bytes_length,
-                          uint32_t number, size_t limit, uint8_t *room, size_t room_length,
-                          size_t *length, pdb_fault *fault);
-uint32_t pdb_bytes_named_stream(const uint8_t *bytes, size_t bytes_length, const uint8_t *name,
-                                size_t name_length, uint8_t *room, size_t room_length,
-                                size_t *length, pdb_fault *fault);
+/* Streams whose numbers are fixed, and the number that stands for none. */
+enum pdb_stream_number { PDB_TYPES_STREAM = 2, PDB_IDS_STREAM = 4, PDB_NO_STREAM = 0xffff };
+
+/* Opens a file: reads its header and its directory. The bytes are not copied. The calls of this
+ * section end with PDB_NOT_OPEN if the file isn't open. */
+uint32_t pdb_file_open(const uint8_t *bytes, size_t bytes_length, pdb_file *file,
+                       pdb_fault *fault);
+
+/* Writes the size of the file's pages in bytes, which is a power of two from 256 to 8,388,608. */
+uint32_t pdb_file_page_size(pdb_file *file, uint32_t *page_size, pdb_fault *fault);
+
+/* Writes how many streams the directory has, including absent ones. The streams' numbers are those
+ * below this count. */
+uint32_t pdb_file_stream_count(pdb_file *file, uint32_t *count, pdb_fault *fault);
+
+/* Writes the size of a stream in bytes, as the directory gives it. The status is
+ * PDB_STREAM_NOT_FOUND if the stream is absent. Whether the stream's pages hold that many bytes is
+ * checked only when the stream is copied. */
+uint32_t pdb_file_stream_size(pdb_file *file, uint32_t number, uint32_t *size, pdb_fault *fault);
+
+/* Copies the bytes of a stream, at most `limit` of them. The limit may be SIZE_MAX. */
+uint32_t pdb_file_stream(pdb_file *file, uint32_t number, size_t limit, uint8_t *room,
+                         size_t room_length, size_t *length, pdb_fault *fault);
+
+/* Copies the bytes of the first stream with this name, such as "/names". */
+uint32_t pdb_file_named_stream(pdb_file *file, const uint8_t *name, size_t name_length,
+                               uint8_t *room, size_t room_length, size_t *length,
+                               pdb_fault *fault);
 
 /* The numbers in stream 1 of a file. */
 typedef struct pdb_information {
@@ -394,8 +398,8 @@ typedef struct pdb_information {
     uint8_t guid[16];   /* the bytes as they are in the file */
 } pdb_information;
 
-uint32_t pdb_bytes_information(const uint8_t *bytes, size_t bytes_length,
-                               pdb_information *information, pdb_fault *fault);
+/* Writes the numbers in stream 1. */
+uint32_t pdb_file_information(pdb_file *file, pdb_information *information, pdb_fault *fault);
 
 /* A stream that has a name, and the length of the name in bytes. */
 typedef struct pdb_named_stream {
@@ -403,12 +407,12 @@ typedef struct pdb_named_stream {
     uint32_t number; /* PDB_NO_STREAM if the file gives no stream for the name */
 } pdb_named_stream;
 
-/* Writes the streams that have names, in the order of the file, and the bytes of their names, one
- * after another. The status is PDB_UNIMPLEMENTED_FEATURE if the names together have more bytes than
- * the file, which they have only if they share bytes. */
-uint32_t pdb_bytes_stream_names(const uint8_t *bytes, size_t bytes_length, pdb_named_stream *rows,
-                                size_t rows_length, size_t *count, uint8_t *names,
-                                size_t names_length, size_t *size, pdb_fault *fault);
+/* Writes the streams that have names, in the order in which the file lists them, and the bytes of
+ * their names, one name after another. The status is PDB_UNIMPLEMENTED_FEATURE if the names
+ * together have more bytes than the file. That can only be if names overlap. */
+uint32_t pdb_file_stream_names(pdb_file *file, pdb_named_stream *rows, size_t rows_length,
+                               size_t *count, uint8_t *names, size_t names_length, size_t *size,
+                               pdb_fault *fault);
 
 /* The numbers of the streams in eleven roles, each PDB_NO_STREAM if the file has no such stream. */
 typedef struct pdb_roles {
@@ -425,84 +429,14 @@ typedef struct pdb_roles {
     uint16_t original_section_headers;
 } pdb_roles;
 
-uint32_t pdb_bytes_roles(const uint8_t *bytes, size_t bytes_length, pdb_roles *roles,
-                         pdb_fault *fault);
-uint32_t pdb_bytes_addresses(const uint8_t *bytes, size_t bytes_length, pdb_address_map *addresses,
-                             pdb_fault *fault);
-uint32_t pdb_bytes_frames(const uint8_t *bytes, size_t bytes_length, pdb_frames *frames,
-                          pdb_fault *fault);
-
-/* Streams whose numbers are fixed, and the number that stands for none. */
-enum pdb_stream_number { PDB_TYPES_STREAM = 2, PDB_IDS_STREAM = 4, PDB_NO_STREAM = 0xffff };
-
-/* Opens a file: reads its header and its directory. The bytes are not copied. */
-static inline uint32_t pdb_file_open(const uint8_t *bytes, size_t length, pdb_file *file,
-                                     pdb_fault *fault) {
-    uint32_t status = pdb_bytes_open(bytes, length, file, fault);
-    if (status == PDB_OK) {
-        file->bytes = bytes;
-        file->length = length;
-    }
-    return status;
-}
-
-/* Writes the size of the file's pages in bytes, which is a power of two from 256 to 8,388,608. */
-uint32_t pdb_file_page_size(pdb_file *file, uint32_t *page_size, pdb_fault *fault);
-
-/* Writes how many streams the directory has, including absent ones. The streams' numbers are those
- * below this count. */
-uint32_t pdb_file_stream_count(pdb_file *file, uint32_t *count, pdb_fault *fault);
-
-/* Writes the size of a stream in bytes, as the directory gives it. The status is
- * PDB_STREAM_NOT_FOUND if the stream is absent. Whether the stream's pages hold that many bytes is
- * checked only when the stream is copied. */
-uint32_t pdb_file_stream_size(pdb_file *file, uint32_t number, uint32_t *size, pdb_fault *fault);
-
-/* Copies the bytes of a stream, at most `limit` of them. The limit may be SIZE_MAX. */
-static inline uint32_t pdb_file_stream(pdb_file *file, uint32_t number, size_t limit, uint8_t *room,
-                                       size_t room_length, size_t *length, pdb_fault *fault) {
-    return pdb_bytes_stream(file, file->bytes, file->length, number, limit, room, room_length,
-                            length, fault);
-}
-
-/* Copies the bytes of the first stream with this name, such as "/names". */
-static inline uint32_t pdb_file_named_stream(pdb_file *file, const uint8_t *name,
-                                             size_t name_length, uint8_t *room, size_t room_length,
-                                             size_t *length, pdb_fault *fault) {
-    return pdb_bytes_named_stream(file->bytes, file->length, name, name_length, room, room_length,
-                                  length, fault);
-}
-
-/* Writes the numbers in stream 1. */
-static inline uint32_t pdb_file_information(pdb_file *file, pdb_information *information,
-                                            pdb_fault *fault) {
-    return pdb_bytes_information(file->bytes, file->length, information, fault);
-}
-
-/* Writes the streams that have names, in the order in which the file lists them, and the bytes of
- * their names, one name after another. */
-static inline uint32_t pdb_file_stream_names(pdb_file *file, pdb_named_stream *rows,
-                                             size_t rows_length, size_t *count, uint8_t *names,
-                                             size_t names_length, size_t *size, pdb_fault *fault) {
-    return pdb_bytes_stream_names(file->bytes, file->length, rows, rows_length, count, names,
-                                  names_length, size, fault);
-}
-
 /* Writes the numbers of the streams in their roles. */
-static inline uint32_t pdb_file_roles(pdb_file *file, pdb_roles *roles, pdb_fault *fault) {
-    return pdb_bytes_roles(file->bytes, file->length, roles, fault);
-}
+uint32_t pdb_file_roles(pdb_file *file, pdb_roles *roles, pdb_fault *fault);
 
 /* Opens the address map of a file. */
-static inline uint32_t pdb_file_addresses(pdb_file *file, pdb_address_map *addresses,
-                                          pdb_fault *fault) {
-    return pdb_bytes_addresses(file->bytes, file->length, addresses, fault);
-}
+uint32_t pdb_file_addresses(pdb_file *file, pdb_address_map *addresses, pdb_fault *fault);
 
 /* Opens the frame table of a file. */
-static inline uint32_t pdb_file_frames(pdb_file *file, pdb_frames *frames, pdb_fault *fault) {
-    return pdb_bytes_frames(file->bytes, file->length, frames, fault);
-}
+uint32_t pdb_file_frames(pdb_file *file, pdb_frames *frames, pdb_fault *fault);
 
 /* ---- names */
 
@@ -518,8 +452,8 @@ typedef struct pdb_name {
 } pdb_name;
 
 /* Writes where the name at an offset is in the caller's stream. Nothing is copied. The first name
- * is at offset 0, and each later one begins right after the NUL of the name before it. The status
- * is PDB_UNEXPECTED_EOF if no name is there. */
+ * is at offset 0, and each later one begins right after the NUL of the name before it; an offset
+ * within a name gives the rest of the name. The status is PDB_UNEXPECTED_EOF if no NUL follows. */
 uint32_t pdb_names_place(pdb_names *names, uint32_t offset, pdb_name *place, pdb_fault *fault);
 
 /* Writes where the name at each of some offsets is, in their order: what pdb_names_place writes, or
@@ -547,8 +481,8 @@ uint32_t pdb_omap_records(pdb_omap *omap, pdb_omap_record *room, size_t room_len
 uint32_t pdb_omap_is_sorted(pdb_omap *omap, uint32_t *is_sorted, pdb_fault *fault);
 
 /* Writes the address to which a table moves an address. The status is PDB_UNMAPPED if the table
- * moves it nowhere. If the table isn't sorted, the answer is that of any record whose source is at
- * or below the address, or there is none. */
+ * moves it nowhere. If the table isn't sorted, the answer may come from whichever record has its
+ * source at or below the address, or be PDB_UNMAPPED. */
 uint32_t pdb_omap_lookup(pdb_omap *omap, uint32_t address, uint32_t *target, pdb_fault *fault);
 
 /* A range of addresses, its end excluded. */
@@ -628,14 +562,14 @@ typedef struct pdb_translation {
 
 /* Writes the four forms of an address or a place. `form` is the form that is given, a value of enum
  * pdb_address_form; for any other, the status is PDB_NONE. For an address, `offset` is the address,
- * and `section` doesn't count. If an OMAP table isn't sorted, the forms in the other image are what
- * some record at or below the address gives, or don't exist. */
+ * and `section` doesn't count. If an OMAP table isn't sorted, the forms in the other image come
+ * from some record at or below the address, or don't exist. */
 uint32_t pdb_translate(pdb_address_map *addresses, uint32_t form, uint16_t section, uint32_t offset,
                        pdb_translation *translation, pdb_fault *fault);
 
 /* Writes where the addresses of a range of the original image lie in the image as it is loaded.
- * Together, the ranges hold in order what pdb_translate gives for the addresses one by one, except
- * those that it moves to 0xffffffff. This needn't hold if the OMAP table isn't sorted. */
+ * Laid end to end, the ranges are what pdb_translate gives for each address in turn, without the
+ * addresses that go nowhere or to 0xffffffff. This needn't hold if the OMAP table isn't sorted. */
 uint32_t pdb_rva_ranges(pdb_address_map *addresses, uint32_t start, uint32_t end, pdb_span *room,
                         size_t room_length, size_t *length, pdb_fault *fault);
 
@@ -647,7 +581,7 @@ uint32_t pdb_internal_rva_ranges(pdb_address_map *addresses, uint32_t start, uin
 
 /* ---- frames */
 
-/* The kinds of frames, by the numbers of StackFrameTypeEnum. */
+/* The kinds of frames, by the numbers of StackFrameTypeEnum; any other is unknown. */
 enum pdb_frame_kind {
     PDB_FRAME_FPO = 0,
     PDB_FRAME_TRAP = 1,
@@ -673,22 +607,25 @@ typedef struct pdb_frame {
     uint32_t is_function_start;
     uint32_t uses_base_pointer;
     uint32_t has_program;
-    uint32_t program; /* the offset of that program in the string table, or 0 if there is none */
+    uint32_t program; /* the offset of its unwind program in the string table, or 0 */
 } pdb_frame;
 
-/* Writes the first frame from an address of the original image on: the one at the address, or else
- * the first above it, which code_start tells. The status is PDB_NONE if there is none. */
+/* Writes the frame for an address of the original image. In the stream of each format, this is the
+ * one that starts at the address; or else the last one that starts below it, if its code contains
+ * the address; or else the first above it. Of both, it is the one with the lower start: compare
+ * code_start and code_size with the address. The status is PDB_NONE if there is none. If the starts
+ * of a stream don't increase, it is any frame, or none. */
 uint32_t pdb_frames_at(pdb_frames *frames, uint32_t address, pdb_frame *frame, pdb_fault *fault);
 
-/* Writes all frames, ordered by their starts. Of two records of both formats that start at one
- * address, only the newer format's is written. */
+/* Writes all frames, ordered by their starts. If records of both formats start at one address, only
+ * the newer format's is written. */
 uint32_t pdb_frames_list(pdb_frames *frames, pdb_frame *room, size_t room_length, size_t *length,
                          pdb_fault *fault);
 
 /* ---- tables of types and of ids */
 
-/* Opens the table of types in a stream, such as PDB_TYPES_STREAM. The stream is copied. A walk
- * along the table begins at its first item. */
+/* Opens the table of types or of ids in a stream, such as PDB_TYPES_STREAM or PDB_IDS_STREAM. The
+ * stream is copied. A walk along the table begins at its first item. */
 uint32_t pdb_types_open(const uint8_t *stream, size_t stream_length, pdb_types *table,
                         pdb_fault *fault);
 
@@ -703,12 +640,14 @@ uint32_t pdb_types_count(pdb_types *table, uint32_t *count, pdb_fault *fault);
 typedef struct pdb_record {
     uint32_t index;
     uint32_t offset; /* the number of bytes of the stream before the record */
-    uint32_t length; /* the number of bytes of the record, at most 65,535 */
+    uint32_t length; /* the number of bytes of the record and its padding, at most 65,535 */
 } pdb_record;
 
-/* Writes where the record of an index is. Calls walk along the table until they have reached the
- * index once, and later calls start at its block of eight items. An index below the first one is
- * that of a primitive type, which has no record in the stream, so the status is PDB_NONE. */
+/* Writes where the record of an index is. The table remembers where each block of eight items
+ * begins, as far as it was scanned. A call scans on from there if the index lies beyond, and
+ * otherwise reads at most eight lengths; the walk of pdb_types_next stays where it is. An index
+ * below the first one (in a table of types, that of a primitive type) has no record in the stream,
+ * so the status is PDB_NONE. */
 uint32_t pdb_types_find(pdb_types *table, uint32_t index, pdb_record *record, pdb_fault *fault);
 
 /* What was found of the record of an index. */
@@ -730,34 +669,6 @@ uint32_t pdb_types_next(pdb_types *table, pdb_record *record, pdb_fault *fault);
 
 /* Moves the walk back to before the first item. */
 uint32_t pdb_types_rewind(pdb_types *table, pdb_fault *fault);
-
-/* The same for a table of ids, such as that in PDB_IDS_STREAM. */
-static inline uint32_t pdb_ids_open(const uint8_t *stream, size_t stream_length, pdb_ids *ids,
-                                    pdb_fault *fault) {
-    return pdb_types_open(stream, stream_length, &ids->table, fault);
-}
-static inline uint32_t pdb_ids_first_index(pdb_ids *ids, uint32_t *index, pdb_fault *fault) {
-    return pdb_types_first_index(&ids->table, index, fault);
-}
-static inline uint32_t pdb_ids_count(pdb_ids *ids, uint32_t *count, pdb_fault *fault) {
-    return pdb_types_count(&ids->table, count, fault);
-}
-static inline uint32_t pdb_ids_find(pdb_ids *ids, uint32_t index, pdb_record *record,
-                                    pdb_fault *fault) {
-    return pdb_types_find(&ids->table, index, record, fault);
-}
-static inline uint32_t pdb_ids_find_all(pdb_ids *ids, const uint32_t *indexes,
-                                        size_t indexes_length, pdb_found_record *room,
-                                        size_t room_length, size_t *length, pdb_fault *fault) {
-    return pdb_types_find_all(&ids->table, indexes, indexes_length, room, room_length, length,
-                              fault);
-}
-static inline uint32_t pdb_ids_next(pdb_ids *ids, pdb_record *record, pdb_fault *fault) {
-    return pdb_types_next(&ids->table, record, fault);
-}
-static inline uint32_t pdb_ids_rewind(pdb_ids *ids, pdb_fault *fault) {
-    return pdb_types_rewind(&ids->table, fault);
-}
 
 /* ---- what a record says */
 
@@ -799,7 +710,7 @@ enum pdb_id_shape {
 };
 
 /* The bits of `has`, which say which numbers a record has. The other numbers are 0. The second
- * half names those that only some records of a shape have. */
+ * group names the same bits by what the number is in shapes where it may be absent. */
 enum pdb_has {
     PDB_HAS_KIND = 1,
     PDB_HAS_ATTRIBUTES = 2,
@@ -904,8 +815,8 @@ enum pdb_modifier_bit {
     PDB_MODIFIER_UNALIGNED = 4
 };
 
-/* The numbers of any shape, under the names that all shapes share: the layout of each structure of
- * pdb_type_info, for programs in languages without unions. */
+/* The numbers of any shape under common names, laid out as in each structure of pdb_type_info, for
+ * languages without unions. */
 typedef struct pdb_row {
     uint32_t shape;
     uint32_t has;
@@ -933,7 +844,8 @@ typedef union pdb_type_info {
         uint32_t shape, has;
         uint64_t size;
         uint32_t kind, unused, properties, count, unused_2, derived_from, vtable_shape, fields;
-    } class_type; /* `kind` is a value of enum pdb_class_kind, `count` the number of fields */
+    } class_type; /* `kind` is a value of enum pdb_class_kind; `count` counts fields, and each
+                   * overload of a method */
     struct {
         uint32_t shape, has;
         uint64_t offset;
@@ -1012,7 +924,7 @@ typedef union pdb_type_info {
         } value;
         uint32_t is_signed, attributes, unused, width;
     } enumerate; /* `width` is the number of bytes of the value in the record, and `is_signed` says
-                  * whether these have a sign; pdb_enumerator_typed gives the value its own */
+                  * whether these have a sign; pdb_enumerator_typed gives that of the type */
     struct {
         uint32_t shape, has;
         uint64_t unused;
@@ -1078,7 +990,7 @@ enum { PDB_FIRST_RECORD = 0x1000 };
  * not below 0x1000, and PDB_TYPE_NOT_FOUND if no primitive type has it. */
 static inline uint32_t pdb_primitive(uint32_t index, uint32_t *kind, uint32_t *indirection,
                                      pdb_fault *fault) {
-    pdb_type_info info;
+    pdb_type_info info = {{0, 0}};
     if (index >= PDB_FIRST_RECORD) {
         fault->status = PDB_NONE;
         fault->first = fault->second = 0;
@@ -1169,8 +1081,9 @@ uint32_t pdb_type_unique_name(const uint8_t *record, size_t record_length, uint3
 uint32_t pdb_type_arguments(const uint8_t *record, size_t record_length, uint32_t index,
                             uint32_t *room, size_t room_length, size_t *length, pdb_fault *fault);
 
-/* Copies the size of an array in bytes up to each dimension, the innermost first: each size
- * includes those before it. The status is PDB_NONE for any other type. */
+/* Copies the sizes in bytes that the record of an array holds. Compilers write one, that of the
+ * whole array: an `int[3][4]` has 48, and its element type `int[4]` has 16. If there are several,
+ * the innermost is first. The status is PDB_NONE for any other type. */
 uint32_t pdb_type_dimensions(const uint8_t *record, size_t record_length, uint32_t index,
                              uint32_t *room, size_t room_length, size_t *length, pdb_fault *fault);
 
@@ -1188,8 +1101,8 @@ typedef struct pdb_field {
 } pdb_field;
 
 /* Writes the fields in the record of a list of fields, and the bytes of their names, one name after
- * another. The status is PDB_NONE for any other type. If the list has a continuation, that is the
- * index of another list, which has to be below its own. */
+ * another. The status is PDB_NONE for any other type. The continuation of a list is the index of
+ * another list, which has to be below the list's own index. */
 uint32_t pdb_type_fields(const uint8_t *record, size_t record_length, uint32_t index,
                          pdb_field *rows, size_t rows_length, size_t *count, uint8_t *names,
                          size_t names_length, size_t *size, pdb_fault *fault);
@@ -1202,11 +1115,11 @@ uint32_t pdb_types_fields(pdb_types *table, uint32_t index, pdb_field *rows, siz
                           size_t *count, uint8_t *names, size_t names_length, size_t *size,
                           pdb_fault *fault);
 
-/* Changes what the record of an enumerator says (PDB_ENUMERATE), so that its value is a number of
- * the type under its enumeration, which gives it its sign and its width. In the record a value has
- * the width that it needs, and one byte (LF_CHAR) has no sign: 0x80 stands for 128, and is -128 of
- * a `char`. Nothing is changed if that type is not a primitive one of integers of at most 64 bits,
- * and nothing of any other record. */
+/* Converts the value of an enumerator (PDB_ENUMERATE) to the sign and the width of the type under
+ * its enumeration. A record stores a value in as few bytes as it needs. pdb_type_parse takes one
+ * byte (LF_CHAR) as unsigned, so 0x80 is 128. This call takes it as signed: 0x80 becomes -128 if
+ * the type is `int`, and 0xffffff80 if it is `unsigned int`. Nothing changes if the type is no
+ * primitive integer of at most 64 bits, or the record is no enumerator. */
 void pdb_enumerator_typed(pdb_type_info *info, uint32_t underlying_type);
 
 /* Writes what the record of an id says, given the record's bytes. */
@@ -1217,16 +1130,16 @@ uint32_t pdb_id_parse(const uint8_t *record, size_t record_length, pdb_type_info
 uint32_t pdb_id_name(const uint8_t *record, size_t record_length, uint8_t *room, size_t room_length,
                      size_t *length, pdb_fault *fault);
 
-/* Copies the ids in the build information of a module, or of the parts of a text. The status is
- * PDB_NONE for any other id. */
+/* Copies the ids in the build information of a module, or those of the parts of a text. The status
+ * is PDB_NONE for any other id. */
 uint32_t pdb_id_list(const uint8_t *record, size_t record_length, uint32_t *room,
                      size_t room_length, size_t *length, pdb_fault *fault);
 
 /* ---- definitions of types, their sizes and layouts
  *
- * A definition is a class, a union or an enumeration that is not only declared. The definition of a
- * type that is only declared (PDB_PROPERTY_FORWARD_REFERENCE) is the first one in the table of its
- * unique name, or of its name if it has no unique name. */
+ * A definition is a class, a union or an enumeration that is not only declared. A type that is
+ * only declared (PDB_PROPERTY_FORWARD_REFERENCE) is defined by the first definition in the table
+ * that has its unique name, or its name if it has no unique name. */
 
 /* Opens the table of types in a stream, which is copied, and finds its definitions in one walk. The
  * table has to end where the stream does; a record that can't be read defines nothing. */
@@ -1241,7 +1154,7 @@ uint32_t pdb_definitions_named(pdb_definitions *definitions, const uint8_t *name
                                size_t *length, pdb_fault *fault);
 
 /* Writes the index of the definition of a type, which is its own index if it is a definition. The
- * status is PDB_NONE if the table doesn't define it, and for any other type. */
+ * status is PDB_NONE if the table doesn't define it, or it is no class, union or enumeration. */
 uint32_t pdb_definition_of(pdb_definitions *definitions, uint32_t index, uint32_t *definition,
                            pdb_fault *fault);
 
@@ -1250,9 +1163,9 @@ uint32_t pdb_definition_of(pdb_definitions *definitions, uint32_t index, uint32_
 uint32_t pdb_type_size(pdb_definitions *definitions, uint32_t index, uint64_t *size,
                        pdb_fault *fault);
 
-/* Copies the declaration of a name that has a type, in C++, such as "int (*compare)(char)", or the
- * text of the type alone if the name is empty. It has at most 65,536 bytes, and ends with ".." if
- * it is cut. What the text says is tested, and not proved. */
+/* Copies the C++ text that declares a name, which may be any text, with the type of an index, such
+ * as "int (*compare)(char)", or the text of the type alone if the name is empty. It has at most
+ * 65,536 bytes, and ends with ".." if it is cut. What the text says is tested, and not proved. */
 uint32_t pdb_type_text(pdb_definitions *definitions, uint32_t index, const uint8_t *name,
                        size_t name_length, uint8_t *room, size_t room_length, size_t *length,
                        pdb_fault *fault);
@@ -1266,11 +1179,11 @@ enum pdb_layout_kind {
     PDB_LAYOUT_MEMBER = 3,                   /* a data member */
     PDB_LAYOUT_HOLE = 4,                     /* whole bytes that no field takes */
     PDB_LAYOUT_UNUSED_BITS = 5,              /* bits that are left over in bytes of fields */
-    PDB_LAYOUT_VIRTUAL_BASES = 6             /* the bytes after all fields of a class that has
-                                                virtual bases, whose places no record says */
+    PDB_LAYOUT_VIRTUAL_BASES = 6             /* the bytes after all fields, where virtual bases lie:
+                                                no record says exactly where */
 };
 
-/* How far a row of a layout goes. */
+/* How the size of a row of a layout is given. */
 enum pdb_extent {
     PDB_EXTENT_BYTES = 0,
     PDB_EXTENT_BITS = 1,
@@ -1289,16 +1202,17 @@ typedef struct pdb_layout_row {
     uint32_t type_index;    /* of a field: its type */
     uint32_t base_class;    /* of a pointer to a table of virtual bases: the virtual base class */
     uint32_t base_position; /* the position of that class in the table */
-    uint32_t is_direct;     /* whether the class itself names that class, 0 or 1 */
+    uint32_t is_direct;     /* whether that class is a direct base, 0 or 1 */
 } pdb_layout_row;
 
-/* Writes the layout of a class, a structure, an interface or a union: a row for each field in the
- * order of their records, and then rows for the bits that no field takes. It also writes the bytes
- * of the members' names, one name after another. Each bit of the class, up to 8 times its size, is
- * a bit of a field, or else of exactly one of the other rows. Fields may overlap, as those of a
- * union do, and in a damaged file they may go beyond the size. A base class that has virtual bases
- * ends before these, which the class holds elsewhere. The status is PDB_NONE if the
- * type has no definition, or its definition is an enumeration. */
+/* Writes the layout of a class, a structure, an interface or a union: a row for each base class,
+ * pointer to a table and data member (none for methods, static members and nested types), in the
+ * order of their records, and then rows for the bits that none of these fields takes. It also
+ * writes the bytes of the members' names, one name after another. Each bit of the class (8 times
+ * its size) is in a field, or else in exactly one of the other rows. Fields may overlap, as those
+ * of a union do, and in a damaged file they may go beyond the size. The row of a base class ends
+ * before its virtual bases, which the class holds elsewhere. The status is PDB_NONE if the type has
+ * no definition, or its definition is an enumeration. */
 uint32_t pdb_layout(pdb_definitions *definitions, uint32_t index, pdb_layout_row *rows,
                     size_t rows_length, size_t *count, uint8_t *names, size_t names_length,
                     size_t *size, pdb_fault *fault);

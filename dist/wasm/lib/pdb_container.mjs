@@ -106,16 +106,14 @@ class Library {
 class File {
   #library;
   #bytes;
-  #length;
   #handle;
 
   constructor(library, data) {
     this.#library = library;
-    this.#length = BigInt(data.length);
     this.#bytes = library.place(data);
     this.#handle = library.room(32);
     try {
-      library.call("pdb_bytes_open", [this.#bytes, this.#length, this.#handle]);
+      library.call("pdb_file_open", [this.#bytes, BigInt(data.length), this.#handle]);
     } catch (error) {
       this.close();
       throw error;
@@ -155,7 +153,7 @@ class File {
 
   /** The bytes of a stream; undefined where there is no such stream. */
   stream(number) {
-    return this.#array("pdb_bytes_stream", this.#handle, this.#bytes, this.#length, number, ALL);
+    return this.#array("pdb_file_stream", this.#handle, number, ALL);
   }
 
   /** The bytes of the stream of a name, such as "/names". */
@@ -164,7 +162,7 @@ class File {
     const encoded = new TextEncoder().encode(name);
     const at = library.place(encoded);
     try {
-      return this.#array("pdb_bytes_named_stream", this.#bytes, this.#length, at, BigInt(encoded.length));
+      return this.#array("pdb_file_named_stream", this.#handle, at, BigInt(encoded.length));
     } finally {
       library.free(at);
     }

@@ -70,7 +70,7 @@ complete -c pdbdump -n '__fish_seen_subcommand_from where' -l json -d 'Write eac
 complete -c pdbdump -n '__fish_seen_subcommand_from where' -l help -d 'Print help'
 complete -c pdbdump -n '__fish_seen_subcommand_from validate' -l all -d 'Show every finding of each part'
 complete -c pdbdump -n '__fish_seen_subcommand_from validate' -l strict -d 'End with status 1 for a warning too'
-complete -c pdbdump -n '__fish_seen_subcommand_from validate' -l quiet -d 'Write nothing'
+complete -c pdbdump -n '__fish_seen_subcommand_from validate' -l quiet -d 'Write nothing to standard output'
 complete -c pdbdump -n '__fish_seen_subcommand_from validate' -l json -d 'Write each line as a JSON object'
 complete -c pdbdump -n '__fish_seen_subcommand_from validate' -l help -d 'Print help'
 complete -c pdbdump -n '__fish_seen_subcommand_from layout' -l style -x -a 'c dt' -d 'How layouts are shown'
