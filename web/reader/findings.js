@@ -28,6 +28,22 @@ const INCONSISTENCIES = [
   (offset) => `no name begins at offset ${offset}`,
   (count) => `the buckets do not hold ${count} names`,
   () => "the section begins below the end of the one before it",
+  (number) => `the number of the free page map is ${number}, and neither 1 nor 2`,
+  (count) => `the file has fewer than the ${count} pages that are in use`,
+  (version) => `version ${version} is not known`,
+  (machine) => `machine ${hexadecimal(machine)} is not known`,
+  (count) => `the table of names does not have ${count} streams`,
+  (number) => `the records do not end where the number ${number} in the header says`,
+  (size) => `no table has hashes of this size or as many buckets: ${size}`,
+  () => "the records have no hash stream",
+  (size) => `a part of ${size} bytes does not fit the hash stream`,
+  (offset) => `the hash of the name at offset ${offset} does not lead to its bucket`,
+  () => "the entry of the module ends behind the list of modules",
+  (stream) => `a module takes more bytes than there are in stream ${stream}`,
+  (version) => `no hash table of symbols has signature or version ${hexadecimal(version)}`,
+  () => "the hash table of symbols does not have the size it says",
+  () => "the parts of the publics do not add up to their stream",
+  () => "the record of the symbol ends behind its stream",
 ];
 
 /** The first thing that is wrong in each part of a file. */
