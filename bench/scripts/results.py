@@ -13,20 +13,20 @@ WORKS = {
     "find": ("100,000 finds", "types", "LLVM"),
     "build_and_find": ("build a finder, 100,000 finds, parse each", "types", "LLVM"),
     "queries": ("100,000 queries of types in one run", "types", "LLVM"),
-    "queries_beside_finds": ("the same, beside our finder and parse", "types", "ours"),
-    "few_queries": ("10,000 queries, beside our finder and parse", "types", "ours"),
+    "queries_beside_finds": ("100,000 queries, against our finder and parse", "types", "ours"),
+    "few_queries": ("10,000 queries, against our finder and parse", "types", "ours"),
     "omap": ("100,000 OMAP look-ups", "records", "C"),
     "ranges": ("100,000 OMAP ranges of 256", "records", "C"),
     "frames": ("100,000 frames at an address", "frames", "C"),
     "names": ("100,000 names", "names", "LLVM"),
     "border_walk": ("walk along the types, through C", "types", "LLVM"),
-    "border_walk_beside_ours": ("the same, beside our own walk", "types", "ours"),
+    "border_walk_beside_ours": ("walk through C, against our own", "types", "ours"),
     "border_rows": ("walk, and parse each type as a row, through C", "types", "LLVM"),
-    "border_rows_beside_ours": ("the same, beside our own walk and parse", "types", "ours"),
+    "border_rows_beside_ours": ("walk and parse through C, against our own", "types", "ours"),
     "border_find": ("100,000 finds, through C", "types", "LLVM"),
-    "border_find_beside_ours": ("the same, beside our own finds", "types", "ours"),
+    "border_find_beside_ours": ("100,000 finds through C, against our own", "types", "ours"),
     "border_names": ("100,000 names, through C", "names", "LLVM"),
-    "border_names_beside_ours": ("the same, beside our own names", "names", "ours"),
+    "border_names_beside_ours": ("100,000 names through C, against our own", "names", "ours"),
 }
 
 # The panels of the plot: a workload, what it is over, and what its size counts.
@@ -87,14 +87,14 @@ def page(about, rows, taken, programs):
     size = megabytes(about["file"].stat().st_size)
     text = f"""# Measured
 
-By `bench/run` on {about['date']} at {about['commit']}: {about['machine']}; {about['kit']}; LLVM {about['LLVM']}. {about['rounds']} rounds of neighbouring turns in one process, thread processor time, medians; in brackets the quartiles of the ratios, ours to theirs. [README](../README.md) says what is measured. Both sides' sums agreed in each row.
+By `bench/run` on {about['date']} at {about['commit']}: {about['machine']}; {about['kit']}; LLVM {about['LLVM']}. Both sides ran in one process, in turns, {about['rounds']} rounds; each time is the median of a thread's processor time, each ratio ours divided by theirs, with its quartiles in brackets. Where the second time says (ours), another part of this library did the same work. [README](../README.md) says what is measured. In each row both sides had the same answers, by a sum over them.
 
 {table(["work", "on", "size", "ours", "LLVM's", "ratio"], map(cells, rows))}
 ![How time grows with the number of types, streams and OMAP records](growth.svg)
 
 ## Memory
 
-Over {about['file'].name}, a file of {size}: the bytes by which the process grows at most. A finder of ours is beside the stream, which its table keeps; LLVM's refers to the file.
+Over {about['file'].name}, a file of {size}: the bytes by which the process grows at most. Our finder's figure doesn't include the stream, which our table holds in memory; LLVM's finder reads from the file.
 
 {table(["", "ours", "LLVM's"], [[what, *map(megabytes, pair)] for what, pair in taken.items()])}"""
     if programs:

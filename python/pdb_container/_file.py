@@ -26,7 +26,7 @@ class Information:
     """The numbers that identify a file."""
 
     version: int  # of the format, such as 20000404 for version 7
-    signature: int  # the time at which the file was made, in seconds since 1970
+    signature: int  # the time at which the file was made, in seconds since 1970, or a hash in its place
     age: int  # how often the file was written
     guid: uuid.UUID
 

@@ -47,7 +47,7 @@ class IdentityFlag(IntFlag):
 
 class Feature(IntFlag):
     """The features that the file tells of itself, in the numbers after the stream names in stream
-    1. They are read up to the number of VC110, if that is there."""
+    1. If VC110 is among them, those behind it are not read."""
 
     VC110 = 1
     VC140 = 2

@@ -49,7 +49,7 @@ def _finding(it: _sys.Finding) -> Finding:
 def validate(data: Buffer, every: bool = False) -> List[Finding]:
     """What is wrong in the bytes of a file: the first error of each part, or its first warning if it has no error; with
     `every`, everything. The file is whole exactly if all of it are warnings: its types, ids, names, sections, addresses
-    and frames; of modules and symbols only the sizes are read."""
+    and frames; modules and symbols are not read, only their sizes are checked."""
     lent = Lent(data)
     with lent as place:
         lent.release()

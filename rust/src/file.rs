@@ -186,7 +186,7 @@ impl<'f> Pdb<'f> {
 pub struct Information {
     /// The version of the format, such as 20000404 for version 7.
     pub version: u32,
-    /// The time at which the file was made, in seconds since 1970.
+    /// The time at which the file was made, in seconds since 1970, or a hash in its place.
     pub signature: u32,
     /// How often the file was written.
     pub age: u32,

@@ -1,7 +1,9 @@
 /* Program databases (PDB): streams, names, addresses, frames, types, their layouts, and ids.
  *
- * Every call that can fail returns a status of enum pdb_status and writes it to `fault`, with the
- * numbers that go with it. pdb_status_text gives the text of a status.
+ * Every call that can fail returns a status of enum pdb_status, and writes the status and the
+ * numbers that go with it to `fault`. pdb_status_text gives the text of a status.
+ *
+ * Texts that are copied, such as names and keys, have no NUL at their end.
  *
  * A call that writes an array takes the array, its length, and where to put the length of the
  * answer. Ask for the length, then fill:
@@ -19,10 +21,12 @@
  * room for, also before PDB_END or an error.
  *
  * The caller must ensure the following, which nothing checks:
- * - A pointer points to as many items as its length says. It may be null if that is 0, and no
- *   other pointer is null. What a call writes does not overlap anything else that it is given.
+ * - A pointer points to as many items as its length says. It may be null if that is 0.
+ *   pdb_file_close, pdb_names_close and their like accept null, and no other pointer is null. What
+ *   a call writes does not overlap anything else that it is given.
  * - A handle, such as a pdb_file, is all zero before it is first opened. It is not copied. It may
- *   move to another thread, but two threads never use one handle at once.
+ *   move to another thread, but two threads never use one handle at once. Different handles, and
+ *   calls without one, share nothing.
  * - The bytes that a file is opened with stay where they are until the file is closed, and do not
  *   change during a call. A call after a change reads the changed bytes.
  * - A structure that a call writes is initialized before, such as with = {0}.
@@ -176,7 +180,8 @@ typedef struct pdb_definitions {
     pdb_handle handle;
 } pdb_definitions;
 
-/* Closes a handle and frees what it held. A handle that holds nothing is left unchanged. */
+/* Closes a handle, which isn't null, and frees what it held. A handle that holds nothing is left
+ * unchanged. What was opened from a file may be used when the file is closed. */
 void pdb_close(pdb_handle *handle);
 
 /* These close each kind of handle. Like free, they accept NULL. */
@@ -233,8 +238,8 @@ enum pdb_identity_flag {
     PDB_TYPES_MAY_CONFLICT = 4
 };
 
-/* The features that the file tells of itself, in the numbers after the stream names in stream 1.
- * They are read up to the number of VC110, if that is there. */
+/* The features that the file tells of itself, in the numbers after the stream names in stream 1. If
+ * VC110 is among them, those behind it are not read. */
 enum pdb_feature {
     PDB_FEATURE_VC110 = 1,         /* in the format of Visual C++ 11, with a table of ids */
     PDB_FEATURE_VC140 = 2,         /* in the format of Visual C++ 14, with a table of ids */
@@ -354,8 +359,8 @@ typedef struct pdb_finding {
 
 /* Writes what is wrong in a file. If `every` is 0, this is the first error of each part, or its
  * first warning if it has no error; otherwise it is everything. The file is whole exactly if no
- * finding is an error. That is about its types, ids, names, sections, addresses and frames; of
- * modules and symbols only the sizes are read. */
+ * finding is an error. That is about its types, ids, names, sections, addresses and frames; modules
+ * and symbols are not read, only their sizes are checked. */
 uint32_t pdb_validate(const uint8_t *file, size_t file_length, uint32_t every, pdb_finding *room,
                       size_t room_length, size_t *length, pdb_fault *fault);
 
@@ -610,11 +615,12 @@ typedef struct pdb_frame {
     uint32_t program; /* the offset of its unwind program in the string table, or 0 */
 } pdb_frame;
 
-/* Writes the frame for an address of the original image. In the stream of each format, this is the
- * one that starts at the address; or else the last one that starts below it, if its code contains
- * the address; or else the first above it. Of both, it is the one with the lower start: compare
- * code_start and code_size with the address. The status is PDB_NONE if there is none. If the starts
- * of a stream don't increase, it is any frame, or none. */
+/* Writes the frame for an address of the original image. A file has up to two streams of frames,
+ * one in an old format and one in a new one. Each is searched for the frame that starts at the
+ * address; or else for the last one that starts below it, if its code contains the address; or else
+ * for the first above it. If frames are found in both, the one with the lower start is written. So
+ * compare code_start and code_size with the address. The status is PDB_NONE if there is none. If
+ * the starts of a stream don't increase, any of its frames may be found, or none. */
 uint32_t pdb_frames_at(pdb_frames *frames, uint32_t address, pdb_frame *frame, pdb_fault *fault);
 
 /* Writes all frames, ordered by their starts. If records of both formats start at one address, only
@@ -1147,8 +1153,9 @@ uint32_t pdb_definitions_open(const uint8_t *stream, size_t stream_length,
                               pdb_definitions *definitions,
                               pdb_fault *fault);
 
-/* Copies the indexes of all definitions of a name, in increasing order. There may be none, and then
- * the length is 0. */
+/* Copies the indexes of all definitions of a name, in increasing order. The name is the one in the
+ * source, with its scopes, such as "Outer::Inner", byte by byte. There may be none, and then the
+ * length is 0. */
 uint32_t pdb_definitions_named(pdb_definitions *definitions, const uint8_t *name,
                                size_t name_length, uint32_t *room, size_t room_length,
                                size_t *length, pdb_fault *fault);
@@ -1193,12 +1200,13 @@ enum pdb_extent {
 /* A row of a layout: a field, or bits that no field takes. Numbers that don't apply are 0. */
 typedef struct pdb_layout_row {
     uint64_t offset;        /* the byte where it begins, counted from the start of the class */
-    uint64_t size;          /* of whole bytes: how many it takes */
+    uint64_t size;          /* if the extent is bytes: how many it takes */
     size_t name_length;     /* of a member: the length of its name in bytes */
     uint32_t kind;          /* a value of enum pdb_layout_kind */
     uint32_t extent;        /* a value of enum pdb_extent */
-    uint32_t bit;           /* of bits: the first, counted from the lowest one of that byte */
-    uint32_t bits;          /* of bits: how many it takes */
+    uint32_t bit;           /* if the extent is bits: the first, counted from the lowest bit of the
+                               byte at `offset` */
+    uint32_t bits;          /* if the extent is bits: how many it takes */
     uint32_t type_index;    /* of a field: its type */
     uint32_t base_class;    /* of a pointer to a table of virtual bases: the virtual base class */
     uint32_t base_position; /* the position of that class in the table */
