@@ -46,7 +46,8 @@ pub(crate) fn no_image_text(format: Format) -> &'static str {
         Format::Msf7 => "not a program (PE), but a program database",
         Format::Msf2 => "not a program (PE), but a program database of the older format MSF 2.00",
         Format::Portable => "not a program (PE), but a portable program database of .NET",
-        Format::Compressed => "not a program (PE), but a compressed file: expand it first",
+        Format::Compressed =>
+            "not a program (PE), but a compressed file of a symbol server: expand it first",
         Format::Image | Format::Unknown => "not a program (PE)",
     }
 }
