@@ -24,6 +24,6 @@ pub record IsSentenceTold (refusal : Refusal) (err err' : OutputState) (status :
   pub told : GetsUnlessFailed err err' line
 
 -- A fault is reported by a sentence, or by the library's text.
-abbrev pub IsFaultTold : Error → OutputState → OutputState → ℕ → Type 0
+unfoldable pub IsFaultTold : Error → OutputState → OutputState → ℕ → Type 0
 IsFaultTold fault err err' status =
     IsSentenceTold (refusal_of fault) err err' status ⊎ IsFaultReported fault err err' status

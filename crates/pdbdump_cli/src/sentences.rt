@@ -20,6 +20,7 @@ fn report<E: Write>(line: &[u8], err: &mut Output<E>) -> u8
 }
 
 /// Writes to the error channel that no record has an index, and returns the status, which is 1.
+#[tactic(auto, unfolding(crate::specs::Sentences::IsFaultTold))]
 fn tell_missing<E: Write>(alloc: Global, index: u32, err: &mut Output<E>) -> u8
     ensures { IsFaultTold (TypeNotFound index) err.old err.new result }
 {
@@ -31,6 +32,7 @@ fn tell_missing<E: Write>(alloc: Global, index: u32, err: &mut Output<E>) -> u8
 
 /// Writes a fault to the error channel: by a sentence, where its own text is only its name or has an
 /// index as a decimal number. Returns the status, which is 1.
+#[tactic(auto, unfolding(crate::specs::Sentences::IsFaultTold))]
 pub(crate) fn tell<E: Write>(alloc: Global, fault: &Error, err: &mut Output<E>) -> u8
     ensures { IsFaultTold fault.now err.old err.new result }
 {
