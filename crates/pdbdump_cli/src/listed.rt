@@ -35,8 +35,8 @@ fn ids_number(stream: Option<u32>) -> u32
     stream.unwrap_or(ID_STREAM)
 }
 
-/// Lists the types of the table in a stream, or only the one of an index. `is_whole` becomes false if one of
-/// several can't be parsed.
+/// Lists the types of the table in a stream, or only the one of an index. `is_whole` becomes false if
+/// one of several can't be parsed.
 fn list_types<S: Source + Drop, W: Write>(
     alloc: Global,
     file: PDB<S>,
@@ -56,8 +56,8 @@ fn list_types<S: Source + Drop, W: Write>(
     }
 }
 
-/// Lists the ids of the table in a stream, or only the one of an index. `is_whole` becomes false if one of
-/// several can't be parsed.
+/// Lists the ids of the table in a stream, or only the one of an index. `is_whole` becomes false if one
+/// of several can't be parsed.
 fn list_ids<S: Source + Drop, W: Write>(
     alloc: Global,
     file: PDB<S>,

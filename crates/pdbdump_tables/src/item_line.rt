@@ -26,8 +26,8 @@ pub(crate) struct RecordHead {
     pub(crate) place: ItemPlace,
 }
 
-/// Adds the fields of the type of a record, or of why it can't be parsed. Then `is_whole`
-/// becomes false.
+/// Adds the fields of the type of a record, or of why it can't be parsed. Then `is_whole` becomes
+/// false.
 ///
 /// # Errors
 /// Fails if an allocation fails, or if that is why.
@@ -90,8 +90,8 @@ pub(crate) fn make_type(
     line.finish(added)
 }
 
-/// Adds the fields of the id of a record, or of why it can't be parsed. Then `is_whole`
-/// becomes false.
+/// Adds the fields of the id of a record, or of why it can't be parsed. Then `is_whole` becomes
+/// false.
 ///
 /// # Errors
 /// Fails if an allocation fails, or if that is why.

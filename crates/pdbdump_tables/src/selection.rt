@@ -73,10 +73,7 @@ impl Selection<'_, '_> {
         if self.leaves_out_forward && is_forward(value) {
             return Ok(false);
         }
-        if !self.has_used() {
-            return Ok(true);
-        }
-        search.used.has_reference(value)
+        Ok(!self.has_used() || search.used.has_reference(value)?)
     }
 
     /// Returns whether an id is listed, whose record is of this kind.
