@@ -45,6 +45,13 @@ fn list_selected<W: Write>(
     }
 }
 
+/// Writes a line to the error channel. Then not all is there.
+fn report_line<E: Write>(line: &[u8], err: &mut Output<E>)
+    ensures { (start : OutputState) (whole : Bool) → Accounts start err.old whole → Accounts start err.new false }
+{
+    err.report(line)
+}
+
 /// Reports that a name was not found in a table.
 fn report_name<E: Write>(alloc: Global, table: Table, name: &str, err: &mut Output<E>) -> Result<()>
     ensures reported { OnOk result ((start : OutputState) (whole : Bool) → Accounts start err.old whole
@@ -58,7 +65,7 @@ fn report_name<E: Write>(alloc: Global, table: Table, name: &str, err: &mut Outp
     let mut line = Vec::from_slice(alloc, front)?;
     line.extend_from_slice(&escape_text(alloc, name.as_bytes())?)?;
     line.push(b'\n')?;
-    err.report(&line);
+    report_line(&line, err);
     Ok(())
 }
 
@@ -111,7 +118,7 @@ fn report_unread<E: Write>(is_whole: bool, has_all: bool, err: &mut Output<E>) -
     if is_whole {
         return has_all;
     }
-    err.report(UNREAD);
+    report_line(UNREAD, err);
     false
 }
 
