@@ -5,7 +5,7 @@ pub mod Declaration
 pub mod NameHash
 pub mod Definition
 pub mod DefinitionLaws
-pub mod Entries
+pub mod Numbering
 pub mod Size
 pub mod Shortcut
 pub mod DefinitionIndex
