@@ -6,6 +6,7 @@ pub mod NameHash
 pub mod Definition
 pub mod DefinitionLaws
 pub mod Numbering
+pub mod DefinitionWalk
 pub mod Size
 pub mod Shortcut
 pub mod DefinitionIndex

@@ -5,6 +5,7 @@ ghost use Rattle.pdb_base.specs.Answer.{Answers};
 ghost use Rattle.pdb_types.specs.Definition.{whole_table};
 ghost use Rattle.pdb_types.specs.DefinitionIndex.{IsIndexOf, index_kept};
 ghost use Rattle.pdb_tpi.specs.Table.{Table};
+ghost use Rattle.pdb_types.specs.DefinitionWalk.{IsWalk};
 ghost use Rattle.pdb_types.specs.Numbering.{AreCandidates, IsNumbered};
 
 use crate::definition_walk::DefinitionWalk;
@@ -44,7 +45,7 @@ impl DefinitionIndex {
         types: &OpenTable<TypeIndex>,
         walk: DefinitionWalk,
     ) -> AllocResult<Self>
-        requires { IsNumbered types.now.table walk.numbering walk.numbers.items }
+        requires { IsWalk types.now.table walk }
         ensures { IfOk result (IsIndexOf types.now.table) }
     {
         let has_names = walk.has_wide_enumeration;
@@ -84,7 +85,7 @@ impl DefinitionIndex {
         ensures index { IfOk result (IsIndexOf types.now.table) }
         ensures walked { Answers (λ _. types.now.table) result (whole_table types.now.table) }
     {
-        let walk = DefinitionWalk::sorted(alloc, types, true)?;
+        let walk = DefinitionWalk::named(alloc, types)?;
         Ok(DefinitionIndex::of_walk(alloc, types, walk)?)
     }
 }

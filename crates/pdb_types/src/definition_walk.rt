@@ -7,7 +7,8 @@ ghost use Rattle.pdb_tpi.specs.Record.{type_of};
 ghost use Rattle.pdb_tpi.specs.Steps.{walk_rest};
 ghost use Rattle.pdb_types.specs.Declaration.{declaration_value};
 ghost use Rattle.pdb_types.specs.Definition.{if_none_left, whole_table};
-ghost use Rattle.pdb_types.specs.Numbering.{IsNumbered, all_numbers, is_list, numbers_of, source_numbers, unique_numbers};
+ghost use Rattle.pdb_types.specs.DefinitionWalk.{IsUnlessGivenUp, IsWalk, gives_up};
+ghost use Rattle.pdb_types.specs.Numbering.{all_numbers, is_list, numbers_of, source_numbers, unique_numbers};
 ghost use Rattle.pdb_values.specs.TypeView.{type_value};
 
 use crate::declaration::{Declaration, declaration_of};
@@ -87,15 +88,12 @@ fn push_unique(
 
 impl DefinitionWalk {
     /// Notes a type.
-    fn note_value(
-        &mut self,
-        numbering: Numbering,
-        index: TypeIndex,
-        value: &TypeData<'_>,
-    ) -> AllocResult<()>
-        ensures { OnOk result (self.new.numbers.items
-            ≡ self.old.numbers.items ++ numbers_of numbering index.0 (Ok (type_value value.now))) }
+    fn note_value(&mut self, index: TypeIndex, value: &TypeData<'_>) -> AllocResult<()>
+        ensures kept { self.new.numbering ≡ self.old.numbering }
+        ensures added { OnOk result (self.new.numbers.items
+            ≡ self.old.numbers.items ++ numbers_of self.old.numbering index.0 (Ok (type_value value.now))) }
     {
+        let numbering = self.numbering;
         self.has_wide_enumeration |= is_wide_enumeration(value, numbering.least);
         match declaration_of(value) {
             Some(names) if names.is_forward() => {
@@ -113,36 +111,45 @@ impl DefinitionWalk {
     /// Notes the type of an item, if it can be read.
     fn note_read(&mut self, alloc: Global, numbering: Numbering, item: &Type<'_>) -> AllocResult<()>
         ensures { OnOk result (self.new.numbers.items ≡ self.old.numbers.items
-            ++ numbers_of numbering (index_of item.now).0
+            ++ numbers_of self.old.numbering (index_of item.now).0
             (type_of (index_of item.now).0 (item_bytes item.now))) }
     {
         match item.parse(alloc) {
-            Ok(value) => self.note_value(numbering, item.index(), &value),
+            Ok(value) => self.note_value(item.index(), &value),
             Err(Error::OutOfMemory) => Err(AllocError),
             Err(_) => Ok(()),
         }
     }
 
     /// Notes the type of an item. A list has no name, and isn't read.
-    fn note(&mut self, alloc: Global, numbering: Numbering, item: &Type<'_>) -> AllocResult<()>
-        ensures { OnOk result (self.new.numbers.items ≡ self.old.numbers.items
-            ++ numbers_of numbering (index_of item.now).0
+    fn note(&mut self, alloc: Global, item: &Type<'_>) -> AllocResult<()>
+        ensures kept { self.new.numbering ≡ self.old.numbering }
+        ensures added { OnOk result (self.new.numbers.items ≡ self.old.numbers.items
+            ++ numbers_of self.old.numbering (index_of item.now).0
             (type_of (index_of item.now).0 (item_bytes item.now))) }
     {
         if is_list(item.raw_kind()) {
             return Ok(());
         }
-        self.note_read(alloc, numbering, item)
+        self.note_read(alloc, item)
     }
 
-    /// Walks along a table.
+    /// Returns whether a type seeks a name that isn't numbered.
+    fn gives_up(&self) -> bool
+        ensures { result ≡ gives_up self.now }
+    {
+        self.seeks_source_names && !self.numbering.has_source_names
+    }
+
+    /// Walks along a table, up to a type that seeks a name that isn't numbered.
     ///
     /// # Errors
     /// Fails with the fault at which the walk stops if that is before the end of the table, and
     /// with `OutOfMemory` if an allocation fails.
     fn along(alloc: Global, table: &TypeInformation, numbering: Numbering) -> Result<Self>
-        ensures { Answers (λ walk. walk.numbers.items) result
-            (if_none_left (all_numbers numbering table.now) (walk_rest table.now)) }
+        ensures kept { IfOk result (λ walk. walk.numbering ≡ numbering) }
+        ensures walked { IsUnlessGivenUp result (Answers (λ walk. walk.numbers.items) result
+            (if_none_left (all_numbers numbering table.now) (walk_rest table.now))) }
     {
         let mut items = table.iter();
         let mut found = DefinitionWalk {
@@ -152,27 +159,38 @@ impl DefinitionWalk {
             has_wide_enumeration: false,
         };
         while let Some(item) = items.next()? {
-            found.note(alloc, numbering, &item)?;
+            found.note(alloc, &item)?;
+            if found.gives_up() {
+                break;
+            }
         }
         Ok(found)
     }
 
-    /// Walks along a table, and sorts the numbers.
+    /// Walks along a table as `along` does, and sorts the numbers.
     ///
     /// # Errors
     /// Fails as `along` does.
-    pub(crate) fn sorted(
-        alloc: Global,
-        types: &OpenTable<TypeIndex>,
-        has_source_names: bool,
-    ) -> Result<Self>
-        ensures numbered { IfOk result (λ walk. IsNumbered types.now.table walk.numbering walk.numbers.items) }
-        ensures walked { Answers (λ _. types.now.table) result (whole_table types.now.table) }
+    fn sorted(alloc: Global, types: &OpenTable<TypeIndex>, has_source_names: bool) -> Result<Self>
+        ensures kept { IfOk result (λ walk. walk.numbering.has_source_names ≡ has_source_names) }
+        ensures numbered { IsUnlessGivenUp result (IfOk result (IsWalk types.now.table)) }
+        ensures walked { IsUnlessGivenUp result (Answers (λ _. types.now.table) result (whole_table types.now.table)) }
     {
         let numbering = Numbering::of(types, has_source_names);
         let mut walk = DefinitionWalk::along(alloc, types.items(), numbering)?;
         walk.numbers.sort_unstable_by_key(|number| *number);
-        Ok(DefinitionWalk { numbering, ..walk })
+        Ok(walk)
+    }
+
+    /// Walks along a table, and sorts the numbers of all names.
+    ///
+    /// # Errors
+    /// Fails as `along` does.
+    pub(crate) fn named(alloc: Global, types: &OpenTable<TypeIndex>) -> Result<Self>
+        ensures numbered { IfOk result (IsWalk types.now.table) }
+        ensures walked { Answers (λ _. types.now.table) result (whole_table types.now.table) }
+    {
+        DefinitionWalk::sorted(alloc, types, true)
     }
 
     /// Walks along a table, and sorts the numbers of the names by which its types seek definitions:
@@ -181,14 +199,14 @@ impl DefinitionWalk {
     /// # Errors
     /// Fails as `along` does.
     pub(crate) fn sought(alloc: Global, types: &OpenTable<TypeIndex>) -> Result<Self>
-        ensures numbered { IfOk result (λ walk. IsNumbered types.now.table walk.numbering walk.numbers.items) }
+        ensures numbered { IfOk result (IsWalk types.now.table) }
         ensures walked { Answers (λ _. types.now.table) result (whole_table types.now.table) }
     {
         let walk = DefinitionWalk::sorted(alloc, types, false)?;
-        if !walk.seeks_source_names {
+        if !walk.gives_up() {
             return Ok(walk);
         }
         drop(walk);
-        DefinitionWalk::sorted(alloc, types, true)
+        DefinitionWalk::named(alloc, types)
     }
 }

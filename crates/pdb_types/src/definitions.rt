@@ -111,17 +111,17 @@ impl<'t> Definitions<'t> {
     fn first_numbered(
         &self,
         alloc: Global,
-        index: &DefinitionIndex,
+        names: &DefinitionIndex,
         name: TypeName<'_>,
     ) -> Result<Option<TypeIndex>>
-        requires of_table { IsIndexOf self.now index.now }
-        requires numbered { is_numbered index.now.numbering (type_name name.entry) ≡ true }
+        requires of_table { IsIndexOf self.now names.now }
+        requires numbered { is_numbered names.now.numbering (type_name name.entry) ≡ true }
         ensures { Answers (option_map (λ index. index.0)) result
             (Ok (first_definition self.now (type_name name.entry))) }
     {
-        let numbering = index.numbering;
+        let numbering = names.numbering;
         let first = numbering.first(name);
-        for number in index.candidates(first) {
+        for number in names.candidates(first) {
             let index = numbering.index(first, *number);
             if self.defines(alloc, index, name)? {
                 return Ok(Some(index));
@@ -134,20 +134,20 @@ impl<'t> Definitions<'t> {
     fn all_numbered(
         &self,
         alloc: Global,
-        index: &DefinitionIndex,
+        names: &DefinitionIndex,
         name: TypeName<'_>,
     ) -> Result<Vec<TypeIndex>>
-        requires of_table { IsIndexOf self.now index.now }
-        requires numbered { is_numbered index.now.numbering (type_name name.entry) ≡ true }
+        requires of_table { IsIndexOf self.now names.now }
+        requires numbered { is_numbered names.now.numbering (type_name name.entry) ≡ true }
         ensures { Answers (λ found. map (λ index. index.0) found.items) result
             (Ok (all_definitions self.now (type_name name.entry))) }
     {
-        let numbering = index.numbering;
+        let numbering = names.numbering;
         let first = numbering.first(name);
         let mut found = Vec::new(alloc);
         // A definition has two numbers in the row if both of its names do.
         let mut next = numbering.least as u64;
-        for number in index.candidates(first) {
+        for number in names.candidates(first) {
             let index = numbering.index(first, *number);
             if (index.0 as u64) < next {
                 continue;
@@ -188,11 +188,11 @@ impl<'t> Definitions<'t> {
         ensures { Answers (λ found. map (λ index. index.0) found.items) result
             (Ok (all_definitions self.now (type_name name.entry))) }
     {
-        let index = self.index();
-        if index.numbering.has(name) {
-            self.all_numbered(alloc, index, name)
+        let names = self.index();
+        if names.numbering.has(name) {
+            self.all_numbered(alloc, names, name)
         } else {
-            self.all_in_table(alloc, index.numbering, name)
+            self.all_in_table(alloc, names.numbering, name)
         }
     }
 
@@ -201,11 +201,11 @@ impl<'t> Definitions<'t> {
         ensures { Answers (option_map (λ index. index.0)) result
             (Ok (first_definition self.now (type_name name.entry))) }
     {
-        let index = self.index();
-        if index.numbering.has(name) {
-            return self.first_numbered(alloc, index, name);
+        let names = self.index();
+        if names.numbering.has(name) {
+            return self.first_numbered(alloc, names, name);
         }
-        let all = self.all_in_table(alloc, index.numbering, name)?;
+        let all = self.all_in_table(alloc, names.numbering, name)?;
         Ok(all.first().copied())
     }
 
