@@ -121,8 +121,8 @@ impl<'t> Definitions<'t> {
     {
         let numbering = names.numbering;
         let first = numbering.first(name);
-        for number in names.candidates(first) {
-            let index = numbering.index(first, *number);
+        for candidate in names.candidates(first) {
+            let index = numbering.index(first, *candidate);
             if self.defines(alloc, index, name)? {
                 return Ok(Some(index));
             }
@@ -147,12 +147,13 @@ impl<'t> Definitions<'t> {
         let mut found = Vec::new(alloc);
         // A definition has two numbers in the row if both of its names do.
         let mut next = numbering.least as u64;
-        for number in names.candidates(first) {
-            let index = numbering.index(first, *number);
-            if (index.0 as u64) < next {
+        for candidate in names.candidates(first) {
+            let index = numbering.index(first, *candidate);
+            let number = index.0 as u64;
+            if number < next {
                 continue;
             }
-            next = index.0 as u64 + 1;
+            next = number + 1;
             if !self.defines(alloc, index, name)? {
                 continue;
             }
