@@ -1,6 +1,7 @@
 -- The first definition of a name.
 use Rattle.std.proofs.Common.{◌≡◌, inl, inr, ℕ, ◌+◌, ◌-◌, ◌<◌, ◌≤◌, List, [], ◌∷◌, ◌++◌, length, subst, get_or, refl}
-use Rattle.std.proofs.Common.{zero, suc, sym, ap, ◌∙◌, arith, Bool, true, false, cond, eqb, leb, Option, Some, None, Ok, Err}
+use Rattle.std.proofs.Common.{zero, suc, sym, ap, ◌∙◌, arith, Bool, true, false, cond, eqb, leb, Option, Some, None}
+use Rattle.std.proofs.Common.{Ok, Err}
 use Rattle.std.specs.List.{filter, find, list_any, range_with_len, slice_get}
 use Rattle.std.specs.List.Sorted.{IsNonDecreasingBy}
 use Rattle.std.proofs.lemmas.Bool.{cases_Bool, cases_lt, both_ways, false_from_ne_true, eqb-true, leb-false, le-ltb}
@@ -14,7 +15,7 @@ use Rattle.pdb_types.specs.declared.numbering.Numbering.{Numbering}
 use Rattle.pdb_types.specs.Declaration.{TypeName}
 use Rattle.pdb_types.specs.Definition.{all_definitions, defines, first_definition}
 use Rattle.pdb_types.specs.DefinitionLaws.{IsFirstDefinition}
-use Rattle.pdb_types.specs.Numbering.{AreCandidates, first_number, index_told, is_numbered, most_above}
+use Rattle.pdb_types.specs.Numbering.{AreCandidates, first_number, index_of_number, is_numbered, most_above}
 use Rattle.pdb_types.specs.TypeAt.{type_at}
 use Rattle.pdb_types.proofs.NumberLemmas.{defined_near, defined_there}
 use Rattle.pdb_types.proofs.SearchLemmas.{filter_end, filter_next, find_first, find_none, find_found, find_missed}
@@ -48,7 +49,7 @@ defined_below table name index least is = let there = defined_there table name i
 pub record AreNumbersOf (table : Table) (name : TypeName) (first : ℕ) (numbers : List ℕ) : Type 0 where
   pub rising : IsNonDecreasingBy (λ number. number) numbers
   pub complete : (index : ℕ) → table.header.minimum_index ≤ index → defines name (type_at table index) ≡ true
-      → list_any (λ number. eqb (index_told table first number) index) numbers ≡ true
+      → list_any (λ number. eqb (index_of_number table first number) index) numbers ≡ true
 
 pub of_name : (table : Table) (numbering : Numbering) (name : TypeName) (first : ℕ) (numbers : List ℕ)
     → is_numbered numbering name ≡ true → first ≡ first_number numbering name
@@ -61,7 +62,7 @@ of_name table numbering name first numbers has same are = record {
 -- none of the first numbers tells a definition of the name
 abbrev pub NoneBefore : Table → TypeName → ℕ → List ℕ → ℕ → Type 0
 NoneBefore table name first numbers k = (i : ℕ) (d : ℕ) → i < k
-    → defines name (type_at table (index_told table first (get_or numbers i d))) ≡ false
+    → defines name (type_at table (index_of_number table first (get_or numbers i d))) ≡ false
 
 same_there : (numbers : List ℕ) (k d n : ℕ) → k < length numbers → get_or numbers k n ≡ n → get_or numbers k d ≡ n
 same_there numbers k d n within here = get_or_default numbers k d n within ∙ here
@@ -70,25 +71,26 @@ same_there numbers k d n within here = get_or_default numbers k d n within ∙ h
 pub number_first : (table : Table) (name : TypeName) (first : ℕ) (numbers : List ℕ) (k number : ℕ)
     → AreNumbersOf table name first numbers → NoneBefore table name first numbers k
     → k < length numbers → get_or numbers k number ≡ number
-    → defines name (type_at table (index_told table first number)) ≡ true
-    → first_definition table name ≡ Some (index_told table first number)
+    → defines name (type_at table (index_of_number table first number)) ≡ true
+    → first_definition table name ≡ Some (index_of_number table first number)
 unfolding first_definition
 number_first table name first numbers k number are before within here is =
-    let index = index_told table first number in
+    let index = index_of_number table first number in
     let least : table.header.minimum_index ≤ index = omega arith in
     let below = defined_below table name index least is in
     find_first (is_definition table name) table.header.minimum_index (count_in_header table) index least
     (omega (arith, least, below)) is
     (λ other above lower. false_from_ne_true (is_definition table name other) (λ also.
-    let found = Any-from_list_any (λ (n : ℕ). eqb (index_told table first n) other) numbers
+    let found = Any-from_list_any (λ (n : ℕ). eqb (index_of_number table first n) other) numbers
     (are.complete other above also) in
-    let its : index_told table first found.1 ≡ other = eqb-true (index_told table first found.1) other found.4 in
+    let its : index_of_number table first found.1 ≡ other =
+    eqb-true (index_of_number table first found.1) other found.4 in
     elim (cases_lt found.0 k) [
       | inl earlier ↦
-          let none : defines name (type_at table (index_told table first found.1)) ≡ false =
+          let none : defines name (type_at table (index_of_number table first found.1)) ≡ false =
           rw found.3 at (before found.0 found.1 earlier) in
-          let some : defines name (type_at table (index_told table first found.1)) ≡ true = rw its also in
-          both_ways (defines name (type_at table (index_told table first found.1))) none some
+          let some : defines name (type_at table (index_of_number table first found.1)) ≡ true = rw its also in
+          both_ways (defines name (type_at table (index_of_number table first found.1))) none some
       | inr later ↦
           let order = are.rising k found.0 number later found.2 in
           let second : get_or numbers found.0 number ≡ found.1 =
@@ -104,13 +106,14 @@ unfolding first_definition
 number_none table name first numbers are before =
     find_none (is_definition table name) table.header.minimum_index (count_in_header table)
     (λ other above below. false_from_ne_true (is_definition table name other) (λ also.
-    let found = Any-from_list_any (λ (n : ℕ). eqb (index_told table first n) other) numbers
+    let found = Any-from_list_any (λ (n : ℕ). eqb (index_of_number table first n) other) numbers
     (are.complete other above also) in
-    let its : index_told table first found.1 ≡ other = eqb-true (index_told table first found.1) other found.4 in
-    let none : defines name (type_at table (index_told table first found.1)) ≡ false =
+    let its : index_of_number table first found.1 ≡ other =
+    eqb-true (index_of_number table first found.1) other found.4 in
+    let none : defines name (type_at table (index_of_number table first found.1)) ≡ false =
     rw found.3 at (before found.0 found.1 found.2) in
-    let some : defines name (type_at table (index_told table first found.1)) ≡ true = rw its also in
-    both_ways (defines name (type_at table (index_told table first found.1))) none some))
+    let some : defines name (type_at table (index_of_number table first found.1)) ≡ true = rw its also in
+    both_ways (defines name (type_at table (index_of_number table first found.1))) none some))
 
 -- ---- the law
 
@@ -141,7 +144,7 @@ is_first table name = is_first_by table name
 pub record AreNamed (table : Table) (name : TypeName) (first : ℕ) (numbers : List ℕ) (k : ℕ) (found : List ℕ)
     (next : ℕ) : Type 0 where
   pub least : table.header.minimum_index ≤ next
-  pub seen : (i d : ℕ) → i < k → index_told table first (get_or numbers i d) < next
+  pub seen : (i d : ℕ) → i < k → index_of_number table first (get_or numbers i d) < next
   pub are : found ≡ filter (is_definition table name)
       (range_with_len table.header.minimum_index (next - table.header.minimum_index))
 
@@ -149,14 +152,14 @@ pub record AreNamed (table : Table) (name : TypeName) (first : ℕ) (numbers : L
 unnamed : (table : Table) (name : TypeName) (first : ℕ) (numbers : List ℕ) (k : ℕ) (found : List ℕ) (next : ℕ)
     → AreNumbersOf table name first numbers → AreNamed table name first numbers k found next
     → (j : ℕ) → next ≤ j
-    → ((i d : ℕ) → k ≤ i → i < length numbers → j < index_told table first (get_or numbers i d))
+    → ((i d : ℕ) → k ≤ i → i < length numbers → j < index_of_number table first (get_or numbers i d))
     → is_definition table name j ≡ false
 unnamed table name first numbers k found next are named j from above =
     false_from_ne_true (is_definition table name j) (λ also.
     let least = named.least in
-    let there = Any-from_list_any (λ (n : ℕ). eqb (index_told table first n) j) numbers
+    let there = Any-from_list_any (λ (n : ℕ). eqb (index_of_number table first n) j) numbers
     (are.complete j (omega (arith, least, from)) also) in
-    let its : index_told table first there.1 ≡ j = eqb-true (index_told table first there.1) j there.4 in
+    let its : index_of_number table first there.1 ≡ j = eqb-true (index_of_number table first there.1) j there.4 in
     let at : get_or numbers there.0 there.1 ≡ there.1 = there.3 in
     elim (cases_lt there.0 k) [
       | inl earlier ↦ let seen = named.seen there.0 there.1 earlier in absurd (omega (arith, seen, at, its, from))
@@ -166,12 +169,12 @@ unnamed table name first numbers k found next are named j from above =
 -- one more number, of an index that was not seen
 named_more : (table : Table) (name : TypeName) (first : ℕ) (numbers : List ℕ) (k x : ℕ) (found : List ℕ) (next : ℕ)
     → AreNumbersOf table name first numbers → AreNamed table name first numbers k found next
-    → k < length numbers → ((d : ℕ) → index_told table first (get_or numbers k d) ≡ x) → next ≤ x
+    → k < length numbers → ((d : ℕ) → index_of_number table first (get_or numbers k d) ≡ x) → next ≤ x
     → AreNamed table name first numbers (k + 1) (found ++ cond (is_definition table name x) (x ∷ []) []) (x + 1)
 named_more table name first numbers k x found next are named within here order =
     let least = named.least in record {
       least = omega (arith, least, order);
-      seen = λ i d below. elim (cases_lt i k) as (λ _. index_told table first (get_or numbers i d) < x + 1) [
+      seen = λ i d below. elim (cases_lt i k) as (λ _. index_of_number table first (get_or numbers i d) < x + 1) [
         | inl earlier ↦ let seen = named.seen i d earlier in omega (arith, seen, order)
         | inr last ↦
             let same : i ≡ k = omega (arith, last, below) in
@@ -188,7 +191,7 @@ named_more table name first numbers k x found next are named within here order =
 
 pub named_some : (table : Table) (name : TypeName) (first : ℕ) (numbers : List ℕ) (k x : ℕ) (found : List ℕ)
     (next : ℕ) → AreNumbersOf table name first numbers → AreNamed table name first numbers k found next
-    → k < length numbers → ((d : ℕ) → index_told table first (get_or numbers k d) ≡ x) → next ≤ x
+    → k < length numbers → ((d : ℕ) → index_of_number table first (get_or numbers k d) ≡ x) → next ≤ x
     → is_definition table name x ≡ true
     → AreNamed table name first numbers (k + 1) (found ++ x ∷ []) (x + 1)
 named_some table name first numbers k x found next are named within here order is =
@@ -197,7 +200,7 @@ named_some table name first numbers k x found next are named within here order i
 
 pub named_none : (table : Table) (name : TypeName) (first : ℕ) (numbers : List ℕ) (k x : ℕ) (found : List ℕ)
     (next : ℕ) → AreNumbersOf table name first numbers → AreNamed table name first numbers k found next
-    → k < length numbers → ((d : ℕ) → index_told table first (get_or numbers k d) ≡ x) → next ≤ x
+    → k < length numbers → ((d : ℕ) → index_of_number table first (get_or numbers k d) ≡ x) → next ≤ x
     → is_definition table name x ≡ false
     → AreNamed table name first numbers (k + 1) found (x + 1)
 named_none table name first numbers k x found next are named within here order is =

@@ -21,12 +21,12 @@ use Rattle.pdb_records.specs.Records.{behind_leaf}
 use Rattle.pdb_tpi.specs.Record.{kind_of, type_of}
 use Rattle.pdb_types.specs.declared.numbering.Numbering.{Numbering}
 use Rattle.pdb_types.specs.Declaration.{declaration_of}
-use Rattle.pdb_types.specs.Numbering.{numbers_of, is_list}
+use Rattle.pdb_types.specs.Numbering.{type_numbers, is_list}
 
 -- what is read and made into types without a name has no numbers
-nameless : {X : Type 0} (numbering : Numbering) (index : ℕ) (made : X → TypeValue) → ((x : X) → declaration_of (made x) ≡ None)
-    → (read : Answer (X × List ℕ))
-    → numbers_of numbering index (◌>>=◌ {A = TypeValue × List ℕ} {B = TypeValue}
+nameless : {X : Type 0} (numbering : Numbering) (index : ℕ) (made : X → TypeValue)
+    → ((x : X) → declaration_of (made x) ≡ None) → (read : Answer (X × List ℕ))
+    → type_numbers numbering index (◌>>=◌ {A = TypeValue × List ℕ} {B = TypeValue}
     (◌>>=◌ {A = X × List ℕ} {B = TypeValue × List ℕ} read (λ x. Ok (made x.0, x.1))) (λ x. Ok x.0)) ≡ []
 nameless numbering index made none (Ok x) = rw (none x.0) refl
 nameless numbering index made none (Err refusal) = refl
@@ -44,7 +44,7 @@ is_one number is = elim (cases_Bool (eqb number 0x1203)) [
 
 -- what follows the leaf of a list
 behind : (numbering : Numbering) (index number : ℕ) (rest : List ℕ) → is_list number ≡ true
-    → numbers_of numbering index (◌>>=◌ {A = TypeValue × List ℕ} {B = TypeValue}
+    → type_numbers numbering index (◌>>=◌ {A = TypeValue × List ℕ} {B = TypeValue}
     (record_of (eqb number field_list_leaf) number rest) (λ x. Ok x.0)) ≡ []
 unfolding behind_leaf
 behind numbering index number rest is = elim (is_one number is) [
@@ -62,7 +62,7 @@ first_two (a ∷ []) = refl
 first_two (a ∷ b ∷ rest) = refl
 
 of_record : (numbering : Numbering) (index : ℕ) (item : List ℕ) → is_list (kind_of item) ≡ true
-    → numbers_of numbering index (type_record item) ≡ []
+    → type_numbers numbering index (type_record item) ≡ []
 unfolding type_record record_at number_at front_at
 of_record numbering index item is = elim (cases_Bool (ltb (length item) 2)) [
   | inl short ↦ rw short refl
@@ -70,13 +70,13 @@ of_record numbering index item is = elim (cases_Bool (ltb (length item) 2)) [
 ]
 
 of_primitive : (numbering : Numbering) (index : ℕ) (type : Answer PrimitiveType)
-    → numbers_of numbering index (type >>= λ t. Ok (plain (primitive t))) ≡ []
+    → type_numbers numbering index (type >>= λ t. Ok (plain (primitive t))) ≡ []
 of_primitive numbering index (Ok type) = refl
 of_primitive numbering index (Err refusal) = refl
 
 -- the record of a list has no numbers
 list_numbers : (numbering : Numbering) (index : ℕ) (item : List ℕ) → is_list (kind_of item) ≡ true
-    → numbers_of numbering index (type_of index item) ≡ []
+    → type_numbers numbering index (type_of index item) ≡ []
 unfolding type_of primitive_of
 list_numbers numbering index item is = elim (cases_Bool (ltb index first_record)) [
   | inl low ↦ rw low (of_primitive numbering index (primitive_type index))
@@ -85,6 +85,6 @@ list_numbers numbering index item is = elim (cases_Bool (ltb index first_record)
 
 -- and adds none
 pub list_adds : (numbering : Numbering) (numbers : List ℕ) (index : ℕ) (item : List ℕ) → is_list (kind_of item) ≡ true
-    → numbers ≡ numbers ++ numbers_of numbering index (type_of index item)
+    → numbers ≡ numbers ++ type_numbers numbering index (type_of index item)
 list_adds numbering numbers index item is =
     sym (ap (λ (more : List ℕ). numbers ++ more) (list_numbers numbering index item is) ∙ append-nil numbers)

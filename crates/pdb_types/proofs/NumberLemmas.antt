@@ -1,6 +1,8 @@
 -- The numbers of a table are those of its definitions.
-use Rattle.std.proofs.Common.{◌≡◌, ◌≢◌, inl, inr, ℕ, zero, suc, ◌+◌, ◌-◌, ◌*◌, ◌/◌, ◌<◌, ◌≤◌, List, [], ◌∷◌, ◌++◌, length}
-use Rattle.std.proofs.Common.{get_or, take, drop, refl, sym, ap, ◌∙◌, arith, Bool, true, false, not, ◌||◌, cond, eqb, ltb}
+use Rattle.std.proofs.Common.{◌≡◌, ◌≢◌, inl, inr, ℕ, zero, suc, ◌+◌, ◌-◌, ◌*◌, ◌/◌, ◌<◌, ◌≤◌, List, [], ◌∷◌, ◌++◌}
+use Rattle.std.proofs.Common.{length}
+use Rattle.std.proofs.Common.{get_or, take, drop, refl, sym, ap, ◌∙◌, arith, Bool, true, false, not, ◌||◌, cond, eqb}
+use Rattle.std.proofs.Common.{ltb}
 use Rattle.std.proofs.Common.{leb, min, Option, Some, None, Ok, Err, Vec, Global}
 use Rattle.std.specs.List.{All, list_any, slice_get}
 use Rattle.std.specs.List.Sorted.{IsNonDecreasingBy, IsPartitionPoint, IsPermutation}
@@ -32,8 +34,10 @@ use Rattle.pdb_types.specs.declared.numbering.Numbering.{Numbering}
 use Rattle.pdb_types.specs.Declaration.{Declared, TypeName, source_name, decorated_name, bears, declaration_of}
 use Rattle.pdb_types.specs.Declaration.{is_forward}
 use Rattle.pdb_types.specs.Definition.{defines, declares, if_none_left, whole_table}
-use Rattle.pdb_types.specs.Numbering.{most_above, numbering_of, is_numbered, first_number, number_of, source_numbers}
-use Rattle.pdb_types.specs.Numbering.{unique_numbers, numbers_of, numbers_from, all_numbers, index_told, IsNumbered}
+use Rattle.pdb_types.specs.Numbering.{most_above, numbering_of, is_numbered, first_number, name_number}
+use Rattle.pdb_types.specs.Numbering.{source_name_number}
+use Rattle.pdb_types.specs.Numbering.{unique_name_number, type_numbers, item_numbers, all_numbers, index_of_number}
+use Rattle.pdb_types.specs.Numbering.{HasNumbers}
 use Rattle.pdb_types.specs.Numbering.{AreCandidates}
 use Rattle.pdb_types.specs.TypeAt.{type_at}
 
@@ -41,7 +45,7 @@ use Rattle.pdb_types.specs.TypeAt.{type_at}
 
 -- whether a number is that of a name of the definition of an index
 abbrev is_number : Numbering → TypeName → ℕ → ℕ → Bool
-is_number numbering name index number = eqb number (number_of numbering name index)
+is_number numbering name index number = eqb number (name_number numbering name index)
 
 abbrev source : List ℕ → TypeName
 source text = source_name text
@@ -53,16 +57,16 @@ same_bytes : (xs ys : List ℕ) → bytes_eq xs ys ≡ true → xs ≡ ys
 same_bytes xs ys is = (bytes_eq-Decides xs ys).0 is
 
 the_number : (numbering : Numbering) (index : ℕ) (own name : TypeName) → own ≡ name
-    → list_any (is_number numbering name index) (number_of numbering own index ∷ []) ≡ true
+    → list_any (is_number numbering name index) (name_number numbering own index ∷ []) ≡ true
 the_number numbering index own name same =
-    or_left (is_number numbering name index (number_of numbering own index)) false
-    (eq-eqb (number_of numbering own index) (number_of numbering name index)
-    (ap (λ (n : TypeName). number_of numbering n index) same))
+    or_left (is_number numbering name index (name_number numbering own index)) false
+    (eq-eqb (name_number numbering own index) (name_number numbering name index)
+    (ap (λ (n : TypeName). name_number numbering n index) same))
 
 has_source : (numbering : Numbering) (index : ℕ) (text : List ℕ) (declared : Declared) (has : Bool)
     → has ≡ true → bytes_eq declared.name text ≡ true
     → list_any (is_number numbering (source_name text) index)
-    (cond has (number_of numbering (source_name declared.name) index ∷ []) []) ≡ true
+    (cond has (name_number numbering (source_name declared.name) index ∷ []) []) ≡ true
 has_source numbering index text declared has numbered is = rw numbered
     (the_number numbering index (source_name declared.name) (source_name text)
     (ap source (same_bytes declared.name text is)))
@@ -70,7 +74,7 @@ has_source numbering index text declared has numbered is = rw numbered
 has_unique : (numbering : Numbering) (index : ℕ) (text : List ℕ) (unique : Option (List ℕ))
     → option_map_or (λ own. bytes_eq own text) unique false ≡ true
     → list_any (is_number numbering (decorated_name text) index)
-    (option_map_or (λ own. number_of numbering (decorated_name own) index ∷ []) unique []) ≡ true
+    (option_map_or (λ own. name_number numbering (decorated_name own) index ∷ []) unique []) ≡ true
 has_unique numbering index text None is = absurd (false≢true is)
 has_unique numbering index text (Some own) is =
     the_number numbering index (decorated_name own) (decorated_name text) (ap decorated (same_bytes own text is))
@@ -78,25 +82,25 @@ has_unique numbering index text (Some own) is =
 has_name : (numbering : Numbering) (index : ℕ) (name : TypeName) (declared : Declared)
     → is_numbered numbering name ≡ true → bears name declared ≡ true
     → list_any (is_number numbering name index)
-    (source_numbers numbering index declared ++ unique_numbers numbering index declared) ≡ true
+    (source_name_number numbering index declared ++ unique_name_number numbering index declared) ≡ true
 has_name numbering index (source_name text) declared numbered is =
     let test = is_number numbering (source_name text) index in
-    let ours = source_numbers numbering index declared in
-    let others = unique_numbers numbering index declared in
+    let ours = source_name_number numbering index declared in
+    let others = unique_name_number numbering index declared in
     list_any-append test ours others
     ∙ or_left (list_any test ours) (list_any test others)
     (has_source numbering index text declared numbering.has_source_names numbered is)
 has_name numbering index (decorated_name text) declared numbered is =
     let test = is_number numbering (decorated_name text) index in
-    let others = source_numbers numbering index declared in
-    let ours = unique_numbers numbering index declared in
+    let others = source_name_number numbering index declared in
+    let ours = unique_name_number numbering index declared in
     list_any-append test others ours
     ∙ or_right (list_any test others) (list_any test ours) (has_unique numbering index text declared.unique_name is)
 
 has_declared : (numbering : Numbering) (index : ℕ) (name : TypeName) (declared : Option Declared)
     → is_numbered numbering name ≡ true → option_map_or (declares name) declared false ≡ true
     → list_any (is_number numbering name index) (option_map_or (λ d. cond (is_forward d) []
-    (source_numbers numbering index d ++ unique_numbers numbering index d)) declared []) ≡ true
+    (source_name_number numbering index d ++ unique_name_number numbering index d)) declared []) ≡ true
 has_declared numbering index name None numbered is = absurd (false≢true is)
 has_declared numbering index name (Some declared) numbered is =
     let parts = and_parts (not (is_forward declared)) (bears name declared) is in
@@ -104,7 +108,7 @@ has_declared numbering index name (Some declared) numbered is =
 
 has_type : (numbering : Numbering) (index : ℕ) (name : TypeName) (answer : Answer TypeValue)
     → is_numbered numbering name ≡ true → defines name answer ≡ true
-    → list_any (is_number numbering name index) (numbers_of numbering index answer) ≡ true
+    → list_any (is_number numbering name index) (type_numbers numbering index answer) ≡ true
 has_type numbering index name (Err refusal) numbered is = absurd (false≢true is)
 has_type numbering index name (Ok value) numbered is =
     has_declared numbering index name (declaration_of value) numbered is
@@ -112,21 +116,21 @@ has_type numbering index name (Ok value) numbered is =
 has_item : (numbering : Numbering) (at index k : ℕ) (name : TypeName) (items : List (List ℕ)) (item : List ℕ)
     → is_numbered numbering name ≡ true → at ≡ index + k → slice_get items k ≡ Some item
     → defines name (type_of at item) ≡ true
-    → list_any (is_number numbering name at) (numbers_from numbering index items) ≡ true
+    → list_any (is_number numbering name at) (item_numbers numbering index items) ≡ true
 has_item numbering at index k name [] item numbered same there is = absurd cc
 has_item numbering at index zero name (first ∷ items) item numbered same there is =
     let here : at ≡ index = omega (arith, same) in
     let one : first ≡ item = cc in
     let test = is_number numbering name at in
-    let ours = numbers_of numbering index (type_of index first) in
-    let others = numbers_from numbering (index + 1) items in
+    let ours = type_numbers numbering index (type_of index first) in
+    let others = item_numbers numbering (index + 1) items in
     let found : list_any test ours ≡ true =
     rw (one, ← here) (has_type numbering at name (type_of at item) numbered is) in
     list_any-append test ours others ∙ or_left (list_any test ours) (list_any test others) found
 has_item numbering at index (suc k) name (first ∷ items) item numbered same there is =
     let test = is_number numbering name at in
-    let others = numbers_of numbering index (type_of index first) in
-    let ours = numbers_from numbering (index + 1) items in
+    let others = type_numbers numbering index (type_of index first) in
+    let ours = item_numbers numbering (index + 1) items in
     let found = has_item numbering at (index + 1) k name items item numbered (omega (arith, same)) there is in
     list_any-append test others ours ∙ or_right (list_any test others) (list_any test ours) found
 
@@ -193,7 +197,7 @@ defined_near table name index least is =
 pub numbered : (table : Table) (numbering : Numbering) (numbers sorted : List ℕ)
     → numbering ≡ numbering_of table numbering.has_source_names → numbers ≡ all_numbers numbering table
     → IsPermutation numbers sorted → IsNonDecreasingBy (λ (number : ℕ). number) sorted
-    → IsNumbered table numbering sorted
+    → HasNumbers table numbering sorted
 unfolding all_numbers
 numbered table numbering numbers sorted of_table are moved order = record {
   numbered = of_table;
@@ -213,19 +217,20 @@ numbered table numbering numbers sorted of_table are moved order = record {
 
 -- the numbers of the items that an iterator has still to give
 abbrev pub still_numbers : Numbering → WalkPosition → List ℕ
-still_numbers numbering stand = numbers_from numbering stand.index (drop (steps_taken stand) (walk stand.table))
+still_numbers numbering stand = item_numbers numbering stand.index (drop (steps_taken stand) (walk stand.table))
 
 -- a new one has all of them to give
 pub all_still : (numbering : Numbering) (table : Table) → all_numbers numbering table
     ≡ still_numbers numbering (record { table = table; index = table.header.minimum_index })
 unfolding all_numbers
-all_still numbering table = let none : table.header.minimum_index - table.header.minimum_index ≡ 0 = omega arith in rw none refl
+all_still numbering table =
+    let none : table.header.minimum_index - table.header.minimum_index ≡ 0 = omega arith in rw none refl
 
 -- the numbers of the item of a step come first, and then those that are left
-still_more : {X : Type 0} (numbering : Numbering) (seen : X → ℕ × List ℕ) (old : WalkPosition) (x : X) (new : WalkPosition)
-    → old.table.header.minimum_index ≤ old.index → IsStep seen old (Ok (Some x)) new
+still_more : {X : Type 0} (numbering : Numbering) (seen : X → ℕ × List ℕ) (old : WalkPosition) (x : X)
+    (new : WalkPosition) → old.table.header.minimum_index ≤ old.index → IsStep seen old (Ok (Some x)) new
     → still_numbers numbering old
-    ≡ numbers_of numbering (seen x).0 (type_of (seen x).0 (seen x).1) ++ still_numbers numbering new
+    ≡ type_numbers numbering (seen x).0 (type_of (seen x).0 (seen x).1) ++ still_numbers numbering new
 still_more numbering seen old x new least step =
     let given = step_some seen old x new step in
     let n = steps_taken old in
@@ -242,10 +247,10 @@ pub record AreFound (numbering : Numbering) (table : Table) (found : List ℕ) (
 pub found_more : {X : Type 0} (numbering : Numbering) (seen : X → ℕ × List ℕ) (table : Table) (found : List ℕ)
     (old : WalkPosition) (x : X) (new : WalkPosition) → AreFound numbering table found old
     → IsStep seen old (Ok (Some x)) new
-    → AreFound numbering table (found ++ numbers_of numbering (seen x).0 (type_of (seen x).0 (seen x).1)) new
+    → AreFound numbering table (found ++ type_numbers numbering (seen x).0 (type_of (seen x).0 (seen x).1)) new
 found_more numbering seen table found old x new are step =
     let given = step_some seen old x new step in
-    let numbers = numbers_of numbering (seen x).0 (type_of (seen x).0 (seen x).1) in
+    let numbers = type_numbers numbering (seen x).0 (type_of (seen x).0 (seen x).1) in
     record {
       same = rw given.moved are.same;
       least = rw given.moved (omega (arith, are.least));
@@ -305,7 +310,8 @@ whole_refused numbering table e (inr memory) = inr memory
 pub whole_walked : (numbering : Numbering) (table : Table) (numbers : List ℕ)
     → if_none_left (all_numbers numbering table) (walk_rest table) ≡ Ok numbers → whole_table table ≡ Ok table
 unfolding whole_table
-whole_walked numbering table numbers is = (given_alike (all_numbers numbering table) numbers table (walk_rest table) is).0
+whole_walked numbering table numbers is =
+    (given_alike (all_numbers numbering table) numbers table (walk_rest table) is).0
 
 pub whole_numbers : (numbering : Numbering) (table : Table) (numbers : List ℕ)
     → if_none_left (all_numbers numbering table) (walk_rest table) ≡ Ok numbers → numbers ≡ all_numbers numbering table
@@ -316,7 +322,7 @@ whole_numbers numbering table numbers is =
 
 -- those from its first number on, as many as there may be
 pub candidates : (table : Table) (numbering : Numbering) (first : ℕ) (numbers : List ℕ) (start count : ℕ)
-    → IsNumbered table numbering numbers → start ≤ length numbers → count ≤ length (drop start numbers)
+    → HasNumbers table numbering numbers → start ≤ length numbers → count ≤ length (drop start numbers)
     → IsPartitionPoint (λ number. ltb number first ≡ true) (λ number. ltb number first ≡ false) numbers start
     → IsPartitionPoint (λ number. leb number (first + most_above table) ≡ true)
     (λ number. leb number (first + most_above table) ≡ false) (drop start numbers) count
@@ -351,8 +357,10 @@ candidates table numbering first numbers start count are within few from to =
           let found = Any-from_list_any test numbers (are.complete name index has least is) in
           let k = found.0 in
           let number = found.1 in
-          let its : number ≡ number_of numbering name index = eqb-true number (number_of numbering name index) found.4 in
-          let from_least : numbering.least ≡ table.header.minimum_index = ap (λ (n : Numbering). n.least) are.numbered in
+          let its : number ≡ name_number numbering name index =
+          eqb-true number (name_number numbering name index) found.4 in
+          let from_least : numbering.least ≡ table.header.minimum_index =
+          ap (λ (n : Numbering). n.least) are.numbered in
           let near = defined_near table name index least is in
           let told : number ≡ first + (index - table.header.minimum_index) = its ∙ rw (same, from_least) refl in
           let behind : start ≤ k = elim (cases_lt k start) as (λ _. start ≤ k) [
@@ -376,8 +384,9 @@ candidates table numbering first numbers start count are within few from to =
           ] in
           let at : get_or ours (k - start) number ≡ number = there (k - start) number ahead
           ∙ ap (λ (n : ℕ). get_or numbers n number) place ∙ found.3 in
-          let tells : index_told table first (get_or ours (k - start) number) ≡ index =
+          let tells : index_of_number table first (get_or ours (k - start) number) ≡ index =
           rw at (omega (arith, told, least)) in
-          list_any_at (λ n. eqb (index_told table first n) index) ours (k - start) number (omega (arith, ahead, long))
-          (eq-eqb (index_told table first (get_or ours (k - start) number)) index tells);
+          list_any_at (λ n. eqb (index_of_number table first n) index) ours (k - start) number
+          (omega (arith, ahead, long))
+          (eq-eqb (index_of_number table first (get_or ours (k - start) number)) index tells);
     }

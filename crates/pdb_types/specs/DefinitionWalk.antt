@@ -3,7 +3,7 @@ use Rattle.std.specs.Prelude.{◌≡◌, Bool, false, ◌&&◌, not, Result, Ok,
 use Rattle.pdb_base.specs.declared.error.Error.{Error}
 use Rattle.pdb_tpi.specs.Table.{Table}
 use Rattle.pdb_types.specs.declared.definition_walk.DefinitionWalk.{DefinitionWalk}
-use Rattle.pdb_types.specs.Numbering.{IsNumbered}
+use Rattle.pdb_types.specs.Numbering.{HasNumbers}
 
 -- whether a type seeks a name that isn't numbered, at which a walk ends
 abbrev pub gives_up : DefinitionWalk → Bool
@@ -15,5 +15,5 @@ IsUnlessGivenUp (Ok walk) Fact = gives_up walk ≡ false → Fact
 IsUnlessGivenUp (Err error) Fact = Fact
 
 -- a walk found the numbers of a table
-abbrev pub IsWalk : Table → DefinitionWalk → Type 0
-IsWalk table walk = IsNumbered table walk.numbering walk.numbers.items
+abbrev pub IsNameWalk : Table → DefinitionWalk → Type 0
+IsNameWalk table walk = HasNumbers table walk.numbering walk.numbers.items

@@ -1,6 +1,7 @@
 -- The numbers by which the definitions of names are found: those of a name are in a row, and each tells the index
 -- of a definition.
-use Rattle.std.specs.Prelude.{◌≡◌, ℕ, ◌+◌, ◌-◌, ◌/◌, ◌%◌, ◌≤◌, ◌==◌, Bool, true, ◌||◌, if◌then◌else◌, List, [], ◌∷◌, ◌++◌}
+use Rattle.std.specs.Prelude.{◌≡◌, ℕ, ◌+◌, ◌-◌, ◌/◌, ◌%◌, ◌≤◌, ◌==◌, Bool, true, ◌||◌, if◌then◌else◌, List, [], ◌∷◌}
+use Rattle.std.specs.Prelude.{◌++◌}
 use Rattle.std.specs.Prelude.{length, min, Ok, Err}
 use Rattle.std.specs.List.{All, list_any}
 use Rattle.std.specs.List.Sorted.{IsNonDecreasingBy}
@@ -38,50 +39,50 @@ unfoldable pub first_number : Numbering → TypeName → ℕ
 first_number numbering name = let half = name_hash name / 2 in half - half % (numbering.most + 1)
 
 -- the number of a name of the definition of an index
-abbrev pub number_of : Numbering → TypeName → ℕ → ℕ
-number_of numbering name index = first_number numbering name + (index - numbering.least)
+abbrev pub name_number : Numbering → TypeName → ℕ → ℕ
+name_number numbering name index = first_number numbering name + (index - numbering.least)
 
 -- whether the records of a kind are lists of arguments, of fields or of methods
 abbrev pub is_list : ℕ → Bool
 is_list kind = kind == 0x1203 || kind == 0x1201 || kind == 0x1206
 
 -- the number of the name that the source gives a definition, if such names are numbered
-abbrev pub source_numbers : Numbering → ℕ → Declared → List ℕ
-source_numbers numbering index declared =
-    if numbering.has_source_names then number_of numbering (source_name declared.name) index ∷ [] else []
+abbrev pub source_name_number : Numbering → ℕ → Declared → List ℕ
+source_name_number numbering index declared =
+    if numbering.has_source_names then name_number numbering (source_name declared.name) index ∷ [] else []
 
 -- the number of the unique name of a definition, if it has one
-abbrev pub unique_numbers : Numbering → ℕ → Declared → List ℕ
-unique_numbers numbering index declared =
-    option_map_or (λ name. number_of numbering (decorated_name name) index ∷ []) declared.unique_name []
+abbrev pub unique_name_number : Numbering → ℕ → Declared → List ℕ
+unique_name_number numbering index declared =
+    option_map_or (λ name. name_number numbering (decorated_name name) index ∷ []) declared.unique_name []
 
 -- the numbers of a type: those of its names, if it is a definition
-abbrev pub numbers_of : Numbering → ℕ → Answer TypeValue → List ℕ
-numbers_of numbering index (Ok value) = option_map_or (λ declared. if is_forward declared then []
-    else source_numbers numbering index declared ++ unique_numbers numbering index declared) (declaration_of value) []
-numbers_of numbering index (Err refusal) = []
+abbrev pub type_numbers : Numbering → ℕ → Answer TypeValue → List ℕ
+type_numbers numbering index (Ok value) = option_map_or (λ declared. if is_forward declared then [] else
+    source_name_number numbering index declared ++ unique_name_number numbering index declared) (declaration_of value) []
+type_numbers numbering index (Err refusal) = []
 
 -- the numbers of items, of which the first has that index
-abbrev pub numbers_from : Numbering → ℕ → List (List ℕ) → List ℕ
-numbers_from numbering index [] = []
-numbers_from numbering index (item ∷ items) =
-    numbers_of numbering index (type_of index item) ++ numbers_from numbering (index + 1) items
+abbrev pub item_numbers : Numbering → ℕ → List (List ℕ) → List ℕ
+item_numbers numbering index [] = []
+item_numbers numbering index (item ∷ items) =
+    type_numbers numbering index (type_of index item) ++ item_numbers numbering (index + 1) items
 
 -- the numbers of all items of a table, in the order of the items
 unfoldable pub all_numbers : Numbering → Table → List ℕ
-all_numbers numbering table = numbers_from numbering table.header.minimum_index (walk table)
+all_numbers numbering table = item_numbers numbering table.header.minimum_index (walk table)
 
 -- Numbers are those of a table: they are sorted, and each definition of a name that is numbered has its number.
-pub record IsNumbered (table : Table) (numbering : Numbering) (numbers : List ℕ) : Type 0 where
+pub record HasNumbers (table : Table) (numbering : Numbering) (numbers : List ℕ) : Type 0 where
   pub numbered : numbering ≡ numbering_of table numbering.has_source_names
   pub sorted : IsNonDecreasingBy (λ number. number) numbers
   pub complete : (name : TypeName) (index : ℕ) → is_numbered numbering name ≡ true
       → table.header.minimum_index ≤ index → defines name (type_at table index) ≡ true
-      → list_any (λ number. number == number_of numbering name index) numbers ≡ true
+      → list_any (λ number. number == name_number numbering name index) numbers ≡ true
 
 -- the index that a number tells, where the first number of the name is given
-abbrev pub index_told : Table → ℕ → ℕ → ℕ
-index_told table first number = table.header.minimum_index + (number - first)
+abbrev pub index_of_number : Table → ℕ → ℕ → ℕ
+index_of_number table first number = table.header.minimum_index + (number - first)
 
 -- Numbers are those of a table that may be of a name with this first number: they don't fall, and each definition
 -- of the name has one that tells its index.
@@ -92,4 +93,4 @@ pub record AreCandidates (table : Table) (numbering : Numbering) (first : ℕ) (
   pub complete : (name : TypeName) (index : ℕ) → is_numbered numbering name ≡ true
       → first_number numbering name ≡ first → table.header.minimum_index ≤ index
       → defines name (type_at table index) ≡ true
-      → list_any (λ number. index_told table first number == index) numbers ≡ true
+      → list_any (λ number. index_of_number table first number == index) numbers ≡ true

@@ -5,8 +5,8 @@ ghost use Rattle.pdb_base.specs.Answer.{Answers};
 ghost use Rattle.pdb_types.specs.Definition.{whole_table};
 ghost use Rattle.pdb_types.specs.DefinitionIndex.{IsIndexOf, index_kept};
 ghost use Rattle.pdb_tpi.specs.Table.{Table};
-ghost use Rattle.pdb_types.specs.DefinitionWalk.{IsWalk};
-ghost use Rattle.pdb_types.specs.Numbering.{AreCandidates, IsNumbered};
+ghost use Rattle.pdb_types.specs.DefinitionWalk.{IsNameWalk};
+ghost use Rattle.pdb_types.specs.Numbering.{AreCandidates, HasNumbers};
 
 use crate::definition_walk::DefinitionWalk;
 use crate::definitions::Definitions;
@@ -31,7 +31,7 @@ pub(crate) struct DefinitionIndex {
 }
 
 /// Returns the numbers from a place on.
-fn numbers_from(numbers: &[u64], start: usize) -> &[u64]
+fn part_from(numbers: &[u64], start: usize) -> &[u64]
     requires { start ≤ length numbers.now }
     ensures { result.now ≡ drop start numbers.now }
 {
@@ -45,7 +45,7 @@ impl DefinitionIndex {
         types: &OpenTable<TypeIndex>,
         walk: DefinitionWalk,
     ) -> AllocResult<Self>
-        requires { IsWalk types.now.table walk }
+        requires { IsNameWalk types.now.table walk }
         ensures { IfOk result (IsIndexOf types.now.table) }
     {
         let has_names = walk.has_wide_enumeration;
@@ -61,11 +61,11 @@ impl DefinitionIndex {
     /// Returns the numbers that may be of a name whose first number is given.
     pub(crate) fn candidates(&self, first: u64) -> &[u64]
         requires { first < 2 ^ 63 }
-        ensures { (table : Table) → IsNumbered table self.now.numbering self.now.numbers.items
+        ensures { (table : Table) → HasNumbers table self.now.numbering self.now.numbers.items
             → AreCandidates table self.now.numbering first result.now }
     {
         let start = self.numbers.partition_point(|number| *number < first);
-        let rest = numbers_from(&self.numbers, start);
+        let rest = part_from(&self.numbers, start);
         let last = first + self.numbering.most as u64;
         let count = rest.partition_point(|number| *number <= last);
         &rest[..count]

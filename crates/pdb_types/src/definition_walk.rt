@@ -7,8 +7,8 @@ ghost use Rattle.pdb_tpi.specs.Record.{type_of};
 ghost use Rattle.pdb_tpi.specs.Steps.{walk_rest};
 ghost use Rattle.pdb_types.specs.Declaration.{declaration_value};
 ghost use Rattle.pdb_types.specs.Definition.{if_none_left, whole_table};
-ghost use Rattle.pdb_types.specs.DefinitionWalk.{IsUnlessGivenUp, IsWalk, gives_up};
-ghost use Rattle.pdb_types.specs.Numbering.{all_numbers, is_list, numbers_of, source_numbers, unique_numbers};
+ghost use Rattle.pdb_types.specs.DefinitionWalk.{IsUnlessGivenUp, IsNameWalk, gives_up};
+ghost use Rattle.pdb_types.specs.Numbering.{all_numbers, is_list, type_numbers, source_name_number, unique_name_number};
 ghost use Rattle.pdb_values.specs.TypeView.{type_value};
 
 use crate::declaration::{Declaration, declaration_of};
@@ -62,7 +62,7 @@ fn push_source(
     numbers: &mut Vec<u64>,
 ) -> AllocResult<()>
     ensures { OnOk result
-        (numbers.new.items ≡ numbers.old.items ++ source_numbers numbering index.0 (declaration_value names.now)) }
+        (numbers.new.items ≡ numbers.old.items ++ source_name_number numbering index.0 (declaration_value names.now)) }
 {
     if numbering.has_source_names {
         numbers.push(numbering.number(TypeName::Source(names.name.as_bytes()), index))?;
@@ -78,7 +78,7 @@ fn push_unique(
     numbers: &mut Vec<u64>,
 ) -> AllocResult<()>
     ensures { OnOk result
-        (numbers.new.items ≡ numbers.old.items ++ unique_numbers numbering index.0 (declaration_value names.now)) }
+        (numbers.new.items ≡ numbers.old.items ++ unique_name_number numbering index.0 (declaration_value names.now)) }
 {
     if let Some(name) = names.unique_name {
         numbers.push(numbering.number(TypeName::Decorated(name.as_bytes()), index))?;
@@ -91,7 +91,7 @@ impl DefinitionWalk {
     fn note_value(&mut self, index: TypeIndex, value: &TypeData<'_>) -> AllocResult<()>
         ensures kept { self.new.numbering ≡ self.old.numbering }
         ensures added { OnOk result (self.new.numbers.items
-            ≡ self.old.numbers.items ++ numbers_of self.old.numbering index.0 (Ok (type_value value.now))) }
+            ≡ self.old.numbers.items ++ type_numbers self.old.numbering index.0 (Ok (type_value value.now))) }
     {
         let numbering = self.numbering;
         self.has_wide_enumeration |= is_wide_enumeration(value, numbering.least);
@@ -111,7 +111,7 @@ impl DefinitionWalk {
     /// Notes the type of an item, if it can be read.
     fn note_read(&mut self, alloc: Global, numbering: Numbering, item: &Type<'_>) -> AllocResult<()>
         ensures { OnOk result (self.new.numbers.items ≡ self.old.numbers.items
-            ++ numbers_of self.old.numbering (index_of item.now).0
+            ++ type_numbers self.old.numbering (index_of item.now).0
             (type_of (index_of item.now).0 (item_bytes item.now))) }
     {
         match item.parse(alloc) {
@@ -125,7 +125,7 @@ impl DefinitionWalk {
     fn note(&mut self, alloc: Global, item: &Type<'_>) -> AllocResult<()>
         ensures kept { self.new.numbering ≡ self.old.numbering }
         ensures added { OnOk result (self.new.numbers.items ≡ self.old.numbers.items
-            ++ numbers_of self.old.numbering (index_of item.now).0
+            ++ type_numbers self.old.numbering (index_of item.now).0
             (type_of (index_of item.now).0 (item_bytes item.now))) }
     {
         if is_list(item.raw_kind()) {
@@ -173,7 +173,7 @@ impl DefinitionWalk {
     /// Fails as `along` does.
     fn sorted(alloc: Global, types: &OpenTable<TypeIndex>, has_source_names: bool) -> Result<Self>
         ensures kept { IfOk result (λ walk. walk.numbering.has_source_names ≡ has_source_names) }
-        ensures numbered { IsUnlessGivenUp result (IfOk result (IsWalk types.now.table)) }
+        ensures numbered { IsUnlessGivenUp result (IfOk result (IsNameWalk types.now.table)) }
         ensures walked { IsUnlessGivenUp result (Answers (λ _. types.now.table) result (whole_table types.now.table)) }
     {
         let numbering = Numbering::of(types, has_source_names);
@@ -187,7 +187,7 @@ impl DefinitionWalk {
     /// # Errors
     /// Fails as `along` does.
     pub(crate) fn named(alloc: Global, types: &OpenTable<TypeIndex>) -> Result<Self>
-        ensures numbered { IfOk result (IsWalk types.now.table) }
+        ensures numbered { IfOk result (IsNameWalk types.now.table) }
         ensures walked { Answers (λ _. types.now.table) result (whole_table types.now.table) }
     {
         DefinitionWalk::sorted(alloc, types, true)
@@ -199,7 +199,7 @@ impl DefinitionWalk {
     /// # Errors
     /// Fails as `along` does.
     pub(crate) fn sought(alloc: Global, types: &OpenTable<TypeIndex>) -> Result<Self>
-        ensures numbered { IfOk result (IsWalk types.now.table) }
+        ensures numbered { IfOk result (IsNameWalk types.now.table) }
         ensures walked { Answers (λ _. types.now.table) result (whole_table types.now.table) }
     {
         let walk = DefinitionWalk::sorted(alloc, types, false)?;

@@ -2,7 +2,7 @@
 
 ghost use Rattle.std.specs.Prelude.{◌≡◌, ◌+◌, ◌-◌, ◌^◌, ◌<◌, ◌≤◌};
 ghost use Rattle.pdb_types.specs.Declaration.{type_name};
-ghost use Rattle.pdb_types.specs.Numbering.{first_number, is_numbered, number_of, numbering_of};
+ghost use Rattle.pdb_types.specs.Numbering.{first_number, is_numbered, name_number, numbering_of};
 
 use crate::name_hash::name_hash;
 use crate::type_name::TypeName;
@@ -65,7 +65,7 @@ impl Numbering {
 
     /// Returns the number of a name of the definition of an index.
     pub(crate) fn number(self, name: TypeName<'_>, index: TypeIndex) -> u64
-        ensures { result ≡ number_of self (type_name name.entry) index.0 }
+        ensures { result ≡ name_number self (type_name name.entry) index.0 }
     {
         self.first(name) + index.0.saturating_sub(self.least) as u64
     }

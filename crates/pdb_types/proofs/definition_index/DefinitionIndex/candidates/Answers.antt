@@ -16,10 +16,10 @@ returns c = λ table are.
     c.partition_point-start.ensures.partitioned
     (IsPartitionedBy-ltb (λ (n : ℕ). n) numbers first are.sorted) (λ a r f k. search rules) in
     let to = IsPartitionPoint-from_clause (λ (n : ℕ). leb n (first + c.args.self.now.numbering.most)) _
-    c.partition_point-count.result (rw c.numbers_from-rest.ensures at c.partition_point-count.ensures.partitioned)
+    c.partition_point-count.result (rw c.part_from-rest.ensures at c.partition_point-count.ensures.partitioned)
     (IsPartitionedBy-leb (λ (n : ℕ). n) _ (first + c.args.self.now.numbering.most)
     (IsNonDecreasingBy-drop (λ (n : ℕ). n) start numbers are.sorted)) (λ a r f k. search rules) in
-    rw c.numbers_from-rest.ensures
+    rw c.part_from-rest.ensures
     (candidates table c.args.self.now.numbering first numbers start c.partition_point-count.result are
     c.partition_point-start.ensures.bound
-    (rw c.numbers_from-rest.ensures at c.partition_point-count.ensures.bound) from (rw most at to))
+    (rw c.part_from-rest.ensures at c.partition_point-count.ensures.bound) from (rw most at to))

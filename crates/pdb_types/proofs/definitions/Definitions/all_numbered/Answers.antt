@@ -1,7 +1,7 @@
 use Rattle.std.proofs.Common.{ℕ, ◌<◌, ap, ◌∙◌, arith, length}
 use Rattle.std.proofs.lemmas.List.{get_or_default, map-append}
 use Rattle.pdb_base.proofs.lemmas.Collected.{ok, ok_is}
-use Rattle.pdb_types.specs.Numbering.{index_told}
+use Rattle.pdb_types.specs.Numbering.{index_of_number}
 use Rattle.pdb_types.proofs.DefinitionLemmas.{named_all, named_none, named_some, of_name}
 use Rattle.pdb_types.proofs.definitions.Definitions.all_numbered.Goals as goal
 
@@ -11,7 +11,7 @@ loop-candidate-preserved-then-not-branch c =
     (c.candidates.ensures _ c.requires.of_table.numbers) in
     let within : c.loop-candidate.candidate-index < length c.candidates.result.now = omega arith in
     named_none _ _ _ _ c.loop-candidate.candidate-index _ _ _ are c.loop-candidate.invariant within
-    (λ d. ap (λ (n : ℕ). index_told _ _ n) (get_or_default _ _ _ _ within))
+    (λ d. ap (λ (n : ℕ). index_of_number _ _ n) (get_or_default _ _ _ _ within))
     c.if-number-next.false (ok_is _ _ c.in_ok-defines.ensures ∙ c.if-not-branch.true)
 
 pub loop-candidate-preserved : goal.loop-candidate-preserved
@@ -21,7 +21,7 @@ loop-candidate-preserved c =
     let within : c.loop-candidate.candidate-index < length c.candidates.result.now = omega arith in
     rw (c.in_ok-push.ensures.items, map-append)
     (named_some _ _ _ _ c.loop-candidate.candidate-index _ _ _ are c.loop-candidate.invariant within
-    (λ d. ap (λ (n : ℕ). index_told _ _ n) (get_or_default _ _ _ _ within))
+    (λ d. ap (λ (n : ℕ). index_of_number _ _ n) (get_or_default _ _ _ _ within))
     c.if-number-next.false (ok_is _ _ c.in_ok-defines.ensures ∙ c.if-not-branch.false))
 
 pub returns : goal.returns

@@ -6,12 +6,14 @@ use Rattle.pdb_types.proofs.definitions.Definitions.first_numbered.Goals as goal
 
 pub returns-then-branch : goal.returns-then-branch
 returns-then-branch c =
-    let are = of_name _ _ _ _ _ c.requires.numbered c.first.ensures.first (c.candidates.ensures _ c.requires.of_table.numbers) in
+    let are = of_name _ _ _ _ _ c.requires.numbered c.first.ensures.first
+    (c.candidates.ensures _ c.requires.of_table.numbers) in
     let within : c.loop-candidate.candidate-index < length c.candidates.result.now = omega arith in
     ap ok (number_first _ _ _ _ c.loop-candidate.candidate-index _ are c.loop-candidate.invariant within
     (get_or_default _ _ _ _ within) (ok_is _ _ c.in_ok-defines.ensures ∙ c.if-branch.true))
 
 pub returns : goal.returns
 returns c =
-    let are = of_name _ _ _ _ _ c.requires.numbered c.first.ensures.first (c.candidates.ensures _ c.requires.of_table.numbers) in
+    let are = of_name _ _ _ _ _ c.requires.numbered c.first.ensures.first
+    (c.candidates.ensures _ c.requires.of_table.numbers) in
     ap ok (number_none _ _ _ _ are (λ i d below. c.loop-candidate.invariant i d (omega arith)))
