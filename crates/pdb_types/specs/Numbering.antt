@@ -58,8 +58,9 @@ unique_name_number numbering index declared =
 
 -- the numbers of a type: those of its names, if it is a definition
 abbrev pub type_numbers : Numbering → ℕ → Answer TypeValue → List ℕ
-type_numbers numbering index (Ok value) = option_map_or (λ declared. if is_forward declared then [] else
-    source_name_number numbering index declared ++ unique_name_number numbering index declared) (declaration_of value) []
+type_numbers numbering index (Ok value) = option_map_or (λ declared. if is_forward declared then []
+    else source_name_number numbering index declared ++ unique_name_number numbering index declared)
+    (declaration_of value) []
 type_numbers numbering index (Err refusal) = []
 
 -- the numbers of items, of which the first has that index

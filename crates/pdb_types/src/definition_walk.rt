@@ -109,8 +109,9 @@ impl DefinitionWalk {
     }
 
     /// Notes the type of an item, if it can be read.
-    fn note_read(&mut self, alloc: Global, numbering: Numbering, item: &Type<'_>) -> AllocResult<()>
-        ensures { OnOk result (self.new.numbers.items ≡ self.old.numbers.items
+    fn note_read(&mut self, alloc: Global, item: &Type<'_>) -> AllocResult<()>
+        ensures kept { self.new.numbering ≡ self.old.numbering }
+        ensures added { OnOk result (self.new.numbers.items ≡ self.old.numbers.items
             ++ type_numbers self.old.numbering (index_of item.now).0
             (type_of (index_of item.now).0 (item_bytes item.now))) }
     {
@@ -161,7 +162,7 @@ impl DefinitionWalk {
         while let Some(item) = items.next()? {
             found.note(alloc, &item)?;
             if found.gives_up() {
-                break;
+                return Ok(found);
             }
         }
         Ok(found)

@@ -55,6 +55,7 @@ impl Numbering {
     }
 
     /// Returns the first number of a name.
+    #[tactic(auto, unfolding(crate::specs::Numbering::first_number))]
     pub(crate) fn first(self, name: TypeName<'_>) -> u64
         ensures first { result ≡ first_number self (type_name name.entry) }
         ensures low { result < 2 ^ 63 }
