@@ -68,15 +68,13 @@ same_there : (numbers : List ℕ) (k d n : ℕ) → k < length numbers → get_o
 same_there numbers k d n within here = get_or_default numbers k d n within ∙ here
 
 -- a number that tells one comes first
-pub number_first : (table : Table) (name : TypeName) (first : ℕ) (numbers : List ℕ) (k number : ℕ)
+pub number_first : (table : Table) (name : TypeName) (first : ℕ) (numbers : List ℕ) (k number index : ℕ)
     → AreNumbersOf table name first numbers → NoneBefore table name first numbers k
-    → k < length numbers → get_or numbers k number ≡ number
-    → defines name (type_at table (index_of_number table first number)) ≡ true
-    → first_definition table name ≡ Some (index_of_number table first number)
+    → k < length numbers → get_or numbers k number ≡ number → index ≡ index_of_number table first number
+    → defines name (type_at table index) ≡ true → first_definition table name ≡ Some index
 unfolding first_definition
-number_first table name first numbers k number are before within here is =
-    let index = index_of_number table first number in
-    let least : table.header.minimum_index ≤ index = omega arith in
+number_first table name first numbers k number index are before within here told is =
+    let least : table.header.minimum_index ≤ index = omega (arith, told) in
     let below = defined_below table name index least is in
     find_first (is_definition table name) table.header.minimum_index (count_in_header table) index least
     (omega (arith, least, below)) is
@@ -95,7 +93,7 @@ number_first table name first numbers k number are before within here is =
           let order = are.rising k found.0 number later found.2 in
           let second : get_or numbers found.0 number ≡ found.1 =
           same_there numbers found.0 number found.1 found.2 found.3 in
-          absurd (omega (arith, order, here, second, its, lower))
+          absurd (omega (arith, order, here, second, its, told, lower))
     ]))
 
 -- and if no number tells one, there is none
@@ -247,16 +245,17 @@ scanned_more table name above =
     rw (long, short) at (filter_next (is_definition table name) least x x (omega arith) (omega arith)
     (λ j from below. absurd (omega (arith, from, below))))
 
-pub scanned_some : (table : Table) (name : TypeName) (above : ℕ) (found : List ℕ)
-    → found ≡ defined_among table name above → is_definition table name (table.header.minimum_index + above) ≡ true
-    → found ++ (table.header.minimum_index + above) ∷ [] ≡ defined_among table name (above + 1)
-scanned_some table name above found are is = rw are (sym (rw is at (scanned_more table name above)))
+pub scanned_some : (table : Table) (name : TypeName) (above index : ℕ) (found : List ℕ)
+    → index ≡ table.header.minimum_index + above → found ≡ defined_among table name above
+    → is_definition table name index ≡ true → found ++ index ∷ [] ≡ defined_among table name (above + 1)
+scanned_some table name above index found told are is =
+    rw (are, told) (sym (rw (rw told at is) at (scanned_more table name above)))
 
-pub scanned_none : (table : Table) (name : TypeName) (above : ℕ) (found : List ℕ)
-    → found ≡ defined_among table name above → is_definition table name (table.header.minimum_index + above) ≡ false
-    → found ≡ defined_among table name (above + 1)
-scanned_none table name above found are is =
-    are ∙ sym (rw is at (scanned_more table name above) ∙ append-nil (defined_among table name above))
+pub scanned_none : (table : Table) (name : TypeName) (above index : ℕ) (found : List ℕ)
+    → index ≡ table.header.minimum_index + above → found ≡ defined_among table name above
+    → is_definition table name index ≡ false → found ≡ defined_among table name (above + 1)
+scanned_none table name above index found told are is = are
+    ∙ sym (rw (rw told at is) at (scanned_more table name above) ∙ append-nil (defined_among table name above))
 
 pub scanned_all : (table : Table) (name : TypeName) (found : List ℕ)
     → found ≡ defined_among table name (most_above table + 1) → all_definitions table name ≡ found

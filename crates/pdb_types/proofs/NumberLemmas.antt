@@ -195,12 +195,13 @@ defined_near table name index least is =
 
 -- its numbers, sorted
 pub numbered : (table : Table) (numbering : Numbering) (numbers sorted : List ℕ)
-    → numbering ≡ numbering_of table numbering.has_source_names → numbers ≡ all_numbers numbering table
-    → IsPermutation numbers sorted → IsNonDecreasingBy (λ (number : ℕ). number) sorted
+    → numbering ≡ numbering_of table numbering.has_source_names → numbering.least + numbering.most ≤ 0xffff_ffff
+    → numbers ≡ all_numbers numbering table → IsPermutation numbers sorted → IsNonDecreasingBy (λ (number : ℕ). number) sorted
     → HasNumbers table numbering sorted
 unfolding all_numbers
-numbered table numbering numbers sorted of_table are moved order = record {
+numbered table numbering numbers sorted of_table fits are moved order = record {
   numbered = of_table;
+  fits = fits;
   sorted = order;
   complete = λ name index has above is.
       let least = table.header.minimum_index in
@@ -212,6 +213,13 @@ numbered table numbering numbers sorted of_table are moved order = record {
       (omega (arith, above)) item there.2) in
       sym (list_any-IsPermutation test numbers sorted moved) ∙ found;
 }
+
+-- the index that is made of a number is the one that it tells
+pub told : (table : Table) (numbering : Numbering) (numbers : List ℕ) (first number index : ℕ)
+    → HasNumbers table numbering numbers → index ≡ numbering.least + (number - first)
+    → index ≡ index_of_number table first number
+told table numbering numbers first number index are is =
+    is ∙ ap (λ (n : Numbering). n.least + (number - first)) are.numbered
 
 -- ---- the walk over a table
 

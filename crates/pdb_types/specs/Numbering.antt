@@ -76,6 +76,7 @@ all_numbers numbering table = item_numbers numbering table.header.minimum_index 
 -- Numbers are those of a table: they are sorted, and each definition of a name that is numbered has its number.
 pub record HasNumbers (table : Table) (numbering : Numbering) (numbers : List ℕ) : Type 0 where
   pub numbered : numbering ≡ numbering_of table numbering.has_source_names
+  pub fits : numbering.least + numbering.most ≤ 0xffff_ffff
   pub sorted : IsNonDecreasingBy (λ number. number) numbers
   pub complete : (name : TypeName) (index : ℕ) → is_numbered numbering name ≡ true
       → table.header.minimum_index ≤ index → defines name (type_at table index) ≡ true

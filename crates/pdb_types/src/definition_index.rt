@@ -58,14 +58,29 @@ impl DefinitionIndex {
         Ok(DefinitionIndex { shortcuts, ..index })
     }
 
+    /// Returns the numbers of the names of definitions, in increasing order.
+    fn numbers(&self) -> &[u64]
+        ensures { result.now ≡ self.now.numbers.items }
+    {
+        &self.numbers
+    }
+
+    /// Returns the shortcuts along types of one size.
+    pub(crate) fn shortcuts(&self) -> &[Shortcut]
+        ensures { result.now ≡ self.now.shortcuts.items }
+    {
+        &self.shortcuts
+    }
+
     /// Returns the numbers that may be of a name whose first number is given.
     pub(crate) fn candidates(&self, first: u64) -> &[u64]
         requires { first < 2 ^ 63 }
         ensures { (table : Table) → HasNumbers table self.now.numbering self.now.numbers.items
             → AreCandidates table self.now.numbering first result.now }
     {
-        let start = self.numbers.partition_point(|number| *number < first);
-        let rest = part_from(&self.numbers, start);
+        let numbers = self.numbers();
+        let start = numbers.partition_point(|number| *number < first);
+        let rest = part_from(numbers, start);
         let last = first + self.numbering.most as u64;
         let count = rest.partition_point(|number| *number <= last);
         &rest[..count]

@@ -90,7 +90,7 @@ impl<'t> Definitions<'t> {
     pub(crate) fn along_shortcut(&self, index: TypeIndex) -> TypeIndex
         ensures { IsAsLarge self.now index.0 result.0 }
     {
-        end_of(&self.index().shortcuts, index)
+        end_of(self.index().shortcuts(), index)
     }
 
     /// Returns whether the type of an index is a definition of a name.
@@ -115,13 +115,14 @@ impl<'t> Definitions<'t> {
         name: TypeName<'_>,
     ) -> Result<Option<TypeIndex>>
         requires of_table { IsIndexOf self.now names.now }
-        requires numbered { is_numbered names.now.numbering (type_name name.entry) ≡ true }
+        requires numbered { is_numbered names.now.numbering (type_name name) ≡ true }
         ensures { Answers (option_map (λ index. index.0)) result
             (Ok (first_definition self.now (type_name name.entry))) }
     {
         let numbering = names.numbering;
         let first = numbering.first(name);
-        for candidate in names.candidates(first) {
+        let candidates = names.candidates(first);
+        for candidate in candidates {
             let index = numbering.index(first, *candidate);
             if self.defines(alloc, index, name)? {
                 return Ok(Some(index));
@@ -138,16 +139,17 @@ impl<'t> Definitions<'t> {
         name: TypeName<'_>,
     ) -> Result<Vec<TypeIndex>>
         requires of_table { IsIndexOf self.now names.now }
-        requires numbered { is_numbered names.now.numbering (type_name name.entry) ≡ true }
+        requires numbered { is_numbered names.now.numbering (type_name name) ≡ true }
         ensures { Answers (λ found. map (λ index. index.0) found.items) result
             (Ok (all_definitions self.now (type_name name.entry))) }
     {
         let numbering = names.numbering;
         let first = numbering.first(name);
+        let candidates = names.candidates(first);
         let mut found = Vec::new(alloc);
         // A definition has two numbers in the row if both of its names do.
         let mut next = numbering.least as u64;
-        for candidate in names.candidates(first) {
+        for candidate in candidates {
             let index = numbering.index(first, *candidate);
             let number = index.0 as u64;
             if number < next {

@@ -29,7 +29,8 @@ pub(crate) struct Numbering {
 impl Numbering {
     /// Returns how the names of a table are numbered.
     pub(crate) fn of(types: &OpenTable<TypeIndex>, has_source_names: bool) -> Self
-        ensures { result ≡ numbering_of types.now.table has_source_names }
+        ensures numbering { result ≡ numbering_of types.now.table has_source_names }
+        ensures fits { result.least + result.most ≤ 0xffff_ffff }
     {
         let least = types.items().header().minimum_index;
         let stream = RecordPlace {

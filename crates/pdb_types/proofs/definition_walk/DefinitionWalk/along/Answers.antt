@@ -23,7 +23,7 @@ pub loop-found-preserved : goal.loop-found-preserved
 loop-found-preserved c = (
   c.in_ok-note.ensures.kept ∙ c.loop-found.invariant.0,
   rw (c.in_ok-note.ensures.added, c.loop-found.invariant.0)
-  (found_more _ _ _ _ _ _ _ c.loop-found.invariant.1 (rw c.in-Some.is at c.in_ok-item.ensures)),
+      (found_more _ _ _ _ _ _ _ c.loop-found.invariant.1 (rw c.in-Some.is at c.in_ok-item.ensures)),
 )
 
 pub returns-then-gives_up-clause-walked : goal.returns-then-gives_up-clause-walked

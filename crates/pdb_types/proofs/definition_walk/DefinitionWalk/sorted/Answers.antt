@@ -9,11 +9,12 @@ returns-in_err-walk-clause-walked c = rw (passed_on _ _ c.from_residual.ensures.
     (whole_refused _ _ _ (rw c.items.ensures at c.in_err-walk.ensures.walked))
 
 pub returns-clause-kept : goal.returns-clause-kept
-returns-clause-kept c = rw (c.in_ok-walk.ensures.kept, c.of-numbering.ensures) refl
+returns-clause-kept c = rw (c.in_ok-walk.ensures.kept, c.of-numbering.ensures.numbering) refl
 
 pub returns-clause-numbered : goal.returns-clause-numbered
 returns-clause-numbered c = λ not.
-    numbered _ _ _ _ (rw (c.in_ok-walk.ensures.kept, c.of-numbering.ensures) refl)
+    numbered _ _ _ _ (rw (c.in_ok-walk.ensures.kept, c.of-numbering.ensures.numbering) refl)
+    (rw c.in_ok-walk.ensures.kept c.of-numbering.ensures.fits)
     (rw c.in_ok-walk.ensures.kept
     (whole_numbers _ _ _ (rw c.items.ensures at (c.in_ok-walk.ensures.walked not))))
     c.sort_unstable_by_key.ensures.permutation
