@@ -1,13 +1,15 @@
 -- The first definition of a name.
 use Rattle.std.proofs.Common.{◌≡◌, inl, inr, ℕ, ◌+◌, ◌-◌, ◌<◌, ◌≤◌, List, [], ◌∷◌, ◌++◌, length, subst, get_or, refl}
-use Rattle.std.proofs.Common.{zero, suc, sym, ap, ◌∙◌, arith, Bool, true, false, cond, eqb, leb, Option, Some, None}
+use Rattle.std.proofs.Common.{map, sym, ap, ◌∙◌, arith, Bool, true, false, cond, eqb, leb, Option, Some, None}
 use Rattle.std.proofs.Common.{Ok, Err}
 use Rattle.std.specs.List.{filter, find, list_any, range_with_len, slice_get}
 use Rattle.std.specs.List.Sorted.{IsNonDecreasingBy}
+use Rattle.std.specs.Option.{option_map}
 use Rattle.std.proofs.lemmas.Bool.{cases_Bool, cases_lt, both_ways, false_from_ne_true, eqb-true, leb-false, le-ltb}
 use Rattle.std.proofs.lemmas.List.{append-nil, get_or_default}
 use Rattle.std.proofs.lemmas.List.Folds.{Any-from_list_any}
 use Rattle.pdb_base.specs.Refusal.{type_not_found}
+use Rattle.pdb_base.specs.declared.index.TypeIndex.{TypeIndex}
 use Rattle.pdb_tpi.specs.Finder.{item_of}
 use Rattle.pdb_tpi.specs.Steps.{nth_item}
 use Rattle.pdb_tpi.specs.Table.{Table, count_in_header}
@@ -274,8 +276,16 @@ first_by p (n ∷ numbers) = elim (cases_Bool (p n)) [
   | inr fails ↦ rw fails (first_by p numbers)
 ]
 
-pub first_of_all : (table : Table) (name : TypeName)
-    → first_definition table name ≡ slice_get (all_definitions table name) 0
+mapped_first : (found : List TypeIndex) → slice_get (map (λ (index : TypeIndex). index.0) found) 0
+    ≡ option_map (λ (index : TypeIndex). index.0) (slice_get found 0)
+mapped_first [] = refl
+mapped_first (index ∷ found) = refl
+
+pub first_of_all : (table : Table) (name : TypeName) (found : List TypeIndex) (first : Option TypeIndex)
+    → all_definitions table name ≡ map (λ (index : TypeIndex). index.0) found → first ≡ slice_get found 0
+    → first_definition table name ≡ option_map (λ (index : TypeIndex). index.0) first
 unfolding first_definition all_definitions
-first_of_all table name = first_by (is_definition table name)
-    (range_with_len table.header.minimum_index (count_in_header table))
+first_of_all table name found first all is =
+    first_by (is_definition table name) (range_with_len table.header.minimum_index (count_in_header table))
+    ∙ ap (λ (l : List ℕ). slice_get l 0) all ∙ mapped_first found
+    ∙ ap (λ (o : Option TypeIndex). option_map (λ (index : TypeIndex). index.0) o) (sym is)

@@ -1,10 +1,10 @@
 -- The numbers of a table are those of its definitions.
 use Rattle.std.proofs.Common.{◌≡◌, ◌≢◌, inl, inr, ℕ, zero, suc, ◌+◌, ◌-◌, ◌*◌, ◌/◌, ◌<◌, ◌≤◌, List, [], ◌∷◌, ◌++◌}
 use Rattle.std.proofs.Common.{length}
-use Rattle.std.proofs.Common.{get_or, take, drop, refl, sym, ap, ◌∙◌, arith, Bool, true, false, not, ◌||◌, cond, eqb}
+use Rattle.std.proofs.Common.{get_or, take, drop, refl, sym, ap, ◌∙◌, arith, Bool, true, false, not, cond, eqb}
 use Rattle.std.proofs.Common.{ltb}
 use Rattle.std.proofs.Common.{leb, min, Option, Some, None, Ok, Err, Vec, Global}
-use Rattle.std.specs.List.{All, list_any, slice_get}
+use Rattle.std.specs.List.{list_any, slice_get}
 use Rattle.std.specs.List.Sorted.{IsNonDecreasingBy, IsPartitionPoint, IsPermutation}
 use Rattle.std.specs.Option.{option_map_or}
 use Rattle.std.specs.Str.{bytes_eq}
@@ -34,7 +34,7 @@ use Rattle.pdb_types.specs.declared.numbering.Numbering.{Numbering}
 use Rattle.pdb_types.specs.Declaration.{Declared, TypeName, source_name, decorated_name, bears, declaration_of}
 use Rattle.pdb_types.specs.Declaration.{is_forward}
 use Rattle.pdb_types.specs.Definition.{defines, declares, if_none_left, whole_table}
-use Rattle.pdb_types.specs.Numbering.{most_above, numbering_of, is_numbered, first_number, name_number}
+use Rattle.pdb_types.specs.Numbering.{most_above, numbering_of, is_numbered, name_number}
 use Rattle.pdb_types.specs.Numbering.{source_name_number}
 use Rattle.pdb_types.specs.Numbering.{unique_name_number, type_numbers, item_numbers, all_numbers, index_of_number}
 use Rattle.pdb_types.specs.Numbering.{HasNumbers}

@@ -1,4 +1,4 @@
-use Rattle.std.proofs.Common.{◌≡◌, true, false, refl, inl, arith, sym, ◌∙◌}
+use Rattle.std.proofs.Common.{true, refl, inl, arith, sym, ◌∙◌}
 use Rattle.std.proofs.lemmas.Bool.{both_ways}
 use Rattle.pdb_base.proofs.lemmas.Refused.{passed_on}
 use Rattle.pdb_types.specs.DefinitionWalk.{gives_up}
