@@ -196,7 +196,8 @@ defined_near table name index least is =
 -- its numbers, sorted
 pub numbered : (table : Table) (numbering : Numbering) (numbers sorted : List ℕ)
     → numbering ≡ numbering_of table numbering.has_source_names → numbering.least + numbering.most ≤ 0xffff_ffff
-    → numbers ≡ all_numbers numbering table → IsPermutation numbers sorted → IsNonDecreasingBy (λ (number : ℕ). number) sorted
+    → numbers ≡ all_numbers numbering table → IsPermutation numbers sorted
+    → IsNonDecreasingBy (λ (number : ℕ). number) sorted
     → HasNumbers table numbering sorted
 unfolding all_numbers
 numbered table numbering numbers sorted of_table fits are moved order = record {
