@@ -6,11 +6,11 @@ ghost use Rattle.pdb_base.specs.Memory.{FailsOnlyForMemory};
 ghost use Rattle.pdb_tpi.specs.Table.{table_of};
 ghost use Rattle.pdbdump_types.specs.Shown.{IsShowResult, IsStopped, StaysAccounted};
 
-use crate::c_style::c_text;
-use crate::dt_style::dt_text;
+use crate::c_style::push_c;
+use crate::dt_style::push_dt;
 use crate::enumeration::enumeration_text;
 use crate::expanded::expand;
-use crate::json::json_text;
+use crate::json::push_json;
 use crate::member_line::{PathLine, path_line};
 use crate::named::types_named;
 use crate::options::{Options, Order, Style};
@@ -23,8 +23,8 @@ use pdb_tpi::{OpenTable, TypeInformation};
 use pdb_types::{Definitions, Layout};
 use pdbdump_rows::{Form, error_text};
 use pdbdump_types::{
-    Allowance, LetterCase, Progress, TOO_MANY, TextAllowance, Wanted, class_layout, class_of,
-    classes_in, learn_table, tell, tell_fault, tell_index, type_at, write_layout,
+    Allowance, LetterCase, Progress, TOO_MANY, TextAllowance, TextBuffer, Wanted, class_layout,
+    class_of, classes_in, learn_table, tell, tell_fault, tell_index, type_at, write_layout,
 };
 use std::alloc::{AllocError, Global};
 use std::io::Write;
@@ -77,11 +77,13 @@ fn layout_text<'t>(
         others: shown_others(alloc, definitions, layout.index, options, records)?,
         line_size: options.line_size,
     };
+    let mut text = TextBuffer::new(alloc);
     match (form, options.style) {
-        (Form::Json, _) => json_text(alloc, definitions, &shown, texts),
-        (Form::Text, Style::C) => c_text(alloc, definitions, &shown, texts),
-        (Form::Text, Style::Dt) => dt_text(alloc, definitions, &shown, texts),
+        (Form::Json, _) => push_json(alloc, definitions, &shown, texts, &mut text)?,
+        (Form::Text, Style::C) => push_c(alloc, definitions, &shown, texts, &mut text)?,
+        (Form::Text, Style::Dt) => push_dt(alloc, definitions, &shown, texts, &mut text)?,
     }
+    Ok(text.finish()?)
 }
 
 /// Returns whether a layout is among those that are wanted.
