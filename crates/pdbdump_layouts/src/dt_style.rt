@@ -34,10 +34,7 @@ fn push_name(alloc: Global, name: &[u8], text: &mut TextBuffer) {
 
 /// Returns whether a field is a pointer to a table of virtual functions.
 fn is_table_pointer(field: &LayoutField<'_>) -> bool {
-    match field.place.kind {
-        FieldKind::VirtualFunctionPointer => true,
-        _ => false,
-    }
+    matches!(field.place.kind, FieldKind::VirtualFunctionPointer)
 }
 
 /// Appends the type of a field: `Pos 3, 5 Bits` for a bit field, and no more than that it is a

@@ -4,7 +4,7 @@
 use crate::options::{C_WIDTH, DT_WIDTH, Style};
 use pdb_base::{RawString, Result, TypeIndex};
 use pdb_types::Definitions;
-use pdb_values::{EnumerationType, TypeData};
+use pdb_values::TypeData;
 use pdbdump_rows::{Form, Value};
 use pdbdump_types::{
     Enumerator, ObjectBuffer, TextAllowance, TextBuffer, enumerators_of, push_enumerator,
@@ -43,19 +43,14 @@ struct ShownEnumeration<'t> {
 
 /// Returns the enumeration of a record with this index.
 fn enumeration_in<'t>(index: TypeIndex, value: &TypeData<'t>) -> Option<Enumeration<'t>> {
-    let TypeData::Enumeration(enumeration) = value else {
-        return None;
-    };
-    Some(enumeration_of(index, enumeration))
-}
-
-/// Returns what a record says of an enumeration.
-fn enumeration_of<'t>(index: TypeIndex, record: &EnumerationType<'t>) -> Enumeration<'t> {
-    Enumeration {
-        index,
-        name: record.name,
-        list: record.fields,
-        underlying_type: record.underlying_type,
+    match value {
+        TypeData::Enumeration(record) => Some(Enumeration {
+            index,
+            name: record.name,
+            list: record.fields,
+            underlying_type: record.underlying_type,
+        }),
+        _ => None,
     }
 }
 
