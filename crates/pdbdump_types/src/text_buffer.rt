@@ -38,6 +38,11 @@ impl TextBuffer {
         self.is_whole = self.is_whole && self.bytes.extend_from_slice(bytes).is_ok();
     }
 
+    /// Appends a byte.
+    pub fn push_byte(&mut self, byte: u8) {
+        self.is_whole = self.is_whole && self.bytes.push(byte).is_ok();
+    }
+
     /// Appends a text that was made, or notes that an allocation failed for it.
     pub fn push_made(&mut self, made: Result<Vec<u8>, AllocError>) {
         match made {
@@ -93,7 +98,7 @@ impl TextBuffer {
     /// Appends spaces.
     fn push_spaces(&mut self, count: usize) {
         for _ in 0..count {
-            self.push(b" ");
+            self.push_byte(b' ');
         }
     }
 
