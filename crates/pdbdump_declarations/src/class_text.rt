@@ -119,7 +119,6 @@ fn push_bases(context: &Context<'_, '_>, sketch: &Sketch, plan: &Plan, out: &mut
 
 /// Appends the pieces of a class between its braces.
 fn push_body(
-    alloc: Global,
     context: &Context<'_, '_>,
     word: Word,
     sketch: &Sketch,
@@ -134,7 +133,7 @@ fn push_body(
         at: 0,
     };
     if word == Word::Union {
-        body.push_alternatives(alloc, 1, &sketch.pieces, 0, out);
+        body.push_alternatives(1, &sketch.pieces, 0, out);
         let end = plan.groups.first().map(|group| group.end).unwrap_or(0);
         if align_up(end, plan.alignment) < size {
             push_number(b"    unsigned char pad_0x0[", size, out);
@@ -148,21 +147,20 @@ fn push_body(
     for group in plan.groups.iter().take(plan.bases) {
         body.at = group.end;
     }
-    body.push_groups(alloc, plan.bases, size, plan.alignment, out);
+    body.push_groups(plan.bases, size, plan.alignment, out);
 }
 
 /// Appends a comment with the name and the index of a type as the file has them.
-pub(crate) fn push_origin(alloc: Global, target: &Target<'_>, out: &mut TextBuffer) {
+pub(crate) fn push_origin(target: &Target<'_>, out: &mut TextBuffer) {
     out.push(b"// 0x");
-    out.push_hexadecimal(alloc, target.index.0 as u64);
+    out.push_hexadecimal(target.index.0 as u64);
     out.push(b" ");
-    push_quoted(alloc, target.named.name.as_bytes(), out);
+    push_quoted(target.named.name.as_bytes(), out);
     out.push(b"\n");
 }
 
 /// Appends the definition of a class from what it is made of.
 fn push_definition(
-    alloc: Global,
     context: &Context<'_, '_>,
     target: &Target<'_>,
     sketch: &Sketch,
@@ -182,7 +180,7 @@ fn push_definition(
         out.push(base);
         out.push(b"\n");
     }
-    push_body(alloc, context, target.named.word, sketch, plan, size, out);
+    push_body(context, target.named.word, sketch, plan, size, out);
     out.push(b"};\n");
     if !plan.is_natural {
         out.push(b"#pragma pack(pop)\n");
@@ -218,7 +216,7 @@ pub(crate) fn push_class<'t>(
     let Sketcher { known, sketch, .. } = sketcher;
     let (word, size) = (target.named.word, layout.size);
     text.push_text(&sketch.before);
-    push_origin(alloc, target, text);
+    push_origin(target, text);
     if size == 0 || !target.name.scope.is_empty() {
         push_declaration(alloc, context, target, known, text)?;
     }
@@ -228,7 +226,7 @@ pub(crate) fn push_class<'t>(
         return Ok(());
     }
     let plan = plan_of(alloc, context, word, &sketch, size)?;
-    push_definition(alloc, context, target, &sketch, &plan, size, text);
+    push_definition(context, target, &sketch, &plan, size, text);
     push_assertion(context, target, None, size, text);
     text.push_text(&sketch.assertions);
     text.push(b"\n");

@@ -80,7 +80,7 @@ pub(crate) fn push_enumeration<'t>(
     let underlying = enumeration.underlying_type;
     let all = enumerators_of(alloc, definitions, enumeration.fields, underlying)?;
     let names = names_of(alloc, &all)?;
-    push_origin(alloc, target, text);
+    push_origin(target, text);
     if context.is_c() || !target.name.scope.is_empty() {
         push_declaration(alloc, context, target, known, text)?;
     }

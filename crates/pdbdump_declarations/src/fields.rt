@@ -196,7 +196,7 @@ impl<'s, 'd, 't> Sketcher<'s, 'd, 't> {
         let start = field.place.offset;
         let size = self.context.definitions.size_of(alloc, index)?;
         let Some(width) = end.checked_sub(start) else {
-            self.push_note(alloc, BEYOND, name);
+            self.push_note(BEYOND, name);
             return Ok(());
         };
         let is_base = base.is_some();
@@ -253,7 +253,7 @@ impl<'s, 'd, 't> Sketcher<'s, 'd, 't> {
         why: &str,
     ) -> Result<()> {
         if width == 0 {
-            self.push_note(alloc, BEYOND, name);
+            self.push_note(BEYOND, name);
             return Ok(());
         }
         let definitions = self.context.definitions;
@@ -268,7 +268,7 @@ impl<'s, 'd, 't> Sketcher<'s, 'd, 't> {
         text.push(b"];  // bytes ");
         text.push(why.as_bytes());
         text.push(b": ");
-        push_quoted(alloc, &own, &mut text);
+        push_quoted(&own, &mut text);
         text.push(b"\n");
         self.push_piece(field.place.offset, width, text.finish()?, 1, None)?;
         Ok(())

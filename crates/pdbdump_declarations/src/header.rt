@@ -14,12 +14,12 @@ use crate::needed::limit_types;
 use crate::options::{Language, Options};
 use crate::roots::{first_types, types_named};
 use crate::sketch::push_number;
-use crate::table_walk::{Walked, type_at, walk};
+use crate::table_walk::{Walked, walk};
 use pdb_base::{Error, Stream, TypeIndex};
 use pdb_output::Output;
 use pdb_types::{DeclarationOrder, Definitions};
 use pdb_values::TypeData;
-use pdbdump_types::{Progress, TextBuffer, learn_table, tell, tell_fault, tell_index};
+use pdbdump_types::{Progress, TextBuffer, learn_table, tell, tell_fault, tell_index, type_at};
 use std::alloc::Global;
 use std::io::Write;
 
@@ -54,10 +54,11 @@ fn type_text<'t>(
     let Some(target) = context.target(alloc, index)? else {
         return Ok(Vec::new(alloc));
     };
+    let definitions = context.definitions;
     let mut text = TextBuffer::new(alloc);
-    if let TypeData::Enumeration(enumeration) = type_at(alloc, context.definitions, index)? {
+    if let TypeData::Enumeration(enumeration) = type_at(alloc, definitions.types(), index)? {
         push_enumeration(alloc, context, &target, &enumeration, known, &mut text)?;
-    } else if let Some(layout) = context.definitions.layout_of(alloc, index)? {
+    } else if let Some(layout) = definitions.layout_of(alloc, index)? {
         push_class(alloc, context, &target, &layout, known, &mut text)?;
     }
     Ok(text.finish()?)

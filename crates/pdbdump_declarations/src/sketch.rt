@@ -88,12 +88,12 @@ impl<'s, 'd, 't> Sketcher<'s, 'd, 't> {
     }
 
     /// Adds a line of comment on a member that isn't declared.
-    pub(crate) fn push_note(&mut self, alloc: Global, why: &str, what: &[u8]) {
+    pub(crate) fn push_note(&mut self, why: &str, what: &[u8]) {
         let notes = &mut self.sketch.notes;
         notes.push(b"    // ");
         notes.push(why.as_bytes());
         notes.push(b": ");
-        push_quoted(alloc, what, notes);
+        push_quoted(what, notes);
         notes.push(b"\n");
     }
 }

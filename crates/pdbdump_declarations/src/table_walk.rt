@@ -94,18 +94,6 @@ pub(crate) fn named_of<'t>(value: &TypeData<'t>) -> Option<Named<'t>> {
     }
 }
 
-/// Returns the type of an index.
-///
-/// # Errors
-/// Fails as `OpenTable::item` and `Type::parse` do.
-pub(crate) fn type_at<'t>(
-    alloc: Global,
-    definitions: &Definitions<'t>,
-    index: TypeIndex,
-) -> Result<TypeData<'t>, Error> {
-    definitions.types().item(index)?.parse(alloc)
-}
-
 /// Returns the value of a record that is no list, if it can be read.
 fn value_at<'t>(
     alloc: Global,

@@ -37,13 +37,13 @@ fn push_head(
     text.push(sign);
     text.push(defined.word.as_bytes());
     text.push(b" ");
-    text.push_escaped(alloc, defined.name.as_bytes());
+    text.push_escaped(defined.name.as_bytes());
     if let Some((_, underlying_type)) = defined.enumeration {
         text.push(b" : ");
         texts.push(alloc, version.definitions, underlying_type, b"", text)?;
     }
     let size = version.definitions.size_of(alloc, version.index)?;
-    text.end_head(alloc, version.index, size);
+    text.end_head(version.index, size);
     Ok(())
 }
 

@@ -93,7 +93,7 @@ fn push_other(
     text: &mut TextBuffer,
 ) -> Result<()> {
     text.push_indent(1, C_WIDTH);
-    text.push_escaped(alloc, &other_declaration(alloc, definitions, other, texts)?);
+    text.push_escaped(&other_declaration(alloc, definitions, other, texts)?);
     text.push(b";\n");
     Ok(())
 }
@@ -150,7 +150,7 @@ pub(crate) fn push_c<'t>(
     let layout = shown.layout;
     let class = shown.class.as_ref();
     push_head(alloc, definitions, &layout.fields, class, texts, text)?;
-    text.end_head(alloc, layout.index, Some(layout.size));
+    text.end_head(layout.index, Some(layout.size));
     push_rows(alloc, definitions, shown, texts, text)?;
     if shown.expansion.is_cut {
         text.push_indent(1, C_WIDTH);

@@ -25,9 +25,9 @@ fn field_name<'t>(field: &LayoutField<'t>) -> &'t [u8] {
 }
 
 /// Appends a name, and what is between it and a type.
-fn push_name(alloc: Global, name: &[u8], text: &mut TextBuffer) {
+fn push_name(name: &[u8], text: &mut TextBuffer) {
     let start = text.len();
-    text.push_escaped(alloc, name);
+    text.push_escaped(name);
     text.align(start, NAME);
     text.push(b": ");
 }
@@ -75,7 +75,7 @@ fn push_row<'t>(
     let offset = field.place.offset;
     text.push_indent(shown_row.depth.saturating_add(1), DT_WIDTH);
     text.push_string(format!(in alloc; "+0x{offset:03x} "));
-    push_name(alloc, field_name(field), text);
+    push_name(field_name(field), text);
     push_type(alloc, definitions, field, texts, text)?;
     text.push(b"\n");
     Ok(())
@@ -100,7 +100,7 @@ fn push_other(
 ) -> Result<()> {
     text.push_indent(1, DT_WIDTH);
     text.push(other_mark(other.role));
-    push_name(alloc, other.name.as_bytes(), text);
+    push_name(other.name.as_bytes(), text);
     push_dt_type(alloc, definitions, other.type_index, texts, text)?;
     text.push(b"\n");
     Ok(())
@@ -116,7 +116,7 @@ pub(crate) fn push_dt<'t>(
     text: &mut TextBuffer,
 ) -> Result<()> {
     if let Some(class) = &shown.class {
-        text.push_escaped(alloc, class.name.as_bytes());
+        text.push_escaped(class.name.as_bytes());
         text.push(b"\n");
     }
     for row in &shown.expansion.rows {

@@ -74,15 +74,11 @@ fn enumeration_at<'t>(
 /// Appends an enumeration as the declaration of C++.
 fn push_c(alloc: Global, shown: &ShownEnumeration<'_>, text: &mut TextBuffer) {
     text.push(b"enum ");
-    text.push_escaped(alloc, shown.enumeration.name.as_bytes());
+    text.push_escaped(shown.enumeration.name.as_bytes());
     text.push(b" : ");
-    text.push_escaped(alloc, &shown.type_text);
+    text.push_escaped(&shown.type_text);
     text.push(b" {");
-    text.end_head(
-        alloc,
-        shown.enumeration.index,
-        Some(shown.size.unwrap_or(0)),
-    );
+    text.end_head(shown.enumeration.index, Some(shown.size.unwrap_or(0)));
     for enumerator in &shown.enumerators {
         text.push_indent(1, C_WIDTH);
         push_enumerator(alloc, enumerator, text);
@@ -92,12 +88,12 @@ fn push_c(alloc: Global, shown: &ShownEnumeration<'_>, text: &mut TextBuffer) {
 
 /// Appends an enumeration in the style of WinDbg's `dt`.
 fn push_dt(alloc: Global, shown: &ShownEnumeration<'_>, text: &mut TextBuffer) {
-    text.push_escaped(alloc, shown.enumeration.name.as_bytes());
+    text.push_escaped(shown.enumeration.name.as_bytes());
     text.push(b"\n");
     for enumerator in &shown.enumerators {
         let value = enumerator.value;
         text.push_indent(1, DT_WIDTH);
-        text.push_escaped(alloc, enumerator.name.as_bytes());
+        text.push_escaped(enumerator.name.as_bytes());
         text.push_string(format!(in alloc; " = 0n{value}\n"));
     }
 }

@@ -47,7 +47,7 @@ pub(crate) fn push_head<'t>(
     if let Some(class) = class {
         head.push(class.word.as_bytes());
         head.push(b" ");
-        head.push_escaped(alloc, class.name.as_bytes());
+        head.push_escaped(class.name.as_bytes());
     }
     push_bases(alloc, definitions, fields, texts, head)?;
     head.push(b" {");

@@ -40,10 +40,10 @@ fn push_line(
     found: &FoundMember<'_>,
     line: &mut TextBuffer,
 ) {
-    line.push_escaped(alloc, path);
+    line.push_escaped(path);
     if let Some(pointer) = pointer_path(path, found) {
         line.push(b": through the pointer ");
-        line.push_escaped(alloc, pointer);
+        line.push_escaped(pointer);
     }
     let offset = found.field.place.offset;
     line.push_string(match found.field.extent {
@@ -54,7 +54,7 @@ fn push_line(
         }
         Extent::Unknown => format!(in alloc; ": offset 0x{offset:x}, "),
     });
-    line.push_escaped(alloc, type_text);
+    line.push_escaped(type_text);
     line.push(b"\n");
 }
 
@@ -166,22 +166,22 @@ fn push_no_member(
     }
     texts.push(alloc, definitions, class, b"", why)?;
     why.push(b" has no member ");
-    why.push_escaped(alloc, name);
+    why.push_escaped(name);
     let nearest = nearest_members(alloc, definitions, class, name, records)?;
-    nearest.push_question(alloc, why);
+    nearest.push_question(why);
     Ok(())
 }
 
 /// Appends a path, escaped, and a text behind it.
-fn push_path(alloc: Global, path: &[u8], text: &[u8], why: &mut TextBuffer) {
-    why.push_escaped(alloc, path);
+fn push_path(path: &[u8], text: &[u8], why: &mut TextBuffer) {
+    why.push_escaped(path);
     why.push(text);
 }
 
 /// Appends that an array has only so many elements.
 fn push_beyond(alloc: Global, path: &[u8], count: u64, why: &mut TextBuffer) {
     let more = plural(count);
-    why.push_escaped(alloc, path);
+    why.push_escaped(path);
     why.push_string(format!(in alloc; " has {count} element{more}"));
 }
 
@@ -205,7 +205,7 @@ fn push_no_type(
             nearest.compare(alloc, name.as_bytes())?;
         }
     }
-    nearest.push_question(alloc, why);
+    nearest.push_question(why);
     Ok(())
 }
 
@@ -233,16 +233,11 @@ pub(crate) fn path_line(
             push_no_member(alloc, definitions, class, name, records, texts, &mut why)?;
         }
         Some(PathEnd::NoElements(before)) => {
-            push_path(alloc, before, b" has no elements of a known size", &mut why);
+            push_path(before, b" has no elements of a known size", &mut why);
         }
         Some(PathEnd::Beyond(before, count)) => push_beyond(alloc, before, count, &mut why),
         Some(PathEnd::NoNumber(before)) => {
-            push_path(
-                alloc,
-                before,
-                b" is followed by no number in brackets",
-                &mut why,
-            );
+            push_path(before, b" is followed by no number in brackets", &mut why);
         }
         None => push_no_type(alloc, definitions, path, &mut why)?,
     }

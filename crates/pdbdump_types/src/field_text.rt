@@ -50,7 +50,7 @@ fn push_member<'t>(
     match field.extent {
         Extent::Bits(bits) if name.is_empty() => {
             let declared = bit_field_text(alloc, definitions, bits, texts)?;
-            text.push_escaped(alloc, &declared.bytes);
+            text.push_escaped(&declared.bytes);
             Ok(())
         }
         _ => texts.push(alloc, definitions, field.place.field_type, name, text),
@@ -120,6 +120,6 @@ pub fn push_field<'t>(
 /// Appends an enumerator, and the end of its line.
 pub fn push_enumerator(alloc: Global, enumerator: &Enumerator<'_>, text: &mut TextBuffer) {
     let value = enumerator.value;
-    text.push_escaped(alloc, enumerator.name.as_bytes());
+    text.push_escaped(enumerator.name.as_bytes());
     text.push_string(format!(in alloc; " = {value},\n"));
 }

@@ -93,7 +93,7 @@ pub fn tell<E: Write>(
     ensures memory { FailsOnlyForMemory result }
 {
     let mut line = TextBuffer::new(alloc);
-    line.push_escaped(alloc, what);
+    line.push_escaped(what);
     line.push(b": ");
     line.push(why);
     line.push(b"\n");

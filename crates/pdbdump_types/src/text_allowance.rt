@@ -81,7 +81,7 @@ impl TextAllowance {
         name: &[u8],
         out: &mut TextBuffer,
     ) -> Result<()> {
-        out.push_escaped(alloc, &self.bytes(alloc, definitions, index, name)?);
+        out.push_escaped(&self.bytes(alloc, definitions, index, name)?);
         Ok(())
     }
 }

@@ -14,6 +14,7 @@ const COMMENT: usize = 44;
 /// that a text that lacks something is never returned.
 #[derive(Drop)]
 pub struct TextBuffer {
+    alloc: Global,
     bytes: Vec<u8>,
 
     /// Whether each allocation so far succeeded.
@@ -24,6 +25,7 @@ impl TextBuffer {
     /// Returns an empty text.
     pub fn new(alloc: Global) -> Self {
         TextBuffer {
+            alloc,
             bytes: Vec::new(alloc),
             is_whole: true,
         }
@@ -60,8 +62,8 @@ impl TextBuffer {
     }
 
     /// Appends a text of a file as lines show it, with escapes for control characters.
-    pub fn push_escaped(&mut self, alloc: Global, text: &[u8]) {
-        self.push_made(escape_text(alloc, text));
+    pub fn push_escaped(&mut self, text: &[u8]) {
+        self.push_made(escape_text(self.alloc, text));
     }
 
     /// Appends another text, or notes that an allocation failed for it.
@@ -71,8 +73,8 @@ impl TextBuffer {
     }
 
     /// Appends a number in hexadecimal.
-    pub fn push_hexadecimal(&mut self, alloc: Global, number: u64) {
-        self.push_string(format!(in alloc; "{number:x}"));
+    pub fn push_hexadecimal(&mut self, number: u64) {
+        self.push_string(format!(in self.alloc; "{number:x}"));
     }
 
     /// Appends the fields of an object, without the brace behind them.
@@ -138,7 +140,8 @@ impl TextBuffer {
 
     /// Ends the line with which a definition begins: its comment is the index, and the size if
     /// something says it.
-    pub fn end_head(&mut self, alloc: Global, index: TypeIndex, size: Option<u64>) {
+    pub fn end_head(&mut self, index: TypeIndex, size: Option<u64>) {
+        let alloc = self.alloc;
         let index = index.0;
         self.begin_comment();
         self.push_string(match size {
