@@ -54,6 +54,12 @@ def line_of(name, code, text, is_json):
     return f"{told if is_json else f'pdbdump: {name}: {text}'}\n".encode()
 
 
+# What pdbdump says of the errors that pdbq tells by their names.
+SENTENCES = {
+    "UnexpectedEof": "data ends in the middle of a record or a table",
+    "TypeTooShort": "the length of a record leaves no room for its kind",
+    "StreamNameNotFound": "no stream has the name or the role that is looked for",
+}
 UNRECOGNIZED = refused("UnrecognizedFileFormat")
 NO_OMAP = refused("OMAP stream has an invalid length or alignment for its records")
 NO_NAMES = refused("Unimplemented PDB feature: invalid string table signature")
@@ -109,7 +115,8 @@ def check_misused(tally, dumper, words):
 
 
 def objects_of(tally, dumper, words):
-    """The objects that pdbdump writes as lines of JSON, none where a line is something else."""
+    """The objects that pdbdump writes as lines of JSON, none where a line is something else. The status has to be 1 if one
+    of them says that a record can't be read."""
     came = call(dumper, words)
     what = f"{dumper.name} {' '.join(map(str, words))}"
     try:
@@ -117,5 +124,6 @@ def objects_of(tally, dumper, words):
     except ValueError as error:
         tally.check(False, f"{what} shows a line that is no JSON: {error}")
         return []
-    tally.check(came.status == 0 and not came.err, f"{what}: status {came.status}, {came.err[:300]!r}")
+    wanted = 1 if any("error" in one for one in found) else 0
+    tally.check(came.status == wanted and not came.err, f"{what}: status {came.status}, {came.err[:300]!r}")
     return found

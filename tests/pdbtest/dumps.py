@@ -6,7 +6,7 @@ import random
 
 from pdbtest import llvm
 from pdbtest.addresses import OMAP, moved_lines
-from pdbtest.calls import Outcome, about, call, check_call, objects_of, refused
+from pdbtest.calls import SENTENCES, Outcome, about, call, check_call, objects_of, refused
 from pdbtest.msf import TYPES, Msf
 from pdbtest.roles import HEADER_ROLES, ROLES
 from pdbtest.tables import Leaf
@@ -161,7 +161,7 @@ def listed_by(tally, dumper, file, has_names):
     commands = ("summary", "sections", "types", "ids") + (("names",) if has_names else ())
     rows = {"names": []} | {command: objects_of(tally, dumper, [command, "--json", file]) for command in commands}
     if not has_names:
-        check_call(tally, dumper, ["names", file], about(file, refused("StreamNameNotFound")))
+        check_call(tally, dumper, ["names", file], about(file, refused(SENTENCES["StreamNameNotFound"])))
     streams = [row for row in rows["summary"] if "stream" in row]
     kinds = [row for row in rows["summary"] if row.get("table") == TYPES and "kind" in row]
     roles = ROLES | HEADER_ROLES

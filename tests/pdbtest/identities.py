@@ -5,7 +5,7 @@ import struct
 import uuid
 
 from pdbtest import llvm
-from pdbtest.calls import Outcome, call, check_call
+from pdbtest.calls import Outcome, call, check_call, check_misused
 from pdbtest.msf import DEBUG, INFORMATION, Refused, streams_of, word
 
 CPUS = {0x8664: "x86_64", 0x14C: "x86", 0xAA64: "arm64", 0x1C4: "arm", 0x1C0: "arm"}  # that of an older ARM too
@@ -120,6 +120,9 @@ def check_identity(tally, dumpers, file, image):
         line = wanted.line("key", file.name)
         for key in (wanted.key, wanted.key.lower()):
             check(["--expect", key, file], 0, line)
-        for key in (wanted.key + "0", wanted.key[:-1], wanted.guid, ""):
-            told = f"pdbdump: {file}: the file has another key than the expected one\n".encode()
-            check(["--expect", key, file], 1, line, told)
+        for key in (wanted.key[:32] + "0" * 8, wanted.key[:31] + wanted.key[-1] + "12345678", wanted.key[:32] + "f"):
+            if int(key[32:], 16) != wanted.age:
+                told = f"pdbdump: {file}: the file has another key than the expected one\n".encode()
+                check(["--expect", key, file], 1, line, told)
+        for word in (wanted.key[:32], wanted.key[:32] + "0" * 9, wanted.key[:-1] + "g", wanted.guid, "xyz"):
+            check_misused(tally, dumper, ["id", "--expect", word, file])

@@ -9,11 +9,11 @@ use Rattle.pdb_identity.specs.declared.format.Format.TheVariants.{Image, Msf7}
 use Rattle.pdb_identity.specs.declared.identity.Identity.{Identity}
 use Rattle.pdb_msf.specs.Header.{file_head}
 use Rattle.pdb_msf.specs.Source.{State, IsKept}
-use Rattle.pdb_cli.specs.Channels.{IsFaultReported}
 use Rattle.pdb_output.specs.Output.{GetsUnlessFailed, OutputState, Writes, done_of}
 use Rattle.pdbdump_tables.specs.Identity.{IsKey}
 use Rattle.pdbdump_tables.specs.Reading.{Reads}
 use Rattle.pdbdump_cli.specs.InputFile.{IsFront}
+use Rattle.pdbdump_cli.specs.Sentences.{IsFaultTold}
 use Rattle.pdbdump_cli.specs.Served.{IsEnded}
 
 -- what identifies a file
@@ -64,7 +64,7 @@ pub data IsImageDone (out out' err err' : OutputState) (status : ℕ) : Type 0 w
       → IsImageDone out out' err err' status
   nameless : (message : List ℕ) → out' ≡ out → GetsUnlessFailed err err' message → status ≡ 1
       → IsImageDone out out' err err' status
-  unread : (fault : Error) → out' ≡ out → IsFaultReported fault err err' status
+  unread : (fault : Error) → out' ≡ out → IsFaultTold fault err err' status
       → IsImageDone out out' err err' status
 
 -- What `id` does with a file: it reports that the file has another format, as its front says, or that it can't be read,
@@ -80,5 +80,5 @@ pub data IsIdDone (expected : Option (List ℕ)) (file : State) (out out' err er
       → IsIdDone expected file out out' err err' status
   image : (front : List ℕ) → IsFront file front → format_of front ≡ Image → IsImageDone out out' err err' status
       → IsIdDone expected file out out' err err' status
-  unread_front : (fault : Error) → out' ≡ out → IsFaultReported fault err err' status
+  unread_front : (fault : Error) → out' ≡ out → IsFaultTold fault err err' status
       → IsIdDone expected file out out' err err' status

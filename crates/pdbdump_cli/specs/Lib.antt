@@ -11,5 +11,6 @@ pub mod Matched
 pub mod Questions
 pub mod Reported
 pub mod Requests
+pub mod Sentences
 pub mod Served
 pub mod Validated

@@ -5,9 +5,9 @@ use Rattle.std.specs.declared.io.ErrorKind.TheVariants as kinds
 use Rattle.std.specs.IoError.{error_kind}
 use Rattle.pdb_base.specs.declared.error.Error.{Error}
 use Rattle.pdb_base.specs.declared.error.Error.TheVariants.{IoError}
-use Rattle.pdb_cli.specs.Channels.{IsFaultReported}
 use Rattle.pdb_msf.specs.Source.{State}
 use Rattle.pdb_output.specs.Output.{OutputState, Flushes, done_of}
+use Rattle.pdbdump_cli.specs.Sentences.{IsFaultTold}
 use Rattle.pdbdump_cli.specs.declared.input_file.InputFile.{InputFile}
 
 -- the reader of the output has closed it
@@ -25,7 +25,7 @@ pub record IsQuiet (old new : OutputState) (status : ℕ) : Type 0 where
 abbrev pub EndsProgram : Result (Unit {0}) Error → OutputState → OutputState → ℕ → Type 0
 EndsProgram (Ok done) old new status = IsQuiet old new status
 EndsProgram (Err fault) old new status =
-    (IsClosed fault → IsQuiet old new status) × ((IsClosed fault → ⊥) → IsFaultReported fault old new status)
+    (IsClosed fault → IsQuiet old new status) × ((IsClosed fault → ⊥) → IsFaultTold fault old new status)
 
 -- The output was flushed behind a listing, and the program ended as the first fault of both says, if there
 -- is one.
@@ -50,4 +50,4 @@ pub record IsEndedAs (answer : Result Bool Error) (written out' err err' : Outpu
 abbrev pub IsFileServed : {S : Type 0} → (S → State) → (State → Type 0) → Result (InputFile S) Error → OutputState
     → OutputState → OutputState → OutputState → ℕ → Type 0
 IsFileServed state does (Ok file) out out' err err' status = does (state file.source)
-IsFileServed state does (Err fault) out out' err err' status = (out' ≡ out) × IsFaultReported fault err err' status
+IsFileServed state does (Err fault) out out' err err' status = (out' ≡ out) × IsFaultTold fault err err' status

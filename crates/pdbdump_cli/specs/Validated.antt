@@ -1,7 +1,6 @@
 -- What `validate` does with a file, and how the program ends.
 use Rattle.std.specs.Prelude.{◌≡◌, ◌↔◌, ⊤, ℕ, Bool, true, false, IsTrue, List, [], Result}
 use Rattle.pdb_base.specs.declared.error.Error.{Error}
-use Rattle.pdb_cli.specs.Channels.{IsFaultReported}
 use Rattle.pdb_msf.specs.Source.{State, IsFixed}
 use Rattle.pdb_output.specs.Output.{OutputState, Writes}
 use Rattle.pdbdump_rows.specs.declared.form.Form.{Form}
@@ -12,6 +11,7 @@ use Rattle.pdb_validation.specs.Finding.{FaultPlace, error_count, warning_count}
 use Rattle.pdb_validation.specs.IsWhole.{IsWhole}
 use Rattle.pdb_validation.specs.Whole.{faults_of}
 use Rattle.pdbdump_cli.specs.declared.command.ValidateOptions.{ValidateOptions}
+use Rattle.pdbdump_cli.specs.Sentences.{IsFaultTold}
 use Rattle.pdbdump_cli.specs.Served.{IsEnded}
 
 -- There is no error among the faults of a file, and no warning either where that counts too.
@@ -69,5 +69,5 @@ pub data IsValidatedIn (options : ValidateOptions) (form : Form) (file : State) 
   concluded : (faults : List FaultPlace) → (IsFixed file → AreFaultsOf options.extent file.bytes faults)
       → IsConcluded options form faults out out' err err' status
       → IsValidatedIn options form file out out' err err' status
-  unread : (fault : Error) → out' ≡ out → IsFaultReported fault err err' status
+  unread : (fault : Error) → out' ≡ out → IsFaultTold fault err err' status
       → IsValidatedIn options form file out out' err err' status

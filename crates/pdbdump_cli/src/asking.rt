@@ -5,8 +5,8 @@ ghost use Rattle.pdbdump_cli.specs.Served.{IsFileServed};
 
 use crate::ask;
 use crate::input_file::InputFile;
+use crate::sentences::tell;
 use crate::served::end_as;
-use pdb_cli::tell;
 use pdb_container::{Result, Source};
 use pdb_output::Output;
 use pdbdump_rows::Form;

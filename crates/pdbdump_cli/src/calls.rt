@@ -27,6 +27,8 @@ pub enum Misuse<'w> {
         /// What help calls it.
         name: &'static str,
     },
+    /// A key that is expected is none.
+    NoKey(&'w str),
     /// Two inputs would be read from standard input.
     InputTwice,
     /// An option or an operand of this name is given with an option that it can't be used with.
@@ -34,10 +36,9 @@ pub enum Misuse<'w> {
 }
 
 /// The options whose values are numbers, and what help calls these.
-const NUMBERS: [(&str, &str); 13] = [
+const NUMBERS: [(&str, &str); 12] = [
     ("stream", "S"),
     ("index", "I"),
-    ("uses", "I"),
     ("old", "S"),
     ("new", "S"),
     ("sections", "S"),
@@ -122,6 +123,20 @@ fn wrong_number<'w>(matches: &ArgMatches<'w>) -> Option<Misuse<'w>> {
     wrong_address(matches)
 }
 
+/// Returns whether a text has the form of a key: the 32 digits of the GUID, and up to 8 of the age.
+fn is_key_text(text: &str) -> bool {
+    let digits = text.as_bytes();
+    (33..=40).contains(&digits.len()) && digits.iter().all(|digit| digit.is_ascii_hexdigit())
+}
+
+/// Returns a key that is expected though it is none.
+fn wrong_key<'w>(matches: &ArgMatches<'w>) -> Option<Misuse<'w>> {
+    match matches.get_str("expect") {
+        Some(text) if !is_key_text(text) => Some(Misuse::NoKey(text)),
+        _ => None,
+    }
+}
+
 /// Returns the form of the output that a call requests.
 pub fn form_of(matches: &ArgMatches<'_>) -> Form {
     if matches.get_flag("json") {
@@ -193,9 +208,12 @@ fn listing<'m, 'w>(name: &str, matches: &ArgMatches<'w>) -> Command<'m, 'w> {
     table(name, stream, index)
 }
 
-/// Returns the last part of a path.
-fn file_name(path: &str) -> &str {
-    Path::new(path).file_name().unwrap_or(path)
+/// Returns the last part of a path, or None for standard input.
+fn file_name(path: &str) -> Option<&str> {
+    match path {
+        "-" => None,
+        path => Some(Path::new(path).file_name().unwrap_or(path)),
+    }
 }
 
 /// Returns what `id` shows of the file at a path.
@@ -206,10 +224,11 @@ fn identify<'w>(matches: &ArgMatches<'w>, path: &'w str) -> Identify<'w> {
         Some("guid") => KeyStyle::Guid,
         _ => KeyStyle::Key,
     };
+    let given_name = matches.get_str("name");
     Identify {
         style,
-        name: matches.get_str("name").unwrap_or(file_name(path)),
-        given_name: matches.get_str("name"),
+        name: given_name.or(file_name(path)),
+        given_name,
         expected: matches.get_str("expect"),
     }
 }
@@ -339,11 +358,11 @@ fn beside(name: &str, matches: &ArgMatches<'_>) -> Option<(&'static str, &'stati
 /// Checks what the description of a command doesn't say of its arguments.
 ///
 /// # Errors
-/// Fails with `NoNumber` if an argument that has to be a number isn't one, with `InputTwice` if two
-/// inputs would be read from standard input, and with `Beside` if an option is given with what it
-/// can't be used with.
+/// Fails with `NoNumber` if an argument that has to be a number isn't one, with `NoKey` if one that has
+/// to be a key isn't one, with `InputTwice` if two inputs would be read from standard input, and with
+/// `Beside` if an option is given with what it can't be used with.
 pub fn check_call<'w>(name: &str, matches: &ArgMatches<'w>) -> Result<(), Misuse<'w>> {
-    if let Some(misuse) = wrong_number(matches) {
+    if let Some(misuse) = wrong_number(matches).or(wrong_key(matches)) {
         return Err(misuse);
     }
     if standard_inputs(name, matches) > 1 {

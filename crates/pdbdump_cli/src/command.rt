@@ -100,8 +100,8 @@ pub struct Selected<'m, 'w> {
 pub struct Identify<'w> {
     /// How the identity is written as text.
     pub style: KeyStyle,
-    /// The name of the file.
-    pub name: &'w str,
+    /// The name of the file, if it has one.
+    pub name: Option<&'w str>,
     /// The name that is given, which an image's database is told under too.
     pub given_name: Option<&'w str>,
     /// The key that the file should have.

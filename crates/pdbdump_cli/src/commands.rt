@@ -152,8 +152,9 @@ pub(crate) const TYPES: Description = Description {
     details: "\
 Each type of the table, which is in stream 2 by default: its index, its kind and its name, and what it is made of.
 With --index a line for each field, and the fields of its list. Only types are listed that have one of the NAMEs, if
-there are some, one of the kinds, such as LF_ENUM, and all else that options ask for.
-The exit status is 1 if one of the NAMEs has no type.",
+there are some, one of the kinds, such as LF_ENUM, and all else that options ask for. With --uses the types that refer
+to TYPE, or to a forward reference that it defines; if TYPE is a name, with * and ?, to each type that has it.
+The exit status is 1 if one of the NAMEs has no type, or a record can't be read.",
     flags: &[
         STREAM,
         INDEX,
@@ -165,8 +166,8 @@ The exit status is 1 if one of the NAMEs has no type.",
         flag!("no-forward", "Leave out forward references"),
         flag!(
             "uses",
-            Value::Number("I"),
-            "Show only types that refer to the type of this index"
+            Value::Text("TYPE"),
+            "Show only types that refer to this one, by its index or name"
         ),
         IGNORE_CASE,
         JSON,
@@ -185,7 +186,7 @@ pub(crate) const IDS: Description = Description {
 Each id of the table, which is in stream 4 by default: its index, its kind and its name, and what it refers to.
 With --index a line for each field. Only ids are listed that have one of the NAMEs, if there are some, one of the
 kinds, such as LF_FUNC_ID, and all else that options ask for.
-The exit status is 1 if one of the NAMEs has no id.",
+The exit status is 1 if one of the NAMEs has no id, or a record can't be read.",
     flags: &[
         STREAM,
         INDEX,
@@ -320,11 +321,12 @@ pub(crate) const ID: Description = Description {
     name: "id",
     about: "Show the key under which symbol servers keep a file",
     details: "\
-The path of each file in a symbol store, NAME/KEY/NAME. The key is the GUID of the file and its age: that of the debug
-information, or that of stream 1 if the file has none. Formats: `key` is that path, `ssqp` the same in lower case,
-`breakpad` the line that a symbol file of Breakpad begins with, and `guid` the GUID alone, with hyphens. With --json
-all numbers by which the file is known and its features. For a program or library (PE) it is the path of the database
-that its debug directory names, without folders. A file of another format is refused, by name if the format is known.",
+The path of each file in a symbol store, NAME/KEY/NAME. Of `-` the key alone. The key is the GUID of the file and its
+age: that of the debug information, or that of stream 1 if the file has none. Formats: `key` is that path, `ssqp` the
+same in lower case, `breakpad` the line that a symbol file of Breakpad begins with, and `guid` the GUID alone, with
+hyphens. With --json all numbers by which the file is known and its features. For a program or library (PE) it is the
+path of the database that its debug directory names, without folders. A file of another format is refused, by name if
+the format is known.",
     flags: &[
         flag!(
             "format",
@@ -370,8 +372,8 @@ pub(crate) const EXTRACT: Description = Description {
     name: "extract",
     about: "Write the bytes of a stream to standard output",
     details: "\
-A stream is given by its number, by a role that `summary` shows (types, ids, omap_from_src; not those of symbols and
-hashes), or by its name (/names, srcsrv).",
+A stream is given by its number, by a role that `summary` shows (types, omap_from_src, globals), or by its name
+(/names, srcsrv).",
     flags: &[
         flag!("skip", Value::Number("N"), "Leave out the first N bytes"),
         flag!("take", Value::Number("N"), "Write at most N bytes"),

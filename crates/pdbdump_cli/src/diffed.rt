@@ -4,9 +4,9 @@ ghost use Rattle.std.specs.Prelude.{◌≡◌, ◌≢◌};
 ghost use Rattle.pdbdump_cli.specs.Diffed.{IsEqualEnd, IsSilentEnd};
 
 use crate::command::Diff;
+use crate::sentences::tell;
 use crate::served::is_closed;
 use pdb_base::Stream;
-use pdb_cli::tell;
 use pdb_container::{Error, Result};
 use pdb_output::Output;
 use pdbdump_differences::{ComparedTable, DiffOptions, Outcome, show_differences};

@@ -10,8 +10,8 @@ ghost use Rattle.pdbdump_tables.specs.Reading.{Reads};
 use crate::command::Identify;
 use crate::image_identified::serve_image;
 use crate::input_file::InputFile;
+use crate::sentences::tell;
 use crate::served::end;
-use pdb_cli::tell;
 use pdb_container::{Error, PDB, Source, SourceView};
 use pdb_identity::{Format, Identity};
 use pdb_output::Output;
@@ -37,6 +37,18 @@ pub(crate) fn other_format(format: Format) -> Option<&'static str>
         Format::Compressed => Some("a compressed file of a symbol server: expand it first"),
         Format::Image => Some("a program (PE), and not its program database"),
         Format::Unknown => Some("not a program database"),
+    }
+}
+
+/// Returns what a file of a format is told to be where a program is needed.
+pub(crate) fn no_image_text(format: Format) -> &'static str {
+    match format {
+        Format::Msf7 => "not a program (PE), but a program database",
+        Format::Msf2 => "not a program (PE), but a program database of the older format MSF 2.00",
+        Format::Portable => "not a program (PE), but a portable program database of .NET",
+        Format::Compressed =>
+            "not a program (PE), but a compressed file of a symbol server: expand it first",
+        Format::Image | Format::Unknown => "not a program (PE)",
     }
 }
 

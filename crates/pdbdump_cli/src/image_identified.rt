@@ -4,7 +4,7 @@ ghost use Rattle.pdbdump_cli.specs.Identified.{IsImageDone, IsImageShown};
 
 use crate::command::Identify;
 use crate::identified::conclude;
-use pdb_cli::tell;
+use crate::sentences::tell;
 use pdb_container::{Error, Source};
 use pdb_identity::{CodeView, NoDatabase};
 use pdb_msf::CountedSource;

@@ -30,6 +30,7 @@ mod request;
 mod seen;
 mod selected;
 mod selection_calls;
+mod sentences;
 mod served;
 mod validated;
 

@@ -35,13 +35,15 @@ fn ids_number(stream: Option<u32>) -> u32
     stream.unwrap_or(ID_STREAM)
 }
 
-/// Lists the types of the table in a stream, or only the one of an index.
+/// Lists the types of the table in a stream, or only the one of an index. `is_whole` becomes false if
+/// one of several can't be parsed.
 fn list_types<S: Source + Drop, W: Write>(
     alloc: Global,
     file: PDB<S>,
     number: u32,
     index: Option<u32>,
     form: Form,
+    is_whole: &mut bool,
     out: &mut Output<W>,
 ) -> Result<()>
     ensures { WritesRead (Reads (S.state file.source) (λ bytes. stream_of bytes file.head number None))
@@ -50,17 +52,19 @@ fn list_types<S: Source + Drop, W: Write>(
     let stream = last_stream(alloc, file, number)?;
     match index {
         Some(index) => type_at(alloc, stream, number, index, form, out),
-        None => types(alloc, stream, number, form, out),
+        None => types(alloc, stream, number, form, is_whole, out),
     }
 }
 
-/// Lists the ids of the table in a stream, or only the one of an index.
+/// Lists the ids of the table in a stream, or only the one of an index. `is_whole` becomes false if one
+/// of several can't be parsed.
 fn list_ids<S: Source + Drop, W: Write>(
     alloc: Global,
     file: PDB<S>,
     number: u32,
     index: Option<u32>,
     form: Form,
+    is_whole: &mut bool,
     out: &mut Output<W>,
 ) -> Result<()>
     ensures { WritesRead (Reads (S.state file.source) (λ bytes. stream_of bytes file.head number None))
@@ -69,26 +73,28 @@ fn list_ids<S: Source + Drop, W: Write>(
     let stream = last_stream(alloc, file, number)?;
     match index {
         Some(index) => id_at(alloc, stream, number, index, form, out),
-        None => ids(alloc, stream, number, form, out),
+        None => ids(alloc, stream, number, form, is_whole, out),
     }
 }
 
-/// Returns that all was listed, unless a fault ended the listing.
-fn all_if_listed(listed: Result<()>) -> Result<bool>
+/// Returns whether what was listed is whole, unless a fault ended the listing.
+fn whole_if_listed(listed: Result<()>, is_whole: bool) -> Result<bool>
     ensures { done_of result ≡ listed }
 {
     match listed {
-        Ok(()) => Ok(true),
+        Ok(()) => Ok(is_whole),
         Err(fault) => Err(fault),
     }
 }
 
-/// Writes the part of a file that a command lists. A summary has no such part.
+/// Writes the part of a file that a command lists. A summary has no such part. `is_whole` becomes
+/// false if a record of a table can't be parsed.
 fn list_part<S: Source + Drop, W: Write>(
     alloc: Global,
     file: PDB<S>,
     command: Command<'_, '_>,
     form: Form,
+    is_whole: &mut bool,
     out: &mut Output<W>,
 ) -> Result<()>
     ensures { DoesIn form command.entry (S.state file.source) file.head out.old out.new result }
@@ -96,10 +102,18 @@ fn list_part<S: Source + Drop, W: Write>(
     match command {
         Command::Summary => Ok(()),
         Command::Types { stream, index } => {
-            list_types(alloc, file, types_number(stream), index, form, out)
+            list_types(
+                alloc,
+                file,
+                types_number(stream),
+                index,
+                form,
+                is_whole,
+                out,
+            )
         }
         Command::Ids { stream, index } => {
-            list_ids(alloc, file, ids_number(stream), index, form, out)
+            list_ids(alloc, file, ids_number(stream), index, form, is_whole, out)
         }
         Command::Names { stream } => list_names(alloc, file, stream, form, out),
         Command::Sections { stream } => list_sections(alloc, file, stream, form, out),
@@ -113,8 +127,8 @@ fn list_part<S: Source + Drop, W: Write>(
     }
 }
 
-/// Writes what a command lists of a file of this size that was opened. Returns whether each part
-/// could be read.
+/// Writes what a command lists of a file of this size that was opened. Returns whether each part and
+/// each record that it lists could be read.
 fn list_opened<S: Source + Drop, W: Write>(
     alloc: Global,
     file: PDB<S>,
@@ -127,13 +141,17 @@ fn list_opened<S: Source + Drop, W: Write>(
 {
     match command {
         Command::Summary => list_summary(alloc, file, size, form, out),
-        other => all_if_listed(list_part(alloc, file, other, form, out)),
+        other => {
+            let mut is_whole = true;
+            let listed = list_part(alloc, file, other, form, &mut is_whole, out);
+            whole_if_listed(listed, is_whole)
+        }
     }
 }
 
 /// Writes what a command lists of a file: a line for each record, or the bytes of a stream. Returns
-/// whether each part that it lists could be read; of one that can't, a summary has a line with the
-/// error.
+/// whether each part and each record that it lists could be read; for one that can't be, a line has
+/// the error.
 ///
 /// # Errors
 /// Fails with the errors of `PDB::open`, and then with those of the command, after the lines up to

@@ -6,6 +6,7 @@ use crate::asking::serve_questions;
 use crate::calls::{Misuse, check_call, diff_of, form_of, place_request, request_of, with_command};
 use crate::command::{Diff, Matching, Request};
 use crate::diffed::serve_diff;
+use crate::identified::no_image_text;
 use crate::image_identified::{image_in, image_text};
 use crate::input_file::{FileBytes, InputFile};
 use crate::laid_out::type_stream;
@@ -13,10 +14,11 @@ use crate::reports::{Serving, Subject, error_line, report_lines, without_number}
 use crate::request::serve;
 use crate::seen::{FRONT_SIZE, Seen, Watched};
 use crate::selection_calls::{selected, selecting};
+use crate::sentences::tell;
 use clap::ArgMatches;
 use clap::error::ErrorKind as ParseErrorKind;
 use pdb_base::Stream;
-use pdb_cli::{Errors, tell, texts_of, words_of};
+use pdb_cli::{Errors, texts_of, words_of};
 use pdb_container::{Error, FileSource, Result, Source, SourceView};
 use pdb_identity::CodeView;
 use pdb_msf::SeekFile;
@@ -44,6 +46,9 @@ const TRY_HELP: &str = "For more information, try '--help'.\n";
 
 /// What is wrong with a number.
 const NO_NUMBER: &str = "no number from 0 to 4294967295, in decimal or in hexadecimal after 0x";
+
+/// What is wrong with a key.
+const NO_KEY: &str = "no key of 32 hexadecimal digits of the GUID and 1 to 8 of the age";
 
 /// A file that a process has opened.
 type ProcessFile<F> = InputFile<FileBytes<FileSource<SeekFile<F>>>>;
@@ -123,8 +128,9 @@ fn end_unparsed<P: Print + Eprint + AllocGlobal>(
 
 /// Returns the text of what is wrong with an argument that the parser took.
 fn misuse_text(alloc: Global, misuse: Misuse<'_>) -> Result<String> {
-    let (text, option, name) = match misuse {
-        Misuse::NoNumber { text, option, name } => (text, option, name),
+    let (text, option, name, reason) = match misuse {
+        Misuse::NoNumber { text, option, name } => (text, option, name, NO_NUMBER),
+        Misuse::NoKey(text) => (text, Some("expect"), "KEY", NO_KEY),
         Misuse::InputTwice => {
             return Ok(String::from_str(alloc, "standard input would be read twice")?);
         }
@@ -146,7 +152,7 @@ fn misuse_text(alloc: Global, misuse: Misuse<'_>) -> Result<String> {
         Some(option) => format!(in alloc; "--{option} <{name}>")?,
         None => format!(in alloc; "<{name}>")?,
     };
-    Ok(format!(in alloc; "invalid value '{shown}' for '{argument}': {NO_NUMBER}")?)
+    Ok(format!(in alloc; "invalid value '{shown}' for '{argument}': {reason}")?)
 }
 
 /// Reports what is wrong with an argument that the parser took.
@@ -200,9 +206,8 @@ fn open_file<P: Files + Input + AllocGlobal>(
     };
     let source = FileBytes::Stored(FileSource::new(SeekFile::new(input))?);
     let mut file = InputFile { source, size };
-    if let Ok(front) = file.front(alloc, FRONT_SIZE as u64) {
-        seen.add_file(front.as_slice(), size)?;
-    }
+    let front = file.front(alloc, FRONT_SIZE as u64)?;
+    seen.add_file(front.as_slice(), size)?;
     Ok(file)
 }
 
@@ -340,7 +345,13 @@ fn image_or_report<P: Files + Input + Eprint + AllocGlobal>(
     let alloc = process.alloc();
     let mut serving = Serving::new(alloc, Some(path), form);
     let read = match open_file(process, path, &mut serving.seen) {
-        Ok(file) => image_in(alloc, file.source),
+        Ok(file) if serving.seen.is_image() => image_in(alloc, file.source),
+        Ok(_) => {
+            let text = no_image_text(serving.seen.format());
+            let line = error_line(alloc, &serving.subject, "format", text.as_bytes());
+            write_lines(process, line);
+            return None;
+        }
         Err(fault) => Err(fault),
     };
     match read {

@@ -34,7 +34,7 @@ const NO_MEMORY: &[u8] = b"OutOfMemory";
 /// header.
 const ENDED: &[u8] = b"unexpected end of file";
 
-const NO_HEADER: &[u8] = b"UnrecognizedFileFormat";
+const NO_HEADER: &[u8] = b"too short for a program database";
 
 /// What is told of an image begins so.
 const IMAGE_FRONT: &[u8] = b"a program (PE)";

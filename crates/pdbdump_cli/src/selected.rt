@@ -15,17 +15,20 @@ use pdb_base::Stream;
 use pdb_container::{Result, Source};
 use pdb_output::Output;
 use pdbdump_rows::Form;
-use pdbdump_tables::{NameSearch, select_ids, select_types};
+use pdbdump_tables::{NameSearch, Search, select_ids, select_types};
 use pdbdump_types::escape_text;
 use std::alloc::Global;
 use std::io::Write;
+
+/// What is reported if some records could not be parsed.
+const UNREAD: &[u8] = b"not all records that are listed can be read\n";
 
 /// Lists the records of a table in a stream that are selected.
 fn list_selected<W: Write>(
     alloc: Global,
     stream: Stream,
     asked: &Selected<'_, '_>,
-    search: &mut NameSearch<'_, '_>,
+    search: &mut Search<'_, '_>,
     form: Form,
     out: &mut Output<W>,
 ) -> Result<()>
@@ -42,6 +45,13 @@ fn list_selected<W: Write>(
     }
 }
 
+/// Writes a line to the error channel. Then not all is there.
+fn report_line<E: Write>(line: &[u8], err: &mut Output<E>)
+    ensures { (start : OutputState) (whole : Bool) → Accounts start err.old whole → Accounts start err.new false }
+{
+    err.report(line)
+}
+
 /// Reports that a name was not found in a table.
 fn report_name<E: Write>(alloc: Global, table: Table, name: &str, err: &mut Output<E>) -> Result<()>
     ensures reported { OnOk result ((start : OutputState) (whole : Bool) → Accounts start err.old whole
@@ -49,13 +59,13 @@ fn report_name<E: Write>(alloc: Global, table: Table, name: &str, err: &mut Outp
     ensures memory { FailsOnlyForMemory result }
 {
     let front: &[u8] = match table {
-        Table::Types => b"no type is called ",
-        Table::Ids => b"no id is called ",
+        Table::Types => b"no type is named ",
+        Table::Ids => b"no id is named ",
     };
     let mut line = Vec::from_slice(alloc, front)?;
     line.extend_from_slice(&escape_text(alloc, name.as_bytes())?)?;
     line.push(b'\n')?;
-    err.report(&line);
+    report_line(&line, err);
     Ok(())
 }
 
@@ -79,26 +89,57 @@ fn report_if_missing<E: Write>(
     Ok(false)
 }
 
-/// Reports the names that were not found in a table, and returns whether there are none.
+/// Reports the names that were not found in a table, and returns whether there are none, and nothing
+/// was reported before.
 fn report_missing<E: Write>(
     alloc: Global,
-    asked: &Selected<'_, '_>,
+    table: Table,
     search: &NameSearch<'_, '_>,
+    has_all: bool,
+    err: &mut Output<E>,
+) -> Result<bool>
+    ensures reported { IfOk result (λ all. (start : OutputState) → Accounts start err.old has_all
+        → Accounts start err.new all) }
+    ensures memory { FailsOnlyForMemory result }
+{
+    let mut has_these = has_all;
+    for (place, name) in search.names().iter().enumerate() {
+        let is_found = search.is_found(place);
+        has_these = report_if_missing(alloc, table, name, is_found, has_these, err)?;
+    }
+    Ok(has_these)
+}
+
+/// Reports that not all records could be parsed, unless they could, and returns whether nothing was
+/// reported so far.
+fn report_unread<E: Write>(is_whole: bool, has_all: bool, err: &mut Output<E>) -> bool
+    ensures { (start : OutputState) → Accounts start err.old has_all → Accounts start err.new result }
+{
+    if is_whole {
+        return has_all;
+    }
+    report_line(UNREAD, err);
+    false
+}
+
+/// Reports what a search lacks: names that were not found in a table, and records that could not be
+/// parsed. Returns whether it lacks nothing.
+fn report_lacks<E: Write>(
+    alloc: Global,
+    table: Table,
+    search: &Search<'_, '_>,
     err: &mut Output<E>,
 ) -> Result<bool>
     ensures reported { IfOk result (Accounts err.old err.new) }
     ensures memory { FailsOnlyForMemory result }
 {
-    let mut has_all = true;
-    for (place, name) in asked.selection.names.iter().enumerate() {
-        let is_found = search.is_found(place);
-        has_all = report_if_missing(alloc, asked.table, name, is_found, has_all, err)?;
-    }
-    Ok(has_all)
+    let names = report_missing(alloc, table, &search.names, true, err)?;
+    let all = report_missing(alloc, table, &search.used_names, names, err)?;
+    Ok(report_unread(search.is_whole, all, err))
 }
 
-/// Lists the records of a table in a stream that are selected, and returns whether each name was
-/// found.
+/// Lists the records of a table in a stream that are selected. Returns whether each name was found, and
+/// each record could be parsed.
 fn select_of<O: Write, E: Write>(
     alloc: Global,
     stream: Stream,
@@ -110,14 +151,13 @@ fn select_of<O: Write, E: Write>(
     ensures lists { ListsLines form out.old out.new (done_of result) }
     ensures reported { IfOk result (Accounts err.old err.new) }
 {
-    let selection = &asked.selection;
-    let mut search = NameSearch::new(alloc, selection.names, selection.ignores_case)?;
+    let mut search = Search::new(alloc, &asked.selection)?;
     list_selected(alloc, stream, asked, &mut search, form, out)?;
-    report_missing(alloc, asked, &search, err)
+    report_lacks(alloc, asked.table, &search, err)
 }
 
-/// Lists the records of a table of a file that are selected, and returns whether each name was
-/// found.
+/// Lists the records of a table of a file that are selected. Returns whether each name was found, and
+/// each record could be parsed.
 pub(crate) fn select_in<S: Source + Drop, O: Write, E: Write>(
     alloc: Global,
     file: InputFile<S>,

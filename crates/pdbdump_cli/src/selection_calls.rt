@@ -22,10 +22,19 @@ pub(crate) fn selecting(matches: &ArgMatches<'_>) -> Option<&'static str> {
     FLAGS.iter().find(|flag| matches.get_flag(flag)).copied()
 }
 
+/// Returns the type to which the records refer, by its index or by its name.
+fn used<'m, 'w>(matches: &'m ArgMatches<'w>) -> (Option<TypeIndex>, &'m [&'w str]) {
+    let words = matches.get_strs("uses").unwrap_or(&[]);
+    match words.first().and_then(|text| number(text)) {
+        Some(index) => (Some(TypeIndex(index)), &[]),
+        None => (None, words),
+    }
+}
+
 /// Returns what a call of `types` or `ids` selects, with names and kinds that it gives.
 pub(crate) fn selected<'m, 'w>(
     name: &str,
-    matches: &ArgMatches<'w>,
+    matches: &'m ArgMatches<'w>,
     names: &'m [&'w str],
     kinds: &'m [&'w str],
 ) -> Selected<'m, 'w> {
@@ -34,15 +43,14 @@ pub(crate) fn selected<'m, 'w>(
     } else {
         (Table::Types, TYPE_STREAM)
     };
+    let (uses, used_names) = used(matches);
     let selection = Selection {
         names,
         ignores_case: matches.get_flag("ignore-case"),
         kinds,
         leaves_out_forward: matches.get_flag("no-forward"),
-        uses: matches
-            .get_str("uses")
-            .and_then(|text| number(text))
-            .map(TypeIndex),
+        uses,
+        used_names,
     };
     Selected {
         table,

@@ -3,7 +3,7 @@
 ghost use Rattle.std.specs.Prelude.{◌↔◌, IsTrue};
 ghost use Rattle.pdbdump_cli.specs.Served.{IsClosed, IsEnded, IsEndedAs};
 
-use pdb_cli::tell;
+use crate::sentences::tell;
 use pdb_container::{Error, Result};
 use pdb_output::Output;
 use std::alloc::Global;

@@ -7,8 +7,8 @@ ghost use Rattle.pdbdump_cli.specs.Validated.{AreFindingsWritten, HasPassed, IsC
 use crate::command::ValidateOptions;
 use crate::finding_lines::{counts_of, validate_lines};
 use crate::input_file::InputFile;
+use crate::sentences::tell;
 use crate::served::end;
-use pdb_cli::tell;
 use pdb_container::{Result, Source};
 use pdb_output::Output;
 use pdb_validation::{Finding, validate};

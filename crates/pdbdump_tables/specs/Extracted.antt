@@ -1,15 +1,16 @@
 -- The stream that a word means, and a part of its bytes.
-use Rattle.std.specs.Prelude.{ℕ, if◌then◌else◌, List, take, drop, codes, Option, Some, None, Ok, Err}
+use Rattle.std.specs.Prelude.{ℕ, if◌then◌else◌, List, take, drop, codes, Option, Some, None, Ok}
 use Rattle.std.specs.Str.{bytes_eq}
 use Rattle.pdb_base.specs.Answer.{Answer, ◌>>=◌}
 use Rattle.pdb_base.specs.Index.{stream_number}
-use Rattle.pdb_base.specs.Refusal.{stream_name_not_found}
 use Rattle.pdb_base.specs.declared.index.StreamIndex.{StreamIndex}
 use Rattle.pdb_msf.specs.Header.{Head}
 use Rattle.pdb_file.specs.File.{file_number, file_roles}
 use Rattle.pdb_file.specs.declared.debug_header.DBIExtraStreams.{DBIExtraStreams}
+use Rattle.pdbdump_tables.specs.HeaderRoles.{number_in_header, header_role, number_or_refused}
 use Rattle.pdbdump_tables.specs.declared.extraction.ListedRole.{ListedRole}
 use Rattle.pdbdump_tables.specs.declared.extraction.ListedRole.TheVariants as roles
+use Rattle.pdbdump_tables.specs.declared.header_roles.HeaderRole.{HeaderRole}
 
 -- the stream whose role is fixed by its number, with the words that a summary has for them
 unfoldable pub fixed_stream : List ℕ → Option ℕ
@@ -62,20 +63,20 @@ stream_of_role streams roles.Pdata = streams.pdata
 stream_of_role streams roles.Framedata = streams.framedata
 stream_of_role streams roles.OriginalSectionHeaders = streams.original_section_headers
 
--- a number, or the refusal if there is none
-abbrev pub number_or_refused : Option ℕ → Answer ℕ
-number_or_refused (Some number) = Ok number
-number_or_refused None = Err stream_name_not_found
-
 -- the number of the stream that the debug header gives a role
 unfoldable pub role_number : List ℕ → Head → ListedRole → Answer ℕ
 role_number file head role = file_roles file head
     >>= λ streams. number_or_refused (stream_number (stream_of_role streams role).0)
 
+-- the number of the stream to which another header gives a role, or else of that which has a name
+abbrev pub header_or_named : List ℕ → Head → List ℕ → Option HeaderRole → Answer ℕ
+header_or_named file head word (Some role) = number_in_header file head role
+header_or_named file head word None = file_number file head word
+
 -- the number of the stream that has a role or else a name
 abbrev pub role_or_name : List ℕ → Head → List ℕ → Option ListedRole → Answer ℕ
 role_or_name file head word (Some role) = role_number file head role
-role_or_name file head word None = file_number file head word
+role_or_name file head word None = header_or_named file head word (header_role word)
 
 abbrev pub fixed_or_other : List ℕ → Head → List ℕ → Option ℕ → Answer ℕ
 fixed_or_other file head word (Some number) = Ok number

@@ -3,10 +3,12 @@
 ghost use Rattle.std.specs.Prelude.{◌≡◌, drop, take};
 ghost use Rattle.pdb_msf.specs.File.{ReadsFile};
 ghost use Rattle.pdb_output.specs.Output.{Writes};
-ghost use Rattle.pdbdump_tables.specs.Extracted.{address_role, fixed_stream, stream_of_role};
+ghost use Rattle.pdbdump_tables.specs.Extracted.{address_role, fixed_stream, header_or_named, stream_of_role};
 ghost use Rattle.pdbdump_tables.specs.Extracted.{listed_role_of, part_of, role_number, section_role, stream_meant};
+ghost use Rattle.pdbdump_tables.specs.HeaderRoles.{header_role};
 ghost use Rattle.pdb_file.specs.File.{file_number};
 
+use crate::header_roles::{header_role, number_in_header};
 use pdb_base::{Error, Result, Stream, StreamIndex};
 use pdb_file::{DBIExtraStreams, PDB};
 use pdb_msf::Source;
@@ -138,13 +140,25 @@ fn name_number<S: Source>(alloc: Global, file: &mut PDB<S>, name: &str) -> Resul
     names.number(name.as_bytes())
 }
 
-/// Returns the number of the stream that a word means: one of the roles that `list_summary` shows,
-/// but for those of symbols and hashes, or else the name of a stream, such as `/names`.
+/// Returns the number of the stream with a role that a header other than the debug header gives, or
+/// else with a name.
+fn header_or_named<S: Source>(alloc: Global, file: &mut PDB<S>, word: &str) -> Result<u32>
+    ensures { ReadsFile S.state file.old file.new (λ number. number) result
+        (λ file head. header_or_named file head word.now (header_role word.now)) }
+{
+    match header_role(word) {
+        Some(role) => number_in_header(alloc, file, role),
+        None => name_number(alloc, file, word),
+    }
+}
+
+/// Returns the number of the stream that a word means: one of the roles that `list_summary` shows, or
+/// else the name of a stream, such as `/names`.
 ///
 /// # Errors
-/// For a role that the debug header lists fails as `PDB::extra_streams` does, and with
-/// `StreamNameNotFound` if no stream has the role. For a name fails as `PDB::named_stream` does, up
-/// to the number of the stream.
+/// For a role that the debug header lists fails as `PDB::extra_streams` does, and for one that another
+/// header gives as `number_in_header` does; with `StreamNameNotFound` if no stream has the role. For a
+/// name fails as `PDB::named_stream` does, up to the number of the stream.
 #[tactic(auto, unfolding(crate::specs::Extracted::stream_meant))]
 pub fn stream_meant<S: Source>(alloc: Global, file: &mut PDB<S>, word: &str) -> Result<u32>
     ensures { ReadsFile S.state file.old file.new (λ number. number) result
@@ -155,7 +169,7 @@ pub fn stream_meant<S: Source>(alloc: Global, file: &mut PDB<S>, word: &str) -> 
     }
     match role_of_word(word) {
         Some(role) => role_number(alloc, file, role),
-        None => name_number(alloc, file, word),
+        None => header_or_named(alloc, file, word),
     }
 }
 

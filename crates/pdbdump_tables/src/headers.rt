@@ -1,10 +1,14 @@
 //! The headers that name streams of symbols and of hashes.
 
-use pdb_base::{Error, Stream};
+ghost use Rattle.pdb_msf.specs.File.{ReadsFile};
+ghost use Rattle.pdbdump_tables.specs.HeaderRoles.{debug_header};
+
+use pdb_base::{Error, Result, Stream};
 use pdb_file::{DBIHeader, ID_STREAM, PDB, TYPE_STREAM};
 use pdb_msf::{Msf, Source};
 use pdb_tpi::{Header, TypeInformation};
 use std::alloc::{AllocError, Global};
+use std::result;
 
 /// The number of the stream of debug information.
 const DEBUG_STREAM: u32 = 3;
@@ -26,13 +30,25 @@ pub struct Headers {
     pub ids: Option<Header>,
 }
 
+/// Reads the header of the stream of debug information.
+///
+/// # Errors
+/// Fails as `PDB::get` and `DBIHeader::parse` do.
+#[tactic(auto, unfolding(crate::specs::HeaderRoles::debug_header))]
+pub(crate) fn debug_header<S: Source>(alloc: Global, file: &mut PDB<S>) -> Result<DBIHeader>
+    ensures { ReadsFile S.state file.old file.new (λ header. header) result debug_header }
+{
+    let stream = file.get(alloc, DEBUG_STREAM, Some(DEBUG_HEADER_SIZE))?;
+    DBIHeader::parse(&stream)
+}
+
 /// Reads the header of the stream of debug information, or returns None if it can't be read.
-fn debug_header<S: Source>(
+fn debug_header_if_read<S: Source>(
     alloc: Global,
     file: &mut PDB<S>,
-) -> Result<Option<DBIHeader>, AllocError> {
-    match file.get(alloc, DEBUG_STREAM, Some(DEBUG_HEADER_SIZE)) {
-        Ok(stream) => Ok(DBIHeader::parse(&stream).ok()),
+) -> result::Result<Option<DBIHeader>, AllocError> {
+    match debug_header(alloc, file) {
+        Ok(header) => Ok(Some(header)),
         Err(Error::OutOfMemory) => Err(AllocError),
         Err(_) => Ok(None),
     }
@@ -55,7 +71,7 @@ fn table_header<S: Source>(
     alloc: Global,
     file: &mut PDB<S>,
     number: u32,
-) -> Result<Option<Header>, AllocError> {
+) -> result::Result<Option<Header>, AllocError> {
     match file.get(alloc, number, Some(TABLE_HEADER_SIZE)) {
         Ok(stream) => Ok(table_header_in(stream)),
         Err(Error::OutOfMemory) => Err(AllocError),
@@ -64,9 +80,12 @@ fn table_header<S: Source>(
 }
 
 /// Reads the headers of streams 2 to 4.
-pub fn headers_of<S: Source>(alloc: Global, file: &mut PDB<S>) -> Result<Headers, AllocError> {
+pub fn headers_of<S: Source>(
+    alloc: Global,
+    file: &mut PDB<S>,
+) -> result::Result<Headers, AllocError> {
     Ok(Headers {
-        debug: debug_header(alloc, file)?,
+        debug: debug_header_if_read(alloc, file)?,
         types: table_header(alloc, file, TYPE_STREAM)?,
         ids: table_header(alloc, file, ID_STREAM)?,
     })

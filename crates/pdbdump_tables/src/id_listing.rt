@@ -22,6 +22,7 @@ fn list_ids<W: Write>(
     table: &IdInformation,
     stream: u32,
     form: Form,
+    is_whole: &mut bool,
     out: &mut Output<W>,
 ) -> Result<()>
     ensures { IsWalked form table.now out.old out.new result }
@@ -37,14 +38,15 @@ fn list_ids<W: Write>(
         let Some(item) = items.next()? else {
             return Ok(());
         };
-        make_id(alloc, form, &item, place, &mut line)?;
+        make_id(alloc, form, &item, place, is_whole, &mut line)?;
         out.write(line.as_bytes())?;
     }
 }
 
 /// Writes a line for each id of the table in a stream, in the order of the table. A record that
 /// can't be parsed has a line with the error, the number of the stream and the byte at which the
-/// record begins. At most one parsed record and its line are held in memory.
+/// record begins, and `is_whole` becomes false. At most one parsed record and its line are held in
+/// memory.
 ///
 /// # Errors
 /// Fails as `IdInformation::parse` does, before anything is written; with the error at which the
@@ -56,12 +58,13 @@ pub fn ids<W: Write>(
     stream: Stream,
     number: u32,
     form: Form,
+    is_whole: &mut bool,
     out: &mut Output<W>,
 ) -> Result<()>
     ensures { IsTableListed form stream out.old out.new result }
 {
     let table = IdInformation::parse(stream)?;
-    list_ids(alloc, &table, number, form, out)
+    list_ids(alloc, &table, number, form, is_whole, out)
 }
 
 /// Makes the text of an id in full.

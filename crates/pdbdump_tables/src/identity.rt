@@ -12,7 +12,7 @@ use pdb_base::{Error, RawString};
 use pdb_file::Features;
 use pdb_identity::{Identity, LowerKey, UpperKey};
 use pdb_output::Output;
-use pdbdump_rows::{Flag, Form, Line, LineResult, Value, push_text, write_line};
+use pdbdump_rows::{Flag, Form, Line, LineResult, Value, optional_text, push_text, write_line};
 use std::alloc::{AllocError, Global};
 use std::io::Write;
 use uuid::Uuid;
@@ -45,10 +45,13 @@ const STRIPPED: &str = "stripped";
 
 pub(crate) const KEY: &str = "key";
 
+/// The name in a line of Breakpad of a file that has none.
+const UNNAMED: &str = "-";
+
 /// How the identity of a file is written as text.
 #[derive(Clone, Copy)]
 pub enum KeyStyle {
-    /// The path of the file in a symbol store: `NAME/KEY/NAME`.
+    /// The path of the file in a symbol store, `NAME/KEY/NAME`, or the key of a file without a name.
     Key,
 
     /// That path in lower case, the name too, as the conventions for SSQP have it.
@@ -61,31 +64,39 @@ pub enum KeyStyle {
     Guid,
 }
 
-/// Returns the path of a file with a key in a symbol store as a line.
-fn store_path(alloc: Global, name: &str, key: &str) -> Result<Vec<u8>, AllocError> {
+/// Returns the path of a file with a key in a symbol store as a line, or the key alone if the file has
+/// no name.
+fn store_path(alloc: Global, name: Option<&str>, key: &str) -> Result<Vec<u8>, AllocError> {
     let mut line = Vec::new(alloc);
-    push_text(Form::Text, name.as_bytes(), &mut line)?;
-    line.extend_from_slice(b"/")?;
-    line.extend_from_slice(key.as_bytes())?;
-    line.extend_from_slice(b"/")?;
-    push_text(Form::Text, name.as_bytes(), &mut line)?;
+    match name {
+        Some(name) => {
+            push_text(Form::Text, name.as_bytes(), &mut line)?;
+            line.extend_from_slice(b"/")?;
+            line.extend_from_slice(key.as_bytes())?;
+            line.extend_from_slice(b"/")?;
+            push_text(Form::Text, name.as_bytes(), &mut line)?;
+        }
+        None => line.extend_from_slice(key.as_bytes())?,
+    }
     line.push(b'\n')?;
     Ok(line)
 }
 
 /// Returns the path of a file in a symbol store as a line.
-fn upper_path(alloc: Global, name: &str, key: UpperKey) -> Result<Vec<u8>, AllocError> {
+fn upper_path(alloc: Global, name: Option<&str>, key: UpperKey) -> Result<Vec<u8>, AllocError> {
     let key = key_text(alloc, key)?;
     store_path(alloc, name, &key)
 }
 
 /// Returns the path of a file in a symbol store as a line in lower case.
-fn lower_path(alloc: Global, name: &str, key: UpperKey) -> Result<Vec<u8>, AllocError> {
-    let name = name.to_ascii_lowercase(alloc)?;
+fn lower_path(alloc: Global, name: Option<&str>, key: UpperKey) -> Result<Vec<u8>, AllocError> {
     let UpperKey { guid, age } = key;
     let key = LowerKey { guid, age };
     let key = format!(in alloc; "{key}")?;
-    store_path(alloc, &name, &key)
+    match name {
+        Some(name) => store_path(alloc, Some(&name.to_ascii_lowercase(alloc)?), &key),
+        None => store_path(alloc, None, &key),
+    }
 }
 
 /// Returns a key as text.
@@ -95,16 +106,17 @@ pub(crate) fn key_text(alloc: Global, key: UpperKey) -> Result<String, AllocErro
     Ok(format!(in alloc; "{key}")?)
 }
 
-/// Returns the line of a file that its symbol file of Breakpad begins with.
+/// Returns the line of a file that its symbol file of Breakpad begins with, which has a name in any
+/// case.
 fn breakpad_line(
     alloc: Global,
-    name: &str,
+    name: Option<&str>,
     key: UpperKey,
     cpu: &str,
 ) -> Result<Vec<u8>, AllocError> {
     let key = key_text(alloc, key)?;
     let mut line = format!(in alloc; "MODULE windows {cpu} {key} ")?.into_bytes();
-    push_text(Form::Text, name.as_bytes(), &mut line)?;
+    push_text(Form::Text, name.unwrap_or(UNNAMED).as_bytes(), &mut line)?;
     line.push(b'\n')?;
     Ok(line)
 }
@@ -120,7 +132,7 @@ fn guid_line(alloc: Global, guid: Uuid) -> Result<Vec<u8>, AllocError> {
 pub(crate) fn key_line(
     alloc: Global,
     style: KeyStyle,
-    name: &str,
+    name: Option<&str>,
     key: UpperKey,
     cpu: &str,
 ) -> Result<Vec<u8>, AllocError> {
@@ -179,14 +191,14 @@ fn show_features(line: &mut Line, features: Option<Features>) -> LineResult
 /// Adds the fields of all that identifies a file, with the texts of its GUID and of its key.
 fn show_identity(
     line: &mut Line,
-    name: &str,
+    name: Option<&str>,
     identity: &Identity,
     guid: &str,
     key: &str,
 ) -> LineResult
     ensures { ShowsRow [] line.old line.new result }
 {
-    line.field(NAME, Value::Text(RawString::from(name)))?;
+    line.field(NAME, optional_text(name.map(RawString::from)))?;
     line.field(FORMAT, Value::Word("MSF 7.00"))?;
     line.field(GUID, Value::Text(RawString::from(guid)))?;
     line.field(AGE, Value::Number(identity.age() as u64))?;
@@ -208,8 +220,7 @@ fn show_identity(
 /// Writes all that identifies a file as an object of JSON.
 fn write_object<W: Write>(
     alloc: Global,
-    style: KeyStyle,
-    name: &str,
+    name: Option<&str>,
     identity: &Identity,
     out: &mut Output<W>,
 ) -> Result<(), Error>
@@ -228,7 +239,7 @@ fn write_object<W: Write>(
 fn write_key<W: Write>(
     alloc: Global,
     style: KeyStyle,
-    name: &str,
+    name: Option<&str>,
     identity: &Identity,
     out: &mut Output<W>,
 ) -> Result<(), Error>
@@ -238,15 +249,15 @@ fn write_key<W: Write>(
     out.write(&line)
 }
 
-/// Writes the identity of a file of this name: a line in the style, or an object of JSON with all
-/// of it.
+/// Writes the identity of a file of this name, if it has one: a line in the style, or an object of JSON
+/// with all of it.
 ///
 /// # Errors
 /// Fails with `IoError` if the writer fails, and with `OutOfMemory` if an allocation fails.
 pub fn write_identity<W: Write>(
     alloc: Global,
     style: KeyStyle,
-    name: &str,
+    name: Option<&str>,
     identity: &Identity,
     form: Form,
     out: &mut Output<W>,
@@ -255,7 +266,7 @@ pub fn write_identity<W: Write>(
 {
     match form {
         Form::Text => write_key(alloc, style, name, identity, out),
-        Form::Json => write_object(alloc, style, name, identity, out),
+        Form::Json => write_object(alloc, name, identity, out),
     }
 }
 

@@ -59,7 +59,7 @@ fn write_key<W: Write>(
 ) -> Result<(), Error>
     ensures { WritesWhat (IsIdentity Form.Text) out.old out.new result }
 {
-    let line = key_line(alloc, style, name, image.key(), image.cpu())?;
+    let line = key_line(alloc, style, Some(name), image.key(), image.cpu())?;
     out.write(&line)
 }
 

@@ -26,7 +26,8 @@ pub(crate) struct RecordHead {
     pub(crate) place: ItemPlace,
 }
 
-/// Adds the fields of the type of a record, or of why it can't be parsed.
+/// Adds the fields of the type of a record, or of why it can't be parsed. Then `is_whole` becomes
+/// false.
 ///
 /// # Errors
 /// Fails if an allocation fails, or if that is why.
@@ -34,6 +35,7 @@ pub(crate) fn show_parsed_type(
     alloc: Global,
     head: RecordHead,
     parsed: &Result<TypeData<'_>>,
+    is_whole: &mut bool,
     line: &mut Line,
 ) -> LineResult
     ensures { ShowsRow (indexed head.index) line.old line.new result }
@@ -42,7 +44,10 @@ pub(crate) fn show_parsed_type(
     match parsed {
         Ok(value) => show_type(alloc, line, index, leaf, value),
         Err(Error::OutOfMemory) => Err(AllocError),
-        Err(fault) => show_refused(alloc, line, index, leaf, place, fault),
+        Err(fault) => {
+            *is_whole = false;
+            show_refused(alloc, line, index, leaf, place, fault)
+        }
     }
 }
 
@@ -51,6 +56,7 @@ fn show_type_item(
     alloc: Global,
     item: &Item<'_, TypeIndex>,
     place: ItemPlace,
+    is_whole: &mut bool,
     line: &mut Line,
 ) -> LineResult
     ensures { ShowsRow (indexed (index_of item.now).0) line.old line.new result }
@@ -61,7 +67,7 @@ fn show_type_item(
         place,
     };
     let parsed = item.parse(alloc);
-    show_parsed_type(alloc, head, &parsed, line)
+    show_parsed_type(alloc, head, &parsed, is_whole, line)
 }
 
 /// Makes the line of a type.
@@ -74,16 +80,18 @@ pub(crate) fn make_type(
     form: Form,
     item: &Item<'_, TypeIndex>,
     place: ItemPlace,
+    is_whole: &mut bool,
     line: &mut Line,
 ) -> LineResult
     ensures { EndsRow (row_text form) (indexed (index_of item.now).0) line.new result }
 {
     line.begin(form);
-    let added = show_type_item(alloc, item, place, line);
+    let added = show_type_item(alloc, item, place, is_whole, line);
     line.finish(added)
 }
 
-/// Adds the fields of the id of a record, or of why it can't be parsed.
+/// Adds the fields of the id of a record, or of why it can't be parsed. Then `is_whole` becomes
+/// false.
 ///
 /// # Errors
 /// Fails if an allocation fails, or if that is why.
@@ -91,6 +99,7 @@ pub(crate) fn show_parsed_id(
     alloc: Global,
     head: RecordHead,
     parsed: &Result<IdData<'_>>,
+    is_whole: &mut bool,
     line: &mut Line,
 ) -> LineResult
     ensures { ShowsRow (indexed head.index) line.old line.new result }
@@ -99,7 +108,10 @@ pub(crate) fn show_parsed_id(
     match parsed {
         Ok(value) => show_id(alloc, line, index, leaf, value),
         Err(Error::OutOfMemory) => Err(AllocError),
-        Err(fault) => show_refused(alloc, line, index, leaf, place, fault),
+        Err(fault) => {
+            *is_whole = false;
+            show_refused(alloc, line, index, leaf, place, fault)
+        }
     }
 }
 
@@ -108,6 +120,7 @@ fn show_id_item(
     alloc: Global,
     item: &Item<'_, IdIndex>,
     place: ItemPlace,
+    is_whole: &mut bool,
     line: &mut Line,
 ) -> LineResult
     ensures { ShowsRow (indexed (index_of item.now).0) line.old line.new result }
@@ -118,7 +131,7 @@ fn show_id_item(
         place,
     };
     let parsed = item.parse(alloc);
-    show_parsed_id(alloc, head, &parsed, line)
+    show_parsed_id(alloc, head, &parsed, is_whole, line)
 }
 
 /// Makes the line of an id.
@@ -131,11 +144,12 @@ pub(crate) fn make_id(
     form: Form,
     item: &Item<'_, IdIndex>,
     place: ItemPlace,
+    is_whole: &mut bool,
     line: &mut Line,
 ) -> LineResult
     ensures { EndsRow (row_text form) (indexed (index_of item.now).0) line.new result }
 {
     line.begin(form);
-    let added = show_id_item(alloc, item, place, line);
+    let added = show_id_item(alloc, item, place, is_whole, line);
     line.finish(added)
 }

@@ -41,6 +41,11 @@ impl<'m, 'w> NameSearch<'m, 'w> {
         })
     }
 
+    /// Returns the names.
+    pub fn names(&self) -> &'m [&'w str] {
+        self.names
+    }
+
     /// Returns whether a name is the one that is looked for.
     fn is_meant(
         &self,

@@ -5,14 +5,15 @@ ghost use Rattle.pdbdump_rows.specs.Lines.{row_text};
 ghost use Rattle.pdbdump_tables.specs.Listing.{ListsLines};
 
 use crate::item_line::{RecordHead, show_parsed_id, show_parsed_type};
-use crate::name_search::NameSearch;
 use crate::refused_record::ItemPlace;
+use crate::search::Search;
 use crate::selection::Selection;
-use pdb_base::{Error, FallibleIterator, Stream, TypeIndex};
+use pdb_base::{Error, FallibleIterator, Stream};
 use pdb_output::Output;
 use pdb_tpi::{IdInformation, TypeInformation};
 use pdb_values::{IdData, TypeData};
 use pdbdump_rows::{Form, Line, write_line};
+use pdbdump_types::learn_table;
 use std::alloc::{AllocError, Global};
 use std::io::Write;
 
@@ -23,13 +24,14 @@ fn write_type<W: Write>(
     head: RecordHead,
     parsed: &Result<TypeData<'_>, Error>,
     form: Form,
+    is_whole: &mut bool,
     line: &mut Line,
     out: &mut Output<W>,
 ) -> Result<(), Error>
     ensures { WritesWhat (IsRow (row_text form) (indexed head.index)) out.old out.new result }
 {
     line.begin(form);
-    let added = show_parsed_type(alloc, head, parsed, line);
+    let added = show_parsed_type(alloc, head, parsed, is_whole, line);
     write_line(added, line, out)
 }
 
@@ -39,11 +41,10 @@ fn is_type_listed(
     leaf: u16,
     parsed: &Result<TypeData<'_>, Error>,
     selection: &Selection<'_, '_>,
-    search: &mut NameSearch<'_, '_>,
-    references: &mut Vec<TypeIndex>,
+    search: &mut Search<'_, '_>,
 ) -> Result<bool, AllocError> {
     match parsed {
-        Ok(value) => selection.has_type(alloc, leaf, value, search, references),
+        Ok(value) => selection.has_type(alloc, leaf, value, search),
         Err(Error::OutOfMemory) => Err(AllocError),
         Err(_) => Ok(selection.has_unread(leaf)),
     }
@@ -55,7 +56,7 @@ fn list_types<W: Write>(
     table: &TypeInformation,
     stream: u32,
     selection: &Selection<'_, '_>,
-    search: &mut NameSearch<'_, '_>,
+    search: &mut Search<'_, '_>,
     form: Form,
     out: &mut Output<W>,
 ) -> Result<(), Error>
@@ -63,7 +64,6 @@ fn list_types<W: Write>(
 {
     let mut items = table.iter();
     let mut line = Line::new(alloc);
-    let mut references = Vec::new(alloc);
     'records: loop {
         let (_, byte) = items.place();
         let Some(item) = items.next()? else {
@@ -74,7 +74,7 @@ fn list_types<W: Write>(
             continue 'records;
         }
         let parsed = item.parse(alloc);
-        if !is_type_listed(alloc, leaf, &parsed, selection, search, &mut references)? {
+        if !is_type_listed(alloc, leaf, &parsed, selection, search)? {
             continue 'records;
         }
         let head = RecordHead {
@@ -85,13 +85,14 @@ fn list_types<W: Write>(
                 byte: byte as u32,
             },
         };
-        write_type(alloc, head, &parsed, form, &mut line, out)?;
+        let is_whole = &mut search.is_whole;
+        write_type(alloc, head, &parsed, form, is_whole, &mut line, out)?;
     }
 }
 
 /// Writes a line for each type of the table in a stream that is selected, in the order of the table,
-/// as `types` does. The names that were found are noted in the search, which begins with those of
-/// the selection. A name is found if a type has it, also if that isn't listed for another reason.
+/// as `types` does. What was found is noted in the search, which begins with the names of the
+/// selection. A name is found if a type has it, also if that isn't listed for another reason.
 ///
 /// # Errors
 /// Fails as `types` does.
@@ -100,14 +101,17 @@ pub fn select_types<W: Write>(
     stream: Stream,
     number: u32,
     selection: &Selection<'_, '_>,
-    search: &mut NameSearch<'_, '_>,
+    search: &mut Search<'_, '_>,
     form: Form,
     out: &mut Output<W>,
 ) -> Result<(), Error>
     ensures { ListsLines form out.old out.new result }
 {
-    let table = TypeInformation::parse(stream)?;
-    list_types(alloc, &table, number, selection, search, form, out)
+    let types = learn_table(alloc, stream)?;
+    search
+        .used
+        .find(alloc, &types, selection, &mut search.used_names)?;
+    list_types(alloc, types.items(), number, selection, search, form, out)
 }
 
 /// Writes the line of the id of a record.
@@ -117,13 +121,14 @@ fn write_id<W: Write>(
     head: RecordHead,
     parsed: &Result<IdData<'_>, Error>,
     form: Form,
+    is_whole: &mut bool,
     line: &mut Line,
     out: &mut Output<W>,
 ) -> Result<(), Error>
     ensures { WritesWhat (IsRow (row_text form) (indexed head.index)) out.old out.new result }
 {
     line.begin(form);
-    let added = show_parsed_id(alloc, head, parsed, line);
+    let added = show_parsed_id(alloc, head, parsed, is_whole, line);
     write_line(added, line, out)
 }
 
@@ -133,7 +138,7 @@ fn is_id_listed(
     leaf: u16,
     parsed: &Result<IdData<'_>, Error>,
     selection: &Selection<'_, '_>,
-    search: &mut NameSearch<'_, '_>,
+    search: &mut Search<'_, '_>,
 ) -> Result<bool, AllocError> {
     match parsed {
         Ok(value) => selection.has_id(alloc, leaf, value, search),
@@ -148,7 +153,7 @@ fn list_ids<W: Write>(
     table: &IdInformation,
     stream: u32,
     selection: &Selection<'_, '_>,
-    search: &mut NameSearch<'_, '_>,
+    search: &mut Search<'_, '_>,
     form: Form,
     out: &mut Output<W>,
 ) -> Result<(), Error>
@@ -177,12 +182,13 @@ fn list_ids<W: Write>(
                 byte: byte as u32,
             },
         };
-        write_id(alloc, head, &parsed, form, &mut line, out)?;
+        let is_whole = &mut search.is_whole;
+        write_id(alloc, head, &parsed, form, is_whole, &mut line, out)?;
     }
 }
 
 /// Writes a line for each id of the table in a stream that is selected, in the order of the table,
-/// as `ids` does, and notes the names that were found as `select_types` does.
+/// as `ids` does, and notes what was found as `select_types` does.
 ///
 /// # Errors
 /// Fails as `ids` does.
@@ -191,7 +197,7 @@ pub fn select_ids<W: Write>(
     stream: Stream,
     number: u32,
     selection: &Selection<'_, '_>,
-    search: &mut NameSearch<'_, '_>,
+    search: &mut Search<'_, '_>,
     form: Form,
     out: &mut Output<W>,
 ) -> Result<(), Error>

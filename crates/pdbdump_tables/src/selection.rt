@@ -1,7 +1,6 @@
 //! Which records of a table are listed.
 
-use crate::name_search::NameSearch;
-use crate::references::push_references;
+use crate::search::Search;
 use pdb_base::TypeIndex;
 use pdb_values::{IdData, TypeData, leaf_name};
 use std::alloc::{AllocError, Global};
@@ -21,8 +20,12 @@ pub struct Selection<'m, 'w> {
     /// Whether forward references are left out.
     pub leaves_out_forward: bool,
 
-    /// The type to which the records refer, or None for any.
+    /// The type to which the records refer, or to a forward reference that it defines; or None for
+    /// any.
     pub uses: Option<TypeIndex>,
+
+    /// The names of the types to which the records refer, with `*` and `?`, or none for any type.
+    pub used_names: &'m [&'w str],
 }
 
 impl Selection<'_, '_> {
@@ -45,26 +48,15 @@ impl Selection<'_, '_> {
     /// Returns whether a record that can't be read is listed: not if its name or what it refers to
     /// matters.
     pub(crate) fn has_unread(&self, leaf: u16) -> bool {
-        self.names.is_empty() && self.uses.is_none() && self.has_kind(leaf)
+        self.names.is_empty() && !self.has_used() && self.has_kind(leaf)
     }
 
-    /// Returns whether the types to which a record refers are among those that matter. They are
-    /// gathered in `references`.
-    fn has_references(
-        &self,
-        value: &TypeData<'_>,
-        references: &mut Vec<TypeIndex>,
-    ) -> Result<bool, AllocError> {
-        let Some(wanted) = self.uses else {
-            return Ok(true);
-        };
-        references.clear();
-        push_references(value, references)?;
-        Ok(references.iter().any(|index| *index == wanted))
+    /// Returns whether it matters to which types a record refers.
+    fn has_used(&self) -> bool {
+        self.uses.is_some() || !self.used_names.is_empty()
     }
 
-    /// Returns whether a type is listed, whose record is of this kind. The types to which it refers
-    /// are gathered in `references`.
+    /// Returns whether a type is listed, whose record is of this kind.
     ///
     /// # Errors
     /// Fails if an allocation fails.
@@ -73,16 +65,15 @@ impl Selection<'_, '_> {
         alloc: Global,
         leaf: u16,
         value: &TypeData<'_>,
-        search: &mut NameSearch<'_, '_>,
-        references: &mut Vec<TypeIndex>,
+        search: &mut Search<'_, '_>,
     ) -> Result<bool, AllocError> {
-        if !search.takes(alloc, value.name())? || !self.has_kind(leaf) {
+        if !search.names.takes(alloc, value.name())? || !self.has_kind(leaf) {
             return Ok(false);
         }
         if self.leaves_out_forward && is_forward(value) {
             return Ok(false);
         }
-        self.has_references(value, references)
+        Ok(!self.has_used() || search.used.has_reference(value)?)
     }
 
     /// Returns whether an id is listed, whose record is of this kind.
@@ -94,9 +85,9 @@ impl Selection<'_, '_> {
         alloc: Global,
         leaf: u16,
         value: &IdData<'_>,
-        search: &mut NameSearch<'_, '_>,
+        search: &mut Search<'_, '_>,
     ) -> Result<bool, AllocError> {
-        Ok(search.takes(alloc, value.name())? && self.has_kind(leaf))
+        Ok(search.names.takes(alloc, value.name())? && self.has_kind(leaf))
     }
 }
 

@@ -26,6 +26,7 @@ fn list_types<W: Write>(
     table: &TypeInformation,
     stream: u32,
     form: Form,
+    is_whole: &mut bool,
     out: &mut Output<W>,
 ) -> Result<()>
     ensures { IsWalked form table.now out.old out.new result }
@@ -41,14 +42,15 @@ fn list_types<W: Write>(
         let Some(item) = items.next()? else {
             return Ok(());
         };
-        make_type(alloc, form, &item, place, &mut line)?;
+        make_type(alloc, form, &item, place, is_whole, &mut line)?;
         out.write(line.as_bytes())?;
     }
 }
 
 /// Writes a line for each type of the table in a stream, in the order of the table. A record that
 /// can't be parsed has a line with the error, the number of the stream and the byte at which the
-/// record begins. At most one parsed record and its line are held in memory.
+/// record begins, and `is_whole` becomes false. At most one parsed record and its line are held in
+/// memory.
 ///
 /// # Errors
 /// Fails as `TypeInformation::parse` does, before anything is written; with the error at which the
@@ -60,12 +62,13 @@ pub fn types<W: Write>(
     stream: Stream,
     number: u32,
     form: Form,
+    is_whole: &mut bool,
     out: &mut Output<W>,
 ) -> Result<()>
     ensures { IsTableListed form stream out.old out.new result }
 {
     let table = TypeInformation::parse(stream)?;
-    list_types(alloc, &table, number, form, out)
+    list_types(alloc, &table, number, form, is_whole, out)
 }
 
 /// Opens a table for look-ups of all its types.
