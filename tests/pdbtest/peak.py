@@ -33,8 +33,8 @@ def peak(words, given=None):
     return used(words, given)[:3]
 
 
-def by_turns(*commands):
-    """The fewest seconds of the processor that each command takes, of seven calls by turns, whose output goes nowhere.
+def by_turns(*commands, turns=7):
+    """The fewest seconds of the processor that each command takes, of some calls by turns, whose output goes nowhere.
     Other tests run beside this one, so the time of a clock, and that of a single call, say little."""
-    turns = [[used(words, output=subprocess.DEVNULL)[3] for words in commands] for _ in range(7)]
-    return [min(seconds) for seconds in zip(*turns)]
+    taken = [[used(words, output=subprocess.DEVNULL)[3] for words in commands] for _ in range(turns)]
+    return [min(seconds) for seconds in zip(*taken)]

@@ -72,7 +72,9 @@ pub fn index_count(kept: &OpenWalk<TypeIndex>) -> u32
     header.maximum_index - header.minimum_index
 }
 
-/// Writes where the record of an index is in the stream.
+/// Writes where the record of an index is in the stream. It is inlined, so that a record that is
+/// found is written where it stays.
+#[inline(always)]
 pub fn find_record(kept: &mut OpenWalk<TypeIndex>, index: u32, place: &mut Located) -> Fault
     ensures told { record { fault = result; value = place.new } ≡
         located_told place.old index (place_of_record kept.old.table index) }
@@ -103,13 +105,13 @@ pub fn find_records(
         return Fault::status(TOO_SMALL);
     }
     for at in 0..indexes.len() {
-        let mut place = Located {
+        let found = &mut room[at];
+        found.place = Located {
             index: indexes[at],
             offset: 0,
             length: 0,
         };
-        let fault = find_record(kept, indexes[at], &mut place);
-        room[at] = FoundRecord { place, fault };
+        found.fault = find_record(kept, indexes[at], &mut found.place);
     }
     Fault::status(FINE)
 }

@@ -1,5 +1,5 @@
 pub mod DefinitionLemmas
-pub mod EntryLemmas
+pub mod NumberLemmas
 pub mod SearchLemmas
 pub mod SizeLemmas
 pub mod SpanLemmas

@@ -19,17 +19,17 @@ use Rattle.pdb_records.specs.ToEnd.{to_end}
 use Rattle.pdb_records.specs.declared.parse.counted.CountWidth.TheVariants.{Bits32}
 use Rattle.pdb_records.specs.Records.{behind_leaf}
 use Rattle.pdb_tpi.specs.Record.{kind_of, type_of}
-use Rattle.pdb_types.specs.declared.entry.Entry.{Entry}
+use Rattle.pdb_types.specs.declared.numbering.Numbering.{Numbering}
 use Rattle.pdb_types.specs.Declaration.{declaration_of}
-use Rattle.pdb_types.specs.Entries.{entries_of, is_list}
+use Rattle.pdb_types.specs.Numbering.{type_numbers, is_list}
 
--- what is read and made into types without a name has no entries
-nameless : {X : Type 0} (index : ℕ) (made : X → TypeValue) → ((x : X) → declaration_of (made x) ≡ None)
-    → (read : Answer (X × List ℕ))
-    → entries_of index (◌>>=◌ {A = TypeValue × List ℕ} {B = TypeValue}
+-- what is read and made into types without a name has no numbers
+nameless : {X : Type 0} (numbering : Numbering) (index : ℕ) (made : X → TypeValue)
+    → ((x : X) → declaration_of (made x) ≡ None) → (read : Answer (X × List ℕ))
+    → type_numbers numbering index (◌>>=◌ {A = TypeValue × List ℕ} {B = TypeValue}
     (◌>>=◌ {A = X × List ℕ} {B = TypeValue × List ℕ} read (λ x. Ok (made x.0, x.1))) (λ x. Ok x.0)) ≡ []
-nameless index made none (Ok x) = rw (none x.0) refl
-nameless index made none (Err refusal) = refl
+nameless numbering index made none (Ok x) = rw (none x.0) refl
+nameless numbering index made none (Err refusal) = refl
 
 is_one : (number : ℕ) → is_list number ≡ true → (number ≡ 0x1203) ⊎ ((number ≡ 0x1201) ⊎ (number ≡ 0x1206))
 is_one number is = elim (cases_Bool (eqb number 0x1203)) [
@@ -43,15 +43,16 @@ is_one number is = elim (cases_Bool (eqb number 0x1203)) [
 ]
 
 -- what follows the leaf of a list
-behind : (index number : ℕ) (rest : List ℕ) → is_list number ≡ true
-    → entries_of index (◌>>=◌ {A = TypeValue × List ℕ} {B = TypeValue}
+behind : (numbering : Numbering) (index number : ℕ) (rest : List ℕ) → is_list number ≡ true
+    → type_numbers numbering index (◌>>=◌ {A = TypeValue × List ℕ} {B = TypeValue}
     (record_of (eqb number field_list_leaf) number rest) (λ x. Ok x.0)) ≡ []
 unfolding behind_leaf
-behind index number rest is = elim (is_one number is) [
-  | inl fields ↦ rw fields (nameless index field_list_of (λ entries. refl) (to_end field_at rest))
+behind numbering index number rest is = elim (is_one number is) [
+  | inl fields ↦ rw fields (nameless numbering index field_list_of (λ entries. refl) (to_end field_at rest))
   | inr (inl arguments) ↦
-      rw arguments (nameless index argument_list (λ list. refl) (counted_at Bits32 as_type rest))
-  | inr (inr methods) ↦ rw methods (nameless index method_list (λ list. refl) (to_end (row listed_method_row) rest))
+      rw arguments (nameless numbering index argument_list (λ list. refl) (counted_at Bits32 as_type rest))
+  | inr (inr methods) ↦
+      rw methods (nameless numbering index method_list (λ list. refl) (to_end (row listed_method_row) rest))
 ]
 
 -- the first two bytes say the kind
@@ -60,28 +61,30 @@ first_two [] = refl
 first_two (a ∷ []) = refl
 first_two (a ∷ b ∷ rest) = refl
 
-of_record : (index : ℕ) (item : List ℕ) → is_list (kind_of item) ≡ true → entries_of index (type_record item) ≡ []
+of_record : (numbering : Numbering) (index : ℕ) (item : List ℕ) → is_list (kind_of item) ≡ true
+    → type_numbers numbering index (type_record item) ≡ []
 unfolding type_record record_at number_at front_at
-of_record index item is = elim (cases_Bool (ltb (length item) 2)) [
+of_record numbering index item is = elim (cases_Bool (ltb (length item) 2)) [
   | inl short ↦ rw short refl
-  | inr long ↦ rw (long, first_two item) (behind index (kind_of item) (drop 2 item) is)
+  | inr long ↦ rw (long, first_two item) (behind numbering index (kind_of item) (drop 2 item) is)
 ]
 
-of_primitive : (index : ℕ) (type : Answer PrimitiveType)
-    → entries_of index (type >>= λ t. Ok (plain (primitive t))) ≡ []
-of_primitive index (Ok type) = refl
-of_primitive index (Err refusal) = refl
+of_primitive : (numbering : Numbering) (index : ℕ) (type : Answer PrimitiveType)
+    → type_numbers numbering index (type >>= λ t. Ok (plain (primitive t))) ≡ []
+of_primitive numbering index (Ok type) = refl
+of_primitive numbering index (Err refusal) = refl
 
--- the record of a list has no entries
-list_entries : (index : ℕ) (item : List ℕ) → is_list (kind_of item) ≡ true → entries_of index (type_of index item) ≡ []
+-- the record of a list has no numbers
+list_numbers : (numbering : Numbering) (index : ℕ) (item : List ℕ) → is_list (kind_of item) ≡ true
+    → type_numbers numbering index (type_of index item) ≡ []
 unfolding type_of primitive_of
-list_entries index item is = elim (cases_Bool (ltb index first_record)) [
-  | inl low ↦ rw low (of_primitive index (primitive_type index))
-  | inr high ↦ rw high (of_record index item is)
+list_numbers numbering index item is = elim (cases_Bool (ltb index first_record)) [
+  | inl low ↦ rw low (of_primitive numbering index (primitive_type index))
+  | inr high ↦ rw high (of_record numbering index item is)
 ]
 
 -- and adds none
-pub list_adds : (entries : List Entry) (index : ℕ) (item : List ℕ) → is_list (kind_of item) ≡ true
-    → entries ≡ entries ++ entries_of index (type_of index item)
-list_adds entries index item is =
-    sym (ap (λ (more : List Entry). entries ++ more) (list_entries index item is) ∙ append-nil entries)
+pub list_adds : (numbering : Numbering) (numbers : List ℕ) (index : ℕ) (item : List ℕ) → is_list (kind_of item) ≡ true
+    → numbers ≡ numbers ++ type_numbers numbering index (type_of index item)
+list_adds numbering numbers index item is =
+    sym (ap (λ (more : List ℕ). numbers ++ more) (list_numbers numbering index item is) ∙ append-nil numbers)

@@ -3,7 +3,7 @@ use Rattle.pdb_tpi.specs.Table.{Table}
 use Rattle.pdb_types.specs.declared.definition_index.DefinitionIndex.{DefinitionIndex}
 use Rattle.pdb_types.specs.declared.definition_index.KeptIndex.{KeptIndex}
 use Rattle.pdb_types.specs.declared.definition_index.KeptIndex.TheVariants.{Own, Lent}
-use Rattle.pdb_types.specs.Entries.{IsIndexed}
+use Rattle.pdb_types.specs.Numbering.{HasNumbers}
 use Rattle.pdb_types.specs.Shortcut.{AreShortcuts}
 
 -- an index, independent of who keeps it
@@ -13,5 +13,5 @@ index_kept (Lent index) = index.now
 
 -- an index is that of a table
 pub record IsIndexOf (table : Table) (index : DefinitionIndex) : Type 0 where
-  pub entries : IsIndexed table index.entries.items
+  pub numbers : HasNumbers table index.numbering index.numbers.items
   pub shortcuts : AreShortcuts table index.shortcuts.items

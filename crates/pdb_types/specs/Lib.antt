@@ -5,7 +5,8 @@ pub mod Declaration
 pub mod NameHash
 pub mod Definition
 pub mod DefinitionLaws
-pub mod Entries
+pub mod Numbering
+pub mod DefinitionWalk
 pub mod Size
 pub mod Shortcut
 pub mod DefinitionIndex

@@ -5,27 +5,34 @@ ghost use Rattle.pdb_base.specs.Answer.{Answers};
 ghost use Rattle.pdb_tpi.specs.Item.{item_bytes, index_of};
 ghost use Rattle.pdb_tpi.specs.Record.{type_of};
 ghost use Rattle.pdb_tpi.specs.Steps.{walk_rest};
+ghost use Rattle.pdb_types.specs.Declaration.{declaration_value};
 ghost use Rattle.pdb_types.specs.Definition.{if_none_left, whole_table};
+ghost use Rattle.pdb_types.specs.DefinitionWalk.{IsUnlessGivenUp, IsNameWalk, gives_up};
+ghost use Rattle.pdb_types.specs.Numbering.{all_numbers, is_list, type_numbers, source_name_number, unique_name_number};
 ghost use Rattle.pdb_values.specs.TypeView.{type_value};
-ghost use Rattle.pdb_types.specs.Entries.{IsIndexed, all_entries, entries_of, is_list};
 
-use crate::entry::{Entry, push_entries};
+use crate::declaration::{Declaration, declaration_of};
 use crate::memory::AllocResult;
+use crate::numbering::Numbering;
+use crate::type_name::TypeName;
 use pdb_base::{Error, FallibleIterator, Result, TypeIndex};
 use pdb_tpi::constants::{LF_ARGLIST, LF_FIELDLIST, LF_METHODLIST};
-use pdb_tpi::{Type, TypeInformation};
+use pdb_tpi::{OpenTable, Type, TypeInformation};
 use pdb_values::TypeData;
 use std::alloc::{AllocError, Global};
 
 /// What a walk along a table finds.
 #[derive(Drop)]
 pub(crate) struct DefinitionWalk {
-    /// An entry for each name of a definition, in the order of the types.
-    pub(crate) entries: Vec<Entry>,
+    /// How names are numbered.
+    pub(crate) numbering: Numbering,
 
-    /// The types with modifiers and the bit fields over types of the table: each is as large as the
-    /// type that it names.
-    pub(crate) modified: Vec<TypeIndex>,
+    /// The numbers of the names of definitions.
+    pub(crate) numbers: Vec<u64>,
+
+    /// Whether a forward reference has no unique name, so that its definition is found by the name
+    /// that the source gives it.
+    seeks_source_names: bool,
 
     /// Whether an enumeration is over a type of the table. Compilers write only enumerations over
     /// primitive types.
@@ -39,101 +46,168 @@ fn is_list(kind: u16) -> bool
     kind == LF_FIELDLIST || kind == LF_ARGLIST || kind == LF_METHODLIST
 }
 
-impl DefinitionWalk {
-    /// Notes that a type is as large as another, if that is a type of the table, whose least index
-    /// is given.
-    fn note_modified(&mut self, index: TypeIndex, other: TypeIndex, least: u32) -> AllocResult<()>
-        ensures { OnOk result (self.new.entries ≡ self.old.entries) }
-    {
-        if other.0 >= least {
-            self.modified.push(index)?;
-        }
-        Ok(())
+/// Returns whether a type is an enumeration over a type of the table, whose least index is given.
+fn is_wide_enumeration(value: &TypeData<'_>, least: u32) -> bool {
+    match value {
+        TypeData::Enumeration(enumeration) => enumeration.underlying_type.0 >= least,
+        _ => false,
     }
+}
 
-    /// Notes what a type says of its size, where `least` is the least index of the table.
-    fn note_size(&mut self, index: TypeIndex, value: &TypeData<'_>, least: u32) -> AllocResult<()>
-        ensures { OnOk result (self.new.entries ≡ self.old.entries) }
+/// Appends the number of the name that the source gives a definition, if such names are numbered.
+fn push_source(
+    numbering: Numbering,
+    index: TypeIndex,
+    names: &Declaration<'_>,
+    numbers: &mut Vec<u64>,
+) -> AllocResult<()>
+    ensures { OnOk result
+        (numbers.new.items ≡ numbers.old.items ++ source_name_number numbering index.0 (declaration_value names.now)) }
+{
+    if numbering.has_source_names {
+        numbers.push(numbering.number(TypeName::Source(names.name.as_bytes()), index))?;
+    }
+    Ok(())
+}
+
+/// Appends the number of the unique name of a definition, if it has one.
+fn push_unique(
+    numbering: Numbering,
+    index: TypeIndex,
+    names: &Declaration<'_>,
+    numbers: &mut Vec<u64>,
+) -> AllocResult<()>
+    ensures { OnOk result
+        (numbers.new.items ≡ numbers.old.items ++ unique_name_number numbering index.0 (declaration_value names.now)) }
+{
+    if let Some(name) = names.unique_name {
+        numbers.push(numbering.number(TypeName::Decorated(name.as_bytes()), index))?;
+    }
+    Ok(())
+}
+
+impl DefinitionWalk {
+    /// Notes a type.
+    fn note_value(&mut self, index: TypeIndex, value: &TypeData<'_>) -> AllocResult<()>
+        ensures kept { self.new.numbering ≡ self.old.numbering }
+        ensures added { OnOk result (self.new.numbers.items
+            ≡ self.old.numbers.items ++ type_numbers self.old.numbering index.0 (Ok (type_value value.now))) }
     {
-        match value {
-            TypeData::Modifier(modifier) => {
-                self.note_modified(index, modifier.underlying_type, least)
-            }
-            TypeData::Bitfield(field) => self.note_modified(index, field.underlying_type, least),
-            TypeData::Enumeration(enumeration) => {
-                if enumeration.underlying_type.0 >= least {
-                    self.has_wide_enumeration = true;
-                }
+        let numbering = self.numbering;
+        self.has_wide_enumeration |= is_wide_enumeration(value, numbering.least);
+        match declaration_of(value) {
+            Some(names) if names.is_forward() => {
+                self.seeks_source_names |= names.unique_name.is_none();
                 Ok(())
             }
-            _ => Ok(()),
+            Some(names) => {
+                push_source(numbering, index, &names, &mut self.numbers)?;
+                push_unique(numbering, index, &names, &mut self.numbers)
+            }
+            None => Ok(()),
         }
-    }
-
-    /// Notes a type, where `least` is the least index of the table.
-    fn note_value(&mut self, index: TypeIndex, value: &TypeData<'_>, least: u32) -> AllocResult<()>
-        ensures { OnOk result (self.new.entries.items
-            ≡ self.old.entries.items ++ entries_of index.0 (Ok (type_value value.now))) }
-    {
-        self.note_size(index, value, least)?;
-        push_entries(index, value, &mut self.entries)
     }
 
     /// Notes the type of an item, if it can be read.
-    fn note_read(&mut self, alloc: Global, item: &Type<'_>, least: u32) -> AllocResult<()>
-        ensures { OnOk result (self.new.entries.items ≡ self.old.entries.items
-            ++ entries_of (index_of item.now).0 (type_of (index_of item.now).0 (item_bytes item.now))) }
+    fn note_read(&mut self, alloc: Global, item: &Type<'_>) -> AllocResult<()>
+        ensures kept { self.new.numbering ≡ self.old.numbering }
+        ensures added { OnOk result (self.new.numbers.items ≡ self.old.numbers.items
+            ++ type_numbers self.old.numbering (index_of item.now).0
+            (type_of (index_of item.now).0 (item_bytes item.now))) }
     {
         match item.parse(alloc) {
-            Ok(value) => self.note_value(item.index(), &value, least),
+            Ok(value) => self.note_value(item.index(), &value),
             Err(Error::OutOfMemory) => Err(AllocError),
             Err(_) => Ok(()),
         }
     }
 
     /// Notes the type of an item. A list has no name, and isn't read.
-    fn note(&mut self, alloc: Global, item: &Type<'_>, least: u32) -> AllocResult<()>
-        ensures { OnOk result (self.new.entries.items ≡ self.old.entries.items
-            ++ entries_of (index_of item.now).0 (type_of (index_of item.now).0 (item_bytes item.now))) }
+    fn note(&mut self, alloc: Global, item: &Type<'_>) -> AllocResult<()>
+        ensures kept { self.new.numbering ≡ self.old.numbering }
+        ensures added { OnOk result (self.new.numbers.items ≡ self.old.numbers.items
+            ++ type_numbers self.old.numbering (index_of item.now).0
+            (type_of (index_of item.now).0 (item_bytes item.now))) }
     {
         if is_list(item.raw_kind()) {
             return Ok(());
         }
-        self.note_read(alloc, item, least)
+        self.note_read(alloc, item)
     }
 
-    /// Walks along a table.
+    /// Returns whether a type seeks a name that isn't numbered.
+    fn gives_up(&self) -> bool
+        ensures { result ≡ gives_up self.now }
+    {
+        self.seeks_source_names && !self.numbering.has_source_names
+    }
+
+    /// Walks along a table, up to a type that seeks a name that isn't numbered.
     ///
     /// # Errors
     /// Fails with the fault at which the walk stops if that is before the end of the table, and
     /// with `OutOfMemory` if an allocation fails.
-    fn along(alloc: Global, table: &TypeInformation) -> Result<Self>
-        ensures { Answers (λ walk. walk.entries.items) result
-            (if_none_left (all_entries table.now) (walk_rest table.now)) }
+    fn along(alloc: Global, table: &TypeInformation, numbering: Numbering) -> Result<Self>
+        ensures kept { IfOk result (λ walk. walk.numbering ≡ numbering) }
+        ensures walked { IsUnlessGivenUp result (Answers (λ walk. walk.numbers.items) result
+            (if_none_left (all_numbers numbering table.now) (walk_rest table.now))) }
     {
-        let least = table.header().minimum_index;
         let mut items = table.iter();
         let mut found = DefinitionWalk {
-            entries: Vec::new(alloc),
-            modified: Vec::new(alloc),
+            numbering,
+            numbers: Vec::new(alloc),
+            seeks_source_names: false,
             has_wide_enumeration: false,
         };
         while let Some(item) = items.next()? {
-            found.note(alloc, &item, least)?;
+            found.note(alloc, &item)?;
+            if found.gives_up() {
+                return Ok(found);
+            }
         }
         Ok(found)
     }
 
-    /// Walks along a table, and sorts the entries.
+    /// Walks along a table as `along` does, and sorts the numbers.
     ///
     /// # Errors
     /// Fails as `along` does.
-    pub(crate) fn read_sorted(alloc: Global, table: &TypeInformation) -> Result<Self>
-        ensures indexed { IfOk result (λ walk. IsIndexed table.now walk.entries.items) }
-        ensures walked { Answers (λ _. table.now) result (whole_table table.now) }
+    fn sorted(alloc: Global, types: &OpenTable<TypeIndex>, has_source_names: bool) -> Result<Self>
+        ensures kept { IfOk result (λ walk. walk.numbering.has_source_names ≡ has_source_names) }
+        ensures numbered { IsUnlessGivenUp result (IfOk result (IsNameWalk types.now.table)) }
+        ensures walked { IsUnlessGivenUp result (Answers (λ _. types.now.table) result (whole_table types.now.table)) }
     {
-        let mut walk = DefinitionWalk::along(alloc, table)?;
-        walk.entries.sort_unstable_by_key(|entry| entry.rank());
+        let numbering = Numbering::of(types, has_source_names);
+        let mut walk = DefinitionWalk::along(alloc, types.items(), numbering)?;
+        walk.numbers.sort_unstable_by_key(|number| *number);
         Ok(walk)
+    }
+
+    /// Walks along a table, and sorts the numbers of all names.
+    ///
+    /// # Errors
+    /// Fails as `along` does.
+    pub(crate) fn named(alloc: Global, types: &OpenTable<TypeIndex>) -> Result<Self>
+        ensures numbered { IfOk result (IsNameWalk types.now.table) }
+        ensures walked { Answers (λ _. types.now.table) result (whole_table types.now.table) }
+    {
+        DefinitionWalk::sorted(alloc, types, true)
+    }
+
+    /// Walks along a table, and sorts the numbers of the names by which its types seek definitions:
+    /// the unique names, and all names if a type seeks one by the name that the source gives it.
+    ///
+    /// # Errors
+    /// Fails as `along` does.
+    pub(crate) fn sought(alloc: Global, types: &OpenTable<TypeIndex>) -> Result<Self>
+        ensures numbered { IfOk result (IsNameWalk types.now.table) }
+        ensures walked { Answers (λ _. types.now.table) result (whole_table types.now.table) }
+    {
+        let walk = DefinitionWalk::sorted(alloc, types, false)?;
+        if !walk.gives_up() {
+            return Ok(walk);
+        }
+        drop(walk);
+        DefinitionWalk::named(alloc, types)
     }
 }

@@ -1,22 +1,21 @@
 //! The definitions of the types of a table, by their names.
 
-ghost use Rattle.std.specs.Prelude.{◌≡◌, ◌≤◌, length, drop, map, Ok};
+ghost use Rattle.std.specs.Prelude.{◌≡◌, true, map, Ok};
 ghost use Rattle.std.specs.Option.{option_map};
 ghost use Rattle.pdb_base.specs.Answer.{Answers};
 ghost use Rattle.pdb_types.specs.Declaration.{source_name, type_name};
 ghost use Rattle.pdb_types.specs.Definition.{all_definitions, defines, definition_by, definition_of, first_definition};
 ghost use Rattle.pdb_types.specs.Definition.{whole_table};
 ghost use Rattle.pdb_types.specs.DefinitionIndex.{IsIndexOf};
-ghost use Rattle.pdb_types.specs.Entries.{AreCandidates, IsIndexed};
-ghost use Rattle.pdb_types.specs.Shortcut.{AreShortcuts, IsAsLarge};
+ghost use Rattle.pdb_types.specs.Numbering.{is_numbered, numbering_of};
+ghost use Rattle.pdb_types.specs.Shortcut.{IsAsLarge};
 ghost use Rattle.pdb_types.specs.TypeAt.{type_at};
 ghost use Rattle.pdb_values.specs.TypeView.{type_value};
 
 use crate::declaration::declaration_of;
 use crate::definition_index::{DefinitionIndex, KeptIndex};
-use crate::entry::Entry;
-use crate::name_hash::name_hash;
-use crate::shortcut::{Shortcut, end_of};
+use crate::numbering::Numbering;
+use crate::shortcut::end_of;
 use crate::type_at::type_at;
 use crate::type_name::TypeName;
 use pdb_base::{Error, Result, TypeIndex};
@@ -28,9 +27,10 @@ use std::marker::Model;
 /// The definitions of the classes, unions and enumerations of a table, which are found by their
 /// names.
 ///
-/// It keeps two entries of 16 bytes for each definition, or one if that has no unique name, and no
-/// names: it reads those again from the table. So let the table first learn where its items begin,
-/// up to its last index (`OpenTable::learn`); otherwise each look-up walks along the table.
+/// It keeps 8 bytes for each unique name of a definition, and as many for each name that the source
+/// gives one if a forward reference of the table has no other name. It keeps no names: it reads
+/// those again from the table. So let the table first learn where its items begin, up to its last
+/// index (`OpenTable::learn`); otherwise each look-up walks along the table.
 #[derive(Debug, Drop)]
 pub struct Definitions<'t> {
     types: &'t OpenTable<TypeIndex>,
@@ -46,14 +46,6 @@ impl<'t> Model for Definitions<'t> {
     ghost view = { λ d. d.types.now.table };
 
     ghost invariant = { λ d. IsIndexOf d.types.now.table (index_kept d.index) };
-}
-
-/// Returns the entries from a place on.
-fn entries_from(entries: &[Entry], start: usize) -> &[Entry]
-    requires { start ≤ length entries.now }
-    ensures { result.now ≡ drop start entries.now }
-{
-    &entries[start..]
 }
 
 impl<'t> Definitions<'t> {
@@ -87,25 +79,18 @@ impl<'t> Definitions<'t> {
         self.types
     }
 
-    /// Returns the entries of the names of definitions.
-    fn entries(&self) -> &[Entry]
-        ensures { IsIndexed self.now result.now }
+    /// Returns the index of the table.
+    fn index(&self) -> &DefinitionIndex
+        ensures { IsIndexOf self.now result.now }
     {
-        &self.index.get().entries
-    }
-
-    /// Returns the shortcuts along types of one size.
-    fn shortcuts(&self) -> &[Shortcut]
-        ensures { AreShortcuts self.now result.now }
-    {
-        &self.index.get().shortcuts
+        self.index.get()
     }
 
     /// Returns the type to which a shortcut leads from a type, or that type itself if none does.
     pub(crate) fn along_shortcut(&self, index: TypeIndex) -> TypeIndex
         ensures { IsAsLarge self.now index.0 result.0 }
     {
-        end_of(self.shortcuts(), index)
+        end_of(self.index().shortcuts(), index)
     }
 
     /// Returns whether the type of an index is a definition of a name.
@@ -122,15 +107,96 @@ impl<'t> Definitions<'t> {
         }
     }
 
-    /// Returns the entries of a hash.
-    fn candidates(&self, hash: u64) -> &[Entry]
-        ensures { AreCandidates self.now hash result.now }
+    /// Returns the first definition of a name that is numbered.
+    fn first_numbered(
+        &self,
+        alloc: Global,
+        names: &DefinitionIndex,
+        name: TypeName<'_>,
+    ) -> Result<Option<TypeIndex>>
+        requires of_table { IsIndexOf self.now names.now }
+        requires numbered { is_numbered names.now.numbering (type_name name) ≡ true }
+        ensures { Answers (option_map (λ index. index.0)) result
+            (Ok (first_definition self.now (type_name name.entry))) }
     {
-        let entries = self.entries();
-        let start = entries.partition_point(|entry| entry.hash < hash);
-        let rest = entries_from(entries, start);
-        let count = rest.partition_point(|entry| entry.hash <= hash);
-        &rest[..count]
+        let numbering = names.numbering;
+        let first = numbering.first(name);
+        let candidates = names.candidates(first);
+        for candidate in candidates {
+            let index = numbering.index(first, *candidate);
+            if self.defines(alloc, index, name)? {
+                return Ok(Some(index));
+            }
+        }
+        Ok(None)
+    }
+
+    /// Returns the indexes of all definitions of a name that is numbered, in increasing order.
+    fn all_numbered(
+        &self,
+        alloc: Global,
+        names: &DefinitionIndex,
+        name: TypeName<'_>,
+    ) -> Result<Vec<TypeIndex>>
+        requires of_table { IsIndexOf self.now names.now }
+        requires numbered { is_numbered names.now.numbering (type_name name) ≡ true }
+        ensures { Answers (λ found. map (λ index. index.0) found.items) result
+            (Ok (all_definitions self.now (type_name name.entry))) }
+    {
+        let numbering = names.numbering;
+        let first = numbering.first(name);
+        let candidates = names.candidates(first);
+        let mut found = Vec::new(alloc);
+        // A definition has two numbers in the row if both of its names do.
+        let mut next = numbering.least as u64;
+        for candidate in candidates {
+            let index = numbering.index(first, *candidate);
+            let number = index.0 as u64;
+            if number < next {
+                continue;
+            }
+            next = number + 1;
+            if !self.defines(alloc, index, name)? {
+                continue;
+            }
+            found.push(index)?;
+        }
+        Ok(found)
+    }
+
+    /// Returns the indexes of all definitions of a name, in increasing order, from the records of
+    /// the whole table.
+    fn all_in_table(
+        &self,
+        alloc: Global,
+        numbering: Numbering,
+        name: TypeName<'_>,
+    ) -> Result<Vec<TypeIndex>>
+        requires { numbering ≡ numbering_of self.now numbering.has_source_names }
+        ensures { Answers (λ found. map (λ index. index.0) found.items) result
+            (Ok (all_definitions self.now (type_name name.entry))) }
+    {
+        let mut found = Vec::new(alloc);
+        for above in 0..numbering.most as u64 + 1 {
+            let index = TypeIndex(numbering.least + above as u32);
+            if self.defines(alloc, index, name)? {
+                found.push(index)?;
+            }
+        }
+        Ok(found)
+    }
+
+    /// Returns the indexes of all definitions of a name, in increasing order.
+    fn all_of(&self, alloc: Global, name: TypeName<'_>) -> Result<Vec<TypeIndex>>
+        ensures { Answers (λ found. map (λ index. index.0) found.items) result
+            (Ok (all_definitions self.now (type_name name.entry))) }
+    {
+        let names = self.index();
+        if names.numbering.has(name) {
+            self.all_numbered(alloc, names, name)
+        } else {
+            self.all_in_table(alloc, names.numbering, name)
+        }
     }
 
     /// Returns the first definition of a name.
@@ -138,13 +204,12 @@ impl<'t> Definitions<'t> {
         ensures { Answers (option_map (λ index. index.0)) result
             (Ok (first_definition self.now (type_name name.entry))) }
     {
-        let candidates = self.candidates(name_hash(name));
-        for entry in candidates {
-            if self.defines(alloc, entry.index, name)? {
-                return Ok(Some(entry.index));
-            }
+        let names = self.index();
+        if names.numbering.has(name) {
+            return self.first_numbered(alloc, names, name);
         }
-        Ok(None)
+        let all = self.all_in_table(alloc, names.numbering, name)?;
+        Ok(all.first().copied())
     }
 
     /// Returns the definition of the type of an index, whose record says this.
@@ -190,22 +255,6 @@ impl<'t> Definitions<'t> {
         ensures { Answers (λ found. map (λ index. index.0) found.items) result
             (Ok (all_definitions self.now (source_name name.now))) }
     {
-        let name = TypeName::Source(name);
-        let candidates = self.candidates(name_hash(name));
-        let mut found = Vec::new(alloc);
-        // A definition has two entries of one hash if its names have that hash.
-        let mut next = self.types.items().header().minimum_index as u64;
-        for entry in candidates {
-            let number = entry.index.0 as u64;
-            if number < next {
-                continue;
-            }
-            next = number + 1;
-            if !self.defines(alloc, entry.index, name)? {
-                continue;
-            }
-            found.push(entry.index)?;
-        }
-        Ok(found)
+        self.all_of(alloc, TypeName::Source(name))
     }
 }

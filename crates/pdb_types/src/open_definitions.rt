@@ -42,7 +42,7 @@ impl OpenDefinitions {
         let mut types = types;
         let last = types.items().header().maximum_index.saturating_sub(1);
         types.learn(TypeIndex(last));
-        let index = DefinitionIndex::new(alloc, &types)?;
+        let index = DefinitionIndex::with_all_names(alloc, &types)?;
         Ok(OpenDefinitions { types, index })
     }
 

@@ -102,49 +102,22 @@ impl<'t> Definitions<'t> {
         Ok(())
     }
 
-    /// Returns the shortcuts from some types with modifiers and bit fields, in rising order.
+    /// Returns the shortcuts of the table, in rising order. Where an enumeration is over a type of
+    /// the table, types with names can be many in a row too, of which each is as large as the next.
     ///
-    /// There is one for each of them from which the size is found along a multiple of eight types.
-    /// So if all of the table are given that are over types of the table, a size is found along at
-    /// most eight types and a shortcut, also where a million types with modifiers are one behind
-    /// another.
-    fn shortcuts_from(&self, alloc: Global, types: &[TypeIndex]) -> AllocResult<Vec<Shortcut>>
-        ensures { IfOk result (λ shortcuts. AreShortcuts self.now shortcuts.items) }
-    {
-        let mut shortcuts = Vec::new(alloc);
-        for index in types {
-            self.add_shortcut(alloc, *index, false, &mut shortcuts)?;
-        }
-        Ok(shortcuts)
-    }
-
-    /// Returns the shortcuts from all types of the table, as `shortcuts_from` does.
-    fn all_shortcuts(&self, alloc: Global) -> AllocResult<Vec<Shortcut>>
+    /// There is one for each type from which the size is found along a multiple of eight types. So a
+    /// size is found along at most eight types and a shortcut, also where a million types with
+    /// modifiers are one behind another.
+    pub(crate) fn new_shortcuts(&self, alloc: Global, has_names: bool) -> AllocResult<Vec<Shortcut>>
         ensures { IfOk result (λ shortcuts. AreShortcuts self.now shortcuts.items) }
     {
         let mut items = self.types().items().iter();
         let mut shortcuts = Vec::new(alloc);
         while let Ok(Some(item)) = items.next() {
-            self.add_shortcut(alloc, item.index(), true, &mut shortcuts)?;
+            if is_of_run(item.raw_kind(), has_names) {
+                self.add_shortcut(alloc, item.index(), has_names, &mut shortcuts)?;
+            }
         }
         Ok(shortcuts)
-    }
-
-    /// Returns the shortcuts of the table, whose types with modifiers and bit fields over types of
-    /// the table are given. Where an enumeration is over a type of the table, types with names can
-    /// be many in a row too, of which each is as large as the next.
-    pub(crate) fn new_shortcuts(
-        &self,
-        alloc: Global,
-        has_names: bool,
-        modified: &[TypeIndex],
-    ) -> AllocResult<Vec<Shortcut>>
-        ensures { IfOk result (λ shortcuts. AreShortcuts self.now shortcuts.items) }
-    {
-        if has_names {
-            self.all_shortcuts(alloc)
-        } else {
-            self.shortcuts_from(alloc, modified)
-        }
     }
 }

@@ -4,10 +4,9 @@ use crate::group::Group;
 use crate::piece::{Piece, align_up};
 use crate::sketch::push_number;
 use pdbdump_types::TextBuffer;
-use std::alloc::Global;
 
 /// How far a line is indented.
-const INDENT: &[u8] = b"    ";
+const WIDTH: u32 = 4;
 
 /// What is written of a class.
 #[derive(Drop)]
@@ -25,20 +24,13 @@ pub(crate) struct Body<'s> {
     pub(crate) at: u64,
 }
 
-/// Appends the spaces before a line that is so deep.
-fn push_indent(depth: usize, out: &mut TextBuffer) {
-    for _ in 0..depth {
-        out.push(INDENT);
-    }
-}
-
 /// Appends lines that are so deep.
-fn push_lines(depth: usize, lines: &[u8], out: &mut TextBuffer) {
+fn push_lines(depth: u32, lines: &[u8], out: &mut TextBuffer) {
     for line in lines.split(|byte| *byte == b'\n') {
         if line.is_empty() {
             continue;
         }
-        push_indent(depth, out);
+        out.push_indent(depth, WIDTH);
         out.push(line);
         out.push(b"\n");
     }
@@ -46,17 +38,10 @@ fn push_lines(depth: usize, lines: &[u8], out: &mut TextBuffer) {
 
 /// Appends an array of bytes that is so deep. Its name has the place where it begins, and the number
 /// of the piece behind it, if there is one.
-fn push_padding(
-    alloc: Global,
-    depth: usize,
-    start: u64,
-    number: Option<usize>,
-    width: u64,
-    out: &mut TextBuffer,
-) {
-    push_indent(depth, out);
+fn push_padding(depth: u32, start: u64, number: Option<usize>, width: u64, out: &mut TextBuffer) {
+    out.push_indent(depth, WIDTH);
     out.push(b"unsigned char pad_0x");
-    out.push_hexadecimal(alloc, start);
+    out.push_hexadecimal(start);
     if let Some(number) = number {
         push_number(b"_", number as u64, out);
     }
@@ -65,9 +50,9 @@ fn push_padding(
 }
 
 /// Appends an array of bytes for those of a class from a place up to another, if there are some.
-fn push_gap(alloc: Global, start: u64, end: u64, out: &mut TextBuffer) {
+fn push_gap(start: u64, end: u64, out: &mut TextBuffer) {
     if start < end {
-        push_padding(alloc, 1, start, None, end - start, out);
+        push_padding(1, start, None, end - start, out);
     }
 }
 
@@ -82,8 +67,7 @@ impl<'s> Body<'s> {
     /// has this number among those of the union.
     fn push_alternative(
         &self,
-        alloc: Global,
-        depth: usize,
+        depth: u32,
         pieces: &[Piece],
         first: usize,
         start: u64,
@@ -102,7 +86,7 @@ impl<'s> Body<'s> {
             if self.needs_padding(at, piece.start, piece.alignment) {
                 let number = first.saturating_add(number);
                 let width = piece.start.saturating_sub(at);
-                push_padding(alloc, within, at, Some(number), width, out);
+                push_padding(within, at, Some(number), width, out);
             }
             push_lines(within, &piece.text, out);
             at = piece.end;
@@ -113,8 +97,7 @@ impl<'s> Body<'s> {
     /// Appends the alternatives of a union that begins at a place.
     pub(crate) fn push_alternatives(
         &self,
-        alloc: Global,
-        depth: usize,
+        depth: u32,
         pieces: &[Piece],
         start: u64,
         out: &mut TextBuffer,
@@ -124,7 +107,7 @@ impl<'s> Body<'s> {
         for (number, piece) in pieces.iter().enumerate() {
             if piece.start < end {
                 if let Some(alternative) = pieces.get(first..number) {
-                    self.push_alternative(alloc, depth, alternative, first, start, out);
+                    self.push_alternative(depth, alternative, first, start, out);
                 }
                 first = number;
             }
@@ -132,16 +115,16 @@ impl<'s> Body<'s> {
         }
         match pieces.get(first..) {
             Some(last) if !last.is_empty() => {
-                self.push_alternative(alloc, depth, last, first, start, out);
+                self.push_alternative(depth, last, first, start, out);
             }
             _ => {}
         }
     }
 
     /// Appends a group.
-    fn push_group(&self, alloc: Global, group: &Group, out: &mut TextBuffer) {
+    fn push_group(&self, group: &Group, out: &mut TextBuffer) {
         if self.needs_padding(self.at, group.start, group.alignment) {
-            push_gap(alloc, self.at, group.start, out);
+            push_gap(self.at, group.start, out);
         }
         let Some(pieces) = self.pieces.get(group.first..group.behind) else {
             return;
@@ -151,26 +134,25 @@ impl<'s> Body<'s> {
             return;
         }
         push_lines(1, b"union {", out);
-        self.push_alternatives(alloc, 2, pieces, group.start, out);
+        self.push_alternatives(2, pieces, group.start, out);
         push_lines(1, b"};", out);
     }
 
     /// Appends the groups from one on, and what is behind them up to the size of the class.
     pub(crate) fn push_groups(
         &mut self,
-        alloc: Global,
         skip: usize,
         size: u64,
         alignment: u64,
         out: &mut TextBuffer,
     ) {
         for group in self.groups.iter().skip(skip) {
-            self.push_group(alloc, group, out);
+            self.push_group(group, out);
             self.at = group.laid_end(self.is_natural);
         }
         if self.is_natural && align_up(self.at, alignment) == size && self.at > 0 {
             return;
         }
-        push_gap(alloc, self.at, size, out);
+        push_gap(self.at, size, out);
     }
 }

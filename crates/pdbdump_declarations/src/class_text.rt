@@ -8,7 +8,7 @@ use crate::known::Known;
 use crate::memory::AllocResult;
 use crate::mention::{push_declaration, push_mention};
 use crate::piece::{Piece, align_up};
-use crate::sketch::{Sketch, Sketcher, push_number};
+use crate::sketch::{Sketch, Sketcher, push_assertion, push_number};
 use crate::table_walk::Word;
 use pdb_base::Result;
 use pdb_types::Layout;
@@ -119,7 +119,6 @@ fn push_bases(context: &Context<'_, '_>, sketch: &Sketch, plan: &Plan, out: &mut
 
 /// Appends the pieces of a class between its braces.
 fn push_body(
-    alloc: Global,
     context: &Context<'_, '_>,
     word: Word,
     sketch: &Sketch,
@@ -134,7 +133,7 @@ fn push_body(
         at: 0,
     };
     if word == Word::Union {
-        body.push_alternatives(alloc, 1, &sketch.pieces, 0, out);
+        body.push_alternatives(1, &sketch.pieces, 0, out);
         let end = plan.groups.first().map(|group| group.end).unwrap_or(0);
         if align_up(end, plan.alignment) < size {
             push_number(b"    unsigned char pad_0x0[", size, out);
@@ -148,41 +147,20 @@ fn push_body(
     for group in plan.groups.iter().take(plan.bases) {
         body.at = group.end;
     }
-    body.push_groups(alloc, plan.bases, size, plan.alignment, out);
+    body.push_groups(plan.bases, size, plan.alignment, out);
 }
 
 /// Appends a comment with the name and the index of a type as the file has them.
-pub(crate) fn push_origin(alloc: Global, target: &Target<'_>, out: &mut TextBuffer) {
+pub(crate) fn push_origin(target: &Target<'_>, out: &mut TextBuffer) {
     out.push(b"// 0x");
-    out.push_hexadecimal(alloc, target.index.0 as u64);
+    out.push_hexadecimal(target.index.0 as u64);
     out.push(b" ");
-    push_quoted(alloc, target.named.name.as_bytes(), out);
+    push_quoted(target.named.name.as_bytes(), out);
     out.push(b"\n");
-}
-
-/// Appends the assertion of the size of a type.
-pub(crate) fn push_size(
-    context: &Context<'_, '_>,
-    target: &Target<'_>,
-    size: u64,
-    out: &mut TextBuffer,
-) {
-    let word = if context.is_c() {
-        "_Static_assert(sizeof("
-    } else {
-        "static_assert(sizeof("
-    };
-    out.push(word.as_bytes());
-    push_mention(context, target, false, out);
-    push_number(b") == ", size, out);
-    out.push(b", \"");
-    target.name.push_to(out);
-    out.push(b"\");\n");
 }
 
 /// Appends the definition of a class from what it is made of.
 fn push_definition(
-    alloc: Global,
     context: &Context<'_, '_>,
     target: &Target<'_>,
     sketch: &Sketch,
@@ -202,25 +180,26 @@ fn push_definition(
         out.push(base);
         out.push(b"\n");
     }
-    push_body(alloc, context, target.named.word, sketch, plan, size, out);
+    push_body(context, target.named.word, sketch, plan, size, out);
     out.push(b"};\n");
     if !plan.is_natural {
         out.push(b"#pragma pack(pop)\n");
     }
 }
 
-/// Returns the definition of a class or a union, with the declarations before it that it needs and
+/// Appends the definition of a class or a union, with the declarations before it that it needs and
 /// the assertions of its size and of the places of its members.
 ///
 /// # Errors
 /// Fails as `Definitions::marked_text` and `Definitions::size_of` do for its fields.
-pub(crate) fn class_text<'t>(
+pub(crate) fn push_class<'t>(
     alloc: Global,
     context: &Context<'_, 't>,
     target: &Target<'t>,
     layout: &Layout<'t>,
     known: &mut Known,
-) -> Result<Vec<u8>> {
+    text: &mut TextBuffer,
+) -> Result<()> {
     let mut sketcher = Sketcher {
         context,
         known,
@@ -235,31 +214,23 @@ pub(crate) fn class_text<'t>(
     };
     sketcher.add_fields(alloc, layout)?;
     let Sketcher { known, sketch, .. } = sketcher;
-    let mut text = TextBuffer::new(alloc);
+    let (word, size) = (target.named.word, layout.size);
     text.push_text(&sketch.before);
-    push_origin(alloc, target, &mut text);
-    if layout.size == 0 || !target.name.scope.is_empty() {
-        push_declaration(alloc, context, target, known, &mut text)?;
+    push_origin(target, text);
+    if size == 0 || !target.name.scope.is_empty() {
+        push_declaration(alloc, context, target, known, text)?;
     }
     known.declare(target.index);
-    if layout.size == 0 {
+    if size == 0 {
         text.push(b"// It has no bytes, so there is no definition.\n\n");
-        return Ok(text.finish()?);
+        return Ok(());
     }
-    let plan = plan_of(alloc, context, target.named.word, &sketch, layout.size)?;
-    push_definition(
-        alloc,
-        context,
-        target,
-        &sketch,
-        &plan,
-        layout.size,
-        &mut text,
-    );
-    push_size(context, target, layout.size, &mut text);
+    let plan = plan_of(alloc, context, word, &sketch, size)?;
+    push_definition(context, target, &sketch, &plan, size, text);
+    push_assertion(context, target, None, size, text);
     text.push_text(&sketch.assertions);
     text.push(b"\n");
-    let is_empty = sketch.pieces.is_empty() && layout.size == 1;
+    let is_empty = sketch.pieces.is_empty() && size == 1;
     known.define(target.index, plan.alignment, is_empty);
-    Ok(text.finish()?)
+    Ok(())
 }

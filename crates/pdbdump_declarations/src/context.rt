@@ -2,9 +2,10 @@
 
 use crate::naming::{Name, Naming};
 use crate::options::Language;
-use crate::table_walk::{Named, named_of, type_at};
+use crate::table_walk::{Named, named_of};
 use pdb_base::{Result, TypeIndex};
 use pdb_types::Definitions;
+use pdbdump_types::type_at;
 use std::alloc::Global;
 
 /// What all parts of a header are written by.
@@ -50,7 +51,7 @@ impl<'d, 't> Context<'d, 't> {
     pub(crate) fn target(&self, alloc: Global, index: TypeIndex) -> Result<Option<Target<'t>>> {
         let definition = self.definitions.definition_of(alloc, index)?;
         let index = definition.unwrap_or(index);
-        let Some(named) = named_of(&type_at(alloc, self.definitions, index)?) else {
+        let Some(named) = named_of(&type_at(alloc, self.definitions.types(), index)?) else {
             return Ok(None);
         };
         let name = self.naming.name_of(alloc, index, &named)?;

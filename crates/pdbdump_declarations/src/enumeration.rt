@@ -1,12 +1,13 @@
 //! The definition of an enumeration.
 
-use crate::class_text::{push_origin, push_size};
+use crate::class_text::push_origin;
 use crate::context::{Context, Target};
 use crate::integer::{is_int, push_constant};
 use crate::known::Known;
 use crate::member_names::distinct_names;
 use crate::memory::AllocResult;
 use crate::mention::{push_declaration, underlying_text};
+use crate::sketch::push_assertion;
 use pdb_base::Result;
 use pdb_values::EnumerationType;
 use pdbdump_types::{Enumerator, TextBuffer, enumerators_of};
@@ -63,36 +64,36 @@ fn push_c(target: &Target<'_>, all: &[Enumerator<'_>], names: &[Vec<u8>], out: &
     }
 }
 
-/// Returns the definition of an enumeration, with the assertion of its size.
+/// Appends the definition of an enumeration, with the assertion of its size.
 ///
 /// # Errors
 /// Fails as `OpenTable::fields` and `Definitions::marked_text` do.
-pub(crate) fn enumeration_text<'t>(
+pub(crate) fn push_enumeration<'t>(
     alloc: Global,
     context: &Context<'_, 't>,
     target: &Target<'t>,
     enumeration: &EnumerationType<'t>,
     known: &mut Known,
-) -> Result<Vec<u8>> {
+    text: &mut TextBuffer,
+) -> Result<()> {
     let definitions = context.definitions;
     let underlying = enumeration.underlying_type;
     let all = enumerators_of(alloc, definitions, enumeration.fields, underlying)?;
     let names = names_of(alloc, &all)?;
-    let mut text = TextBuffer::new(alloc);
-    push_origin(alloc, target, &mut text);
+    push_origin(target, text);
     if context.is_c() || !target.name.scope.is_empty() {
-        push_declaration(alloc, context, target, known, &mut text)?;
+        push_declaration(alloc, context, target, known, text)?;
     }
     known.declare(target.index);
     if context.is_c() {
-        push_c(target, &all, &names, &mut text);
+        push_c(target, &all, &names, text);
     } else {
         let underlying = underlying_text(alloc, context, target.named.underlying)?;
-        push_cpp(target, &all, &names, &underlying, &mut text);
+        push_cpp(target, &all, &names, &underlying, text);
     }
     let size = definitions.size_of(alloc, target.index)?.unwrap_or(0);
-    push_size(context, target, size, &mut text);
+    push_assertion(context, target, None, size, text);
     text.push(b"\n");
     known.define(target.index, size, false);
-    Ok(text.finish()?)
+    Ok(())
 }

@@ -4,7 +4,7 @@ use crate::comment::push_quoted;
 use crate::member_names::distinct_names;
 use crate::memory::AllocResult;
 use crate::piece::Piece;
-use crate::sketch::{Declared, Sketcher, push_number};
+use crate::sketch::{Sketcher, push_assertion, push_number};
 use crate::units::Unit;
 use pdb_base::Result;
 use pdb_types::{Extent, FieldKind, Layout, LayoutField};
@@ -150,17 +150,11 @@ impl<'s, 'd, 't> Sketcher<'s, 'd, 't> {
     /// Adds a pointer to a table, which is one of the program.
     fn add_pointer(&mut self, alloc: Global, field: &LayoutField<'t>, name: &[u8]) -> Result<()> {
         let size = self.context.pointer_size;
-        let mut text = Vec::from_slice(alloc, b"void *")?;
-        text.extend_from_slice(name)?;
-        self.push_piece(
-            field.place.offset,
-            size,
-            Declared {
-                text,
-                alignment: size,
-            },
-            None,
-        )?;
+        let mut text = TextBuffer::new(alloc);
+        text.push(b"void *");
+        text.push(name);
+        text.push(b";\n");
+        self.push_piece(field.place.offset, size, text.finish()?, size, None)?;
         Ok(())
     }
 
@@ -202,7 +196,7 @@ impl<'s, 'd, 't> Sketcher<'s, 'd, 't> {
         let start = field.place.offset;
         let size = self.context.definitions.size_of(alloc, index)?;
         let Some(width) = end.checked_sub(start) else {
-            self.push_note(alloc, BEYOND, name);
+            self.push_note(BEYOND, name);
             return Ok(());
         };
         let is_base = base.is_some();
@@ -212,10 +206,15 @@ impl<'s, 'd, 't> Sketcher<'s, 'd, 't> {
             None
         };
         if !is_base && (declared.is_some() || width > 0) {
-            self.push_assertion(name, start);
+            let assertions = &mut self.sketch.assertions;
+            push_assertion(self.context, self.target, Some(name), start, assertions);
         }
         match declared {
-            Some(declared) => self.push_piece(start, width, declared, base)?,
+            Some(declared) => {
+                let mut text = declared.text;
+                text.extend_from_slice(b";\n")?;
+                self.push_piece(start, width, text, declared.alignment, base)?;
+            }
             None => {
                 let why = if is_base { PART } else { NO_TYPE };
                 self.add_bytes(alloc, field, width, name, why)?;
@@ -224,20 +223,19 @@ impl<'s, 'd, 't> Sketcher<'s, 'd, 't> {
         Ok(())
     }
 
-    /// Adds a piece of so many bytes.
+    /// Adds a piece of so many bytes, which a line declares.
     fn push_piece(
         &mut self,
         start: u64,
         width: u64,
-        declared: Declared,
+        text: Vec<u8>,
+        alignment: u64,
         base: Option<Vec<u8>>,
     ) -> AllocResult<()> {
-        let mut text = declared.text;
-        text.extend_from_slice(b";\n")?;
         self.sketch.pieces.push(Piece {
             start,
             end: start.saturating_add(width),
-            alignment: declared.alignment,
+            alignment,
             text,
             is_many: false,
             base,
@@ -255,15 +253,14 @@ impl<'s, 'd, 't> Sketcher<'s, 'd, 't> {
         why: &str,
     ) -> Result<()> {
         if width == 0 {
-            self.push_note(alloc, BEYOND, name);
+            self.push_note(BEYOND, name);
             return Ok(());
         }
-        let own = self.known.texts.bytes(
-            alloc,
-            self.context.definitions,
-            field.place.field_type,
-            b"",
-        )?;
+        let definitions = self.context.definitions;
+        let own = self
+            .known
+            .texts
+            .bytes(alloc, definitions, field.place.field_type, b"")?;
         let mut text = TextBuffer::new(alloc);
         text.push(b"unsigned char ");
         text.push(name);
@@ -271,17 +268,9 @@ impl<'s, 'd, 't> Sketcher<'s, 'd, 't> {
         text.push(b"];  // bytes ");
         text.push(why.as_bytes());
         text.push(b": ");
-        push_quoted(alloc, &own, &mut text);
+        push_quoted(&own, &mut text);
         text.push(b"\n");
-        let start = field.place.offset;
-        self.sketch.pieces.push(Piece {
-            start,
-            end: start.saturating_add(width),
-            alignment: 1,
-            text: text.finish()?,
-            is_many: false,
-            base: None,
-        })?;
+        self.push_piece(field.place.offset, width, text.finish()?, 1, None)?;
         Ok(())
     }
 }

@@ -4,9 +4,9 @@ ghost use Rattle.std.specs.Prelude.{◌≡◌, OnOk};
 ghost use Rattle.pdb_base.specs.Memory.{FailsOnlyForMemory};
 ghost use Rattle.pdbdump_types.specs.Shown.{IsShowResult, IsStopped, StaysAccounted};
 
-use crate::class_text::class_text;
+use crate::class_text::push_class;
 use crate::context::Context;
-use crate::enumeration::enumeration_text;
+use crate::enumeration::push_enumeration;
 use crate::known::Known;
 use crate::memory::AllocResult;
 use crate::naming::Naming;
@@ -14,12 +14,12 @@ use crate::needed::limit_types;
 use crate::options::{Language, Options};
 use crate::roots::{first_types, types_named};
 use crate::sketch::push_number;
-use crate::table_walk::{Walked, type_at, walk};
+use crate::table_walk::{Walked, walk};
 use pdb_base::{Error, Stream, TypeIndex};
 use pdb_output::Output;
 use pdb_types::{DeclarationOrder, Definitions};
 use pdb_values::TypeData;
-use pdbdump_types::{Progress, TextBuffer, learn_table, tell, tell_fault, tell_index};
+use pdbdump_types::{Progress, TextBuffer, learn_table, tell, tell_fault, tell_index, type_at};
 use std::alloc::Global;
 use std::io::Write;
 
@@ -37,11 +37,8 @@ fn head_text(alloc: Global, language: Language, pointer_size: u64) -> AllocResul
     let mut text = TextBuffer::new(alloc);
     text.push(b"// Types of a program database, in ");
     text.push(word.as_bytes());
-    push_number(
-        b" for a program of ",
-        pointer_size.saturating_mul(8),
-        &mut text,
-    );
+    let bits = pointer_size.saturating_mul(8);
+    push_number(b" for a program of ", bits, &mut text);
     text.push(b" bits.\n#pragma once\n");
     text.push(includes.as_bytes());
     text.finish()
@@ -57,13 +54,14 @@ fn type_text<'t>(
     let Some(target) = context.target(alloc, index)? else {
         return Ok(Vec::new(alloc));
     };
-    if let TypeData::Enumeration(enumeration) = type_at(alloc, context.definitions, index)? {
-        return enumeration_text(alloc, context, &target, &enumeration, known);
+    let definitions = context.definitions;
+    let mut text = TextBuffer::new(alloc);
+    if let TypeData::Enumeration(enumeration) = type_at(alloc, definitions.types(), index)? {
+        push_enumeration(alloc, context, &target, &enumeration, known, &mut text)?;
+    } else if let Some(layout) = definitions.layout_of(alloc, index)? {
+        push_class(alloc, context, &target, &layout, known, &mut text)?;
     }
-    match context.definitions.layout_of(alloc, index)? {
-        Some(layout) => class_text(alloc, context, &target, &layout, known),
-        None => Ok(Vec::new(alloc)),
-    }
+    Ok(text.finish()?)
 }
 
 /// Writes the definition of a type, or tells why it can't be written.

@@ -2,10 +2,10 @@
 
 use crate::context::Context;
 use crate::known::Known;
-use crate::table_walk::type_at;
 use pdb_base::{Result, TypeIndex};
 use pdb_flags::PointerMode;
 use pdb_values::{ArrayType, Indirection, PointerType, TypeData};
+use pdbdump_types::type_at;
 use std::alloc::Global;
 
 /// How many types are gone through at most of which each is within the one before.
@@ -77,7 +77,7 @@ impl<'d, 't> Context<'d, 't> {
         if !self.is_plain(pointer) {
             return Ok(None);
         }
-        let value = type_at(alloc, self.definitions, pointer.underlying_type)?;
+        let value = type_at(alloc, self.definitions.types(), pointer.underlying_type)?;
         if let TypeData::Array(array) = &value {
             if let Some(needed) = self.definitions.held_definition(alloc, array.element_type)? {
                 if known.alignment(needed).is_none() {
@@ -124,7 +124,7 @@ impl<'d, 't> Context<'d, 't> {
     ) -> Result<Option<u64>> {
         let mut index = index;
         for _ in 0..MOST_WITHIN {
-            let value = type_at(alloc, self.definitions, index)?;
+            let value = type_at(alloc, self.definitions.types(), index)?;
             if let TypeData::Array(array) = &value {
                 let element = self.definitions.size_of(alloc, array.element_type)?;
                 if !has_whole_dimensions(array, element.unwrap_or(0)) {

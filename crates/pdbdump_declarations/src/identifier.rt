@@ -3,7 +3,7 @@
 ghost use Rattle.std.specs.Prelude.{◌≡◌, true};
 ghost use Rattle.pdbdump_declarations.specs.Identifier.{is_letter};
 
-use crate::memory::AllocResult;
+use pdbdump_types::TextBuffer;
 use std::hash::{DefaultHasher, Hasher};
 
 /// How many bytes of a name an identifier has at most.
@@ -197,12 +197,8 @@ pub(crate) fn is_identifier(text: &[u8]) -> bool {
 
 /// Appends a text as a part of an identifier, with `_` in the place of each sign that may not stand
 /// there. A long text is cut.
-///
-/// # Errors
-/// Fails if an allocation fails.
-pub(crate) fn push_letters(text: &[u8], out: &mut Vec<u8>) -> AllocResult<()> {
+pub(crate) fn push_letters(text: &[u8], out: &mut TextBuffer) {
     for byte in text.iter().take(MOST_BYTES) {
-        out.push(letter_of(*byte))?;
+        out.push_byte(letter_of(*byte));
     }
-    Ok(())
 }

@@ -2,19 +2,20 @@
 
 use crate::identifier::{is_identifier, push_letters, text_hash};
 use crate::memory::AllocResult;
+use pdbdump_types::TextBuffer;
 use std::alloc::Global;
 
 /// Returns a name as an identifier, which may be that of another member too.
 fn identifier_of(alloc: Global, name: &[u8]) -> AllocResult<Vec<u8>> {
-    let mut identifier = Vec::new(alloc);
+    let mut identifier = TextBuffer::new(alloc);
     if name.is_empty() || name[0].is_ascii_digit() {
-        identifier.push(b'_')?;
+        identifier.push(b"_");
     }
-    push_letters(name, &mut identifier)?;
-    if !is_identifier(&identifier) {
-        identifier.push(b'_')?;
+    push_letters(name, &mut identifier);
+    if !is_identifier(identifier.as_bytes()) {
+        identifier.push(b"_");
     }
-    Ok(identifier)
+    identifier.finish()
 }
 
 /// Returns a hash for each of some texts, in increasing order.
@@ -51,12 +52,12 @@ pub(crate) fn distinct_names(
     let hashes = hashes_of(alloc, &identifiers)?;
     let mut distinct = Vec::new(alloc);
     for (number, identifier) in identifiers.iter().enumerate() {
-        let mut name = Vec::from_slice(alloc, identifier)?;
+        let mut name = TextBuffer::new(alloc);
+        name.push(identifier);
         if is_repeated(&hashes, text_hash(identifier)) || identifier.as_slice() == taken {
-            let suffix = format!(in alloc; "_{number}")?;
-            name.extend_from_slice(suffix.as_bytes())?;
+            name.push_string(format!(in alloc; "_{number}"));
         }
-        distinct.push(name)?;
+        distinct.push(name.finish()?)?;
     }
     Ok(distinct)
 }

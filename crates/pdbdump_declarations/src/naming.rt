@@ -34,9 +34,9 @@ impl Name {
 
     /// Returns the hash of the name with its namespaces.
     fn hash(&self, alloc: Global) -> AllocResult<u64> {
-        let mut text = Vec::from_slice(alloc, &self.scope)?;
-        text.extend_from_slice(&self.identifier)?;
-        Ok(text_hash(&text))
+        let mut text = TextBuffer::new(alloc);
+        self.push_to(&mut text);
+        Ok(text_hash(&text.finish()?))
     }
 }
 
@@ -142,20 +142,21 @@ impl Naming {
     fn plain_name(&self, alloc: Global, name: &[u8]) -> AllocResult<Name> {
         let parts = parts_of(alloc, name)?;
         let count = self.namespaces_in(name, &parts);
-        let mut scope = Vec::new(alloc);
+        let mut scope = TextBuffer::new(alloc);
         for part in parts.iter().take(count) {
-            push_letters(part, &mut scope)?;
-            scope.extend_from_slice(b"::")?;
+            push_letters(part, &mut scope);
+            scope.push(b"::");
         }
-        let mut identifier = Vec::new(alloc);
+        let mut text = TextBuffer::new(alloc);
         let mut is_plain = true;
         for part in parts.iter().skip(count) {
-            if !identifier.is_empty() {
-                identifier.extend_from_slice(b"__")?;
+            if text.len() > 0 {
+                text.push(b"__");
             }
             is_plain = is_plain && (is_identifier(part) || is_keyword(part));
-            push_letters(part, &mut identifier)?;
+            push_letters(part, &mut text);
         }
+        let mut identifier = text.finish()?;
         if !identifier
             .first()
             .is_some_and(|first| !first.is_ascii_digit())
@@ -169,7 +170,7 @@ impl Naming {
             identifier.push(b'_')?;
         }
         Ok(Name {
-            scope,
+            scope: scope.finish()?,
             identifier,
             is_plain,
         })

@@ -88,34 +88,47 @@ impl<'s, 'd, 't> Sketcher<'s, 'd, 't> {
     }
 
     /// Adds a line of comment on a member that isn't declared.
-    pub(crate) fn push_note(&mut self, alloc: Global, why: &str, what: &[u8]) {
+    pub(crate) fn push_note(&mut self, why: &str, what: &[u8]) {
         let notes = &mut self.sketch.notes;
         notes.push(b"    // ");
         notes.push(why.as_bytes());
         notes.push(b": ");
-        push_quoted(alloc, what, notes);
+        push_quoted(what, notes);
         notes.push(b"\n");
     }
+}
 
-    /// Adds the assertion of where a member begins.
-    pub(crate) fn push_assertion(&mut self, name: &[u8], offset: u64) {
-        let word = if self.context.is_c() {
-            "_Static_assert(offsetof("
-        } else {
-            "static_assert(offsetof("
-        };
-        let text = &mut self.sketch.assertions;
-        text.push(word.as_bytes());
-        push_mention(self.context, self.target, false, text);
-        text.push(b", ");
-        text.push(name);
-        push_number(b") == ", offset, text);
-        text.push(b", \"");
-        self.target.name.push_to(text);
-        text.push(b".");
-        text.push(name);
-        text.push(b"\");\n");
+/// Appends the assertion of the size of a type, or of where a member of it begins.
+pub(crate) fn push_assertion(
+    context: &Context<'_, '_>,
+    target: &Target<'_>,
+    member: Option<&[u8]>,
+    number: u64,
+    out: &mut TextBuffer,
+) {
+    if context.is_c() {
+        out.push(b"_Static_assert(");
+    } else {
+        out.push(b"static_assert(");
     }
+    out.push(if member.is_some() {
+        b"offsetof(".as_slice()
+    } else {
+        b"sizeof(".as_slice()
+    });
+    push_mention(context, target, false, out);
+    if let Some(name) = member {
+        out.push(b", ");
+        out.push(name);
+    }
+    push_number(b") == ", number, out);
+    out.push(b", \"");
+    target.name.push_to(out);
+    if let Some(name) = member {
+        out.push(b".");
+        out.push(name);
+    }
+    out.push(b"\");\n");
 }
 
 /// Appends a text and a number in decimal behind it.

@@ -2,7 +2,6 @@
 
 use crate::memory::AllocResult;
 use pdb_base::{Error, RawString, TypeIndex};
-use pdb_flags::TypeProperties;
 use pdb_tpi::constants::{LF_ARGLIST, LF_FIELDLIST, LF_METHODLIST};
 use pdb_types::Definitions;
 use pdb_values::TypeData;
@@ -51,59 +50,32 @@ pub(crate) struct Named<'t> {
     pub(crate) underlying: TypeIndex,
 }
 
-/// Returns what a record says of its name.
-fn name_record<'t>(
-    word: Word,
-    properties: TypeProperties,
-    name: RawString<'t>,
-    unique_name: Option<RawString<'t>>,
-    underlying: TypeIndex,
-) -> Named<'t> {
-    Named {
+/// Returns what the record of a class, a union or an enumeration says of its name, or None for
+/// another record.
+pub(crate) fn named_of<'t>(value: &TypeData<'t>) -> Option<Named<'t>> {
+    let none = TypeIndex(0);
+    let (word, properties, name, unique_name, underlying) = match value {
+        TypeData::Class(it) => (Word::Struct, it.properties, it.name, it.unique_name, none),
+        TypeData::Union(it) => (Word::Union, it.properties, it.name, it.unique_name, none),
+        TypeData::Enumeration(it) => {
+            let underlying = it.underlying_type;
+            (
+                Word::Enum,
+                it.properties,
+                it.name,
+                it.unique_name,
+                underlying,
+            )
+        }
+        _ => return None,
+    };
+    Some(Named {
         word,
         name,
         key: unique_name.unwrap_or(name),
         is_forward: properties.forward_reference(),
         underlying,
-    }
-}
-
-/// Returns what the record of a class, a union or an enumeration says of its name, or None for
-/// another record.
-pub(crate) fn named_of<'t>(value: &TypeData<'t>) -> Option<Named<'t>> {
-    let none = TypeIndex(0);
-    match value {
-        TypeData::Class(it) => {
-            Some(name_record(Word::Struct, it.properties, it.name, it.unique_name, none))
-        }
-        TypeData::Union(it) => Some(name_record(
-            Word::Union,
-            it.properties,
-            it.name,
-            it.unique_name,
-            none,
-        )),
-        TypeData::Enumeration(it) => Some(name_record(
-            Word::Enum,
-            it.properties,
-            it.name,
-            it.unique_name,
-            it.underlying_type,
-        )),
-        _ => None,
-    }
-}
-
-/// Returns the type of an index.
-///
-/// # Errors
-/// Fails as `OpenTable::item` and `Type::parse` do.
-pub(crate) fn type_at<'t>(
-    alloc: Global,
-    definitions: &Definitions<'t>,
-    index: TypeIndex,
-) -> Result<TypeData<'t>, Error> {
-    definitions.types().item(index)?.parse(alloc)
+    })
 }
 
 /// Returns the value of a record that is no list, if it can be read.

@@ -106,7 +106,7 @@ impl<'s, 'd, 't> Sketcher<'s, 'd, 't> {
         let is_unit = unsigned_type(size).is_some() && is_within(bits, size);
         let declared = self.declared(alloc, bits.underlying_type, name)?;
         let (true, Some(declared)) = (is_unit, declared) else {
-            self.push_note(alloc, "bits that C can't say", name);
+            self.push_note("bits that C can't say", name);
             return Ok(unit);
         };
         let start = field.place.offset;

@@ -5,22 +5,8 @@ use crate::part::Part;
 use crate::part_change::PartChange;
 use crate::version::Version;
 use pdb_base::Result;
-use pdbdump_types::{Enumerator, TextAllowance, escape_text, push_commented, push_field};
+use pdbdump_types::{TextAllowance, TextBuffer, push_enumerator, push_field};
 use std::alloc::Global;
-
-/// Appends the line of an enumerator, which begins so.
-fn push_enumerator(
-    alloc: Global,
-    mut line: Vec<u8>,
-    enumerator: &Enumerator<'_>,
-    text: &mut Vec<u8>,
-) -> Result<()> {
-    let value = enumerator.value;
-    line.extend_from_slice(&escape_text(alloc, enumerator.name.as_bytes())?)?;
-    line.extend_from_slice(format!(in alloc; " = {value},\n")?.as_bytes())?;
-    text.extend_from_slice(&line)?;
-    Ok(())
-}
 
 /// Appends the line of a part behind a sign.
 fn push_part(
@@ -29,14 +15,14 @@ fn push_part(
     version: &Version<'_, '_>,
     part: &Part<'_>,
     texts: &mut TextAllowance,
-    text: &mut Vec<u8>,
+    text: &mut TextBuffer,
 ) -> Result<()> {
-    let mut line = Vec::from_slice(alloc, sign)?;
-    line.extend_from_slice(b"   ")?;
+    text.push(sign);
     match part {
-        Part::Field(field) => push_field(alloc, version.definitions, 0, field, texts, line, text),
-        Part::Enumerator(enumerator) => push_enumerator(alloc, line, enumerator, text),
+        Part::Field(field) => push_field(alloc, version.definitions, 0, field, texts, text)?,
+        Part::Enumerator(enumerator) => push_enumerator(alloc, enumerator, text),
     }
+    Ok(())
 }
 
 /// Appends the line of a definition behind a sign.
@@ -45,54 +31,48 @@ fn push_head(
     sign: &[u8],
     version: &Version<'_, '_>,
     texts: &mut TextAllowance,
-    text: &mut Vec<u8>,
+    text: &mut TextBuffer,
 ) -> Result<()> {
     let defined = &version.defined;
-    let mut line = Vec::from_slice(alloc, sign)?;
-    line.push(b' ')?;
-    line.extend_from_slice(defined.word.as_bytes())?;
-    line.push(b' ')?;
-    line.extend_from_slice(&escape_text(alloc, defined.name.as_bytes())?)?;
+    text.push(sign);
+    text.push(defined.word.as_bytes());
+    text.push(b" ");
+    text.push_escaped(defined.name.as_bytes());
     if let Some((_, underlying_type)) = defined.enumeration {
-        let under = texts.bytes(alloc, version.definitions, underlying_type, b"")?;
-        line.extend_from_slice(b" : ")?;
-        line.extend_from_slice(&escape_text(alloc, &under)?)?;
+        text.push(b" : ");
+        texts.push(alloc, version.definitions, underlying_type, b"", text)?;
     }
-    let index = version.index.0;
-    let comment = match version.definitions.size_of(alloc, version.index)? {
-        Some(size) => format!(in alloc; "0x{index:x}, size 0x{size:x}")?,
-        None => format!(in alloc; "0x{index:x}")?,
-    };
-    push_commented(&line, comment.as_bytes(), text)?;
+    let size = version.definitions.size_of(alloc, version.index)?;
+    text.end_head(version.index, size);
     Ok(())
 }
 
-/// Returns a definition that went, came or changed, with the parts that differ.
+/// Appends a definition that went, came or changed, with the parts that differ.
 ///
 /// # Errors
 /// Fails as `Definitions::size_of` does for the definitions, and as `Definitions::type_text` does for
-/// the types of the parts; and with `OutOfMemory` if an allocation fails.
-pub(crate) fn difference_text<'t>(
+/// the types of the parts.
+pub(crate) fn push_text<'t>(
     alloc: Global,
     old: Option<&Version<'_, 't>>,
     new: Option<&Version<'_, 't>>,
     changes: &[PartChange<'t>],
     texts: &mut TextAllowance,
-) -> Result<Vec<u8>> {
-    let mut text = Vec::new(alloc);
+    text: &mut TextBuffer,
+) -> Result<()> {
     if let Some(old) = old {
-        push_head(alloc, b"---", old, texts, &mut text)?;
+        push_head(alloc, b"--- ", old, texts, text)?;
     }
     if let Some(new) = new {
-        push_head(alloc, b"+++", new, texts, &mut text)?;
+        push_head(alloc, b"+++ ", new, texts, text)?;
     }
     for change in changes {
         if let (Some(old), Some(part)) = (old, &change.old) {
-            push_part(alloc, b"-", old, part, texts, &mut text)?;
+            push_part(alloc, b"-   ", old, part, texts, text)?;
         }
         if let (Some(new), Some(part)) = (new, &change.new) {
-            push_part(alloc, b"+", new, part, texts, &mut text)?;
+            push_part(alloc, b"+   ", new, part, texts, text)?;
         }
     }
-    Ok(text)
+    Ok(())
 }

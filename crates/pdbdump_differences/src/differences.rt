@@ -6,8 +6,8 @@ ghost use Rattle.pdbdump_differences.specs.Compared.{Compares, IsCompared, count
 ghost use Rattle.pdbdump_types.specs.Shown.{IsStopped, StaysAccounted};
 
 use crate::compared_table::ComparedTable;
-use crate::difference_json::difference_object;
-use crate::difference_text::difference_text;
+use crate::difference_json::push_json;
+use crate::difference_text::push_text;
 use crate::pairing::Pairing;
 use crate::part_change::{PartChange, part_changes};
 use crate::version::Version;
@@ -15,7 +15,7 @@ use pdb_base::{Error, TypeIndex};
 use pdb_output::Output;
 use pdb_types::{Comparison, compare};
 use pdbdump_rows::{Form, error_text};
-use pdbdump_types::{Allowance, Progress, TextAllowance, tell, write_layout};
+use pdbdump_types::{Allowance, Progress, TextAllowance, TextBuffer, tell, write_layout};
 use std::alloc::{AllocError, Global};
 use std::io::Write;
 
@@ -64,10 +64,12 @@ fn shown<'t>(
     form: Form,
     texts: &mut TextAllowance,
 ) -> Result<Vec<u8>, Error> {
+    let mut text = TextBuffer::new(alloc);
     match form {
-        Form::Text => difference_text(alloc, old, new, changes, texts),
-        Form::Json => difference_object(alloc, old, new, changes, texts),
+        Form::Text => push_text(alloc, old, new, changes, texts, &mut text)?,
+        Form::Json => push_json(alloc, old, new, changes, texts, &mut text)?,
     }
+    Ok(text.finish()?)
 }
 
 /// Returns whether what two definitions have in common leaves a difference that counts.

@@ -74,19 +74,15 @@ pub(crate) fn hash_of_part(
     part: &Part<'_>,
     texts: &mut TextAllowance,
 ) -> Result<u64> {
-    match part {
-        Part::Enumerator(enumerator) => Ok(hash_of(0, enumerator.name.as_bytes())),
-        Part::Field(field) => match field.place.kind {
-            FieldKind::Member(name) => Ok(hash_of(0, name.as_bytes())),
-            FieldKind::Base => {
-                let name = texts.bytes(alloc, definitions, field.place.field_type, b"")?;
-                Ok(hash_of(1, &name))
-            }
-            FieldKind::VirtualBasePointer(base) => {
-                let name = texts.bytes(alloc, definitions, base.base_class, b"")?;
-                Ok(hash_of(2, &name))
-            }
-            FieldKind::VirtualFunctionPointer => Ok(hash_of(3, b"")),
-        },
-    }
+    let field = match part {
+        Part::Enumerator(enumerator) => return Ok(hash_of(0, enumerator.name.as_bytes())),
+        Part::Field(field) => field,
+    };
+    let (kind, base) = match field.place.kind {
+        FieldKind::Member(name) => return Ok(hash_of(0, name.as_bytes())),
+        FieldKind::Base => (1, field.place.field_type),
+        FieldKind::VirtualBasePointer(base) => (2, base.base_class),
+        FieldKind::VirtualFunctionPointer => return Ok(hash_of(3, b"")),
+    };
+    Ok(hash_of(kind, &texts.bytes(alloc, definitions, base, b"")?))
 }

@@ -1,7 +1,8 @@
 //! Where the lines of a cache end in a class.
 
 use crate::expanded::ShownRow;
-use pdb_base::Result;
+use crate::options::C_WIDTH;
+use pdbdump_types::TextBuffer;
 use std::alloc::Global;
 
 /// The lines of a cache along a class.
@@ -27,27 +28,21 @@ impl CacheLines {
         CacheLines { size, ended: 0 }
     }
 
-    /// Returns the comment behind a field or a gap in or with which a line ends.
-    pub(crate) fn comment_behind(
-        &mut self,
-        alloc: Global,
-        row: &ShownRow<'_>,
-    ) -> Result<Option<Vec<u8>>> {
+    /// Appends the line behind a field or a gap in or with which a line of the cache ends.
+    pub(crate) fn push_behind(&mut self, alloc: Global, row: &ShownRow<'_>, text: &mut TextBuffer) {
         let end = end_of(row);
         let ended = end.checked_div(self.size).unwrap_or(0);
         if ended <= self.ended {
-            return Ok(None);
+            return;
         }
         self.ended = ended;
         let boundary = ended.saturating_mul(self.size);
         let ago = end.saturating_sub(boundary);
-        let mut text = format!(in alloc;
-            "/* --- cacheline {ended} boundary ({boundary} bytes)"
-        )?.into_bytes();
+        text.push_indent(row.depth.saturating_add(1), C_WIDTH);
+        text.push_string(format!(in alloc; "/* --- cacheline {ended} boundary ({boundary} bytes)"));
         if ago > 0 {
-            text.extend_from_slice(format!(in alloc; " was {ago} bytes ago")?.as_bytes())?;
+            text.push_string(format!(in alloc; " was {ago} bytes ago"));
         }
-        text.extend_from_slice(b" --- */\n")?;
-        Ok(Some(text))
+        text.push(b" --- */\n");
     }
 }

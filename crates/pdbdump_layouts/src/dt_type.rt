@@ -4,7 +4,7 @@ use pdb_base::{Result, TypeIndex};
 use pdb_flags::PointerMode;
 use pdb_types::Definitions;
 use pdb_values::{ArrayType, Indirection, PointerType, PrimitiveKind, PrimitiveType, TypeData};
-use pdbdump_types::{TextAllowance, escape_text, type_at};
+use pdbdump_types::{TextAllowance, TextBuffer, type_at};
 use std::alloc::Global;
 
 /// How many types one text goes through at most.
@@ -41,15 +41,15 @@ fn indirection_word(indirection: Indirection) -> &'static str {
 }
 
 /// Appends a primitive type, if `dt` has a name for it, and returns whether it has.
-fn push_primitive(primitive: PrimitiveType, text: &mut Vec<u8>) -> Result<bool> {
+fn push_primitive(primitive: PrimitiveType, text: &mut TextBuffer) -> bool {
     let Some(name) = kind_name(primitive.kind) else {
-        return Ok(false);
+        return false;
     };
     if let Some(indirection) = primitive.indirection {
-        text.extend_from_slice(indirection_word(indirection).as_bytes())?;
+        text.push(indirection_word(indirection).as_bytes());
     }
-    text.extend_from_slice(name.as_bytes())?;
-    Ok(true)
+    text.push(name.as_bytes());
+    true
 }
 
 /// Returns whether a pointer is one to an object, and no reference or pointer to a member.
@@ -62,19 +62,20 @@ fn push_array<'t>(
     alloc: Global,
     definitions: &Definitions<'t>,
     array: &ArrayType,
-    text: &mut Vec<u8>,
+    text: &mut TextBuffer,
 ) -> Result<()> {
     let mut part = definitions.size_of(alloc, array.element_type)?.unwrap_or(0);
-    let mut all = Vec::new(alloc);
+    let mut all = TextBuffer::new(alloc);
     for dimension in &array.dimensions {
         let whole = *dimension as u64;
         let count = if part == 0 { 0 } else { whole / part };
-        let mut brackets = format!(in alloc; "[{count}] ")?.into_bytes();
-        brackets.extend_from_slice(&all)?;
+        let mut brackets = TextBuffer::new(alloc);
+        brackets.push_string(format!(in alloc; "[{count}] "));
+        brackets.push_text(&all);
         all = brackets;
         part = whole;
     }
-    text.extend_from_slice(&all)?;
+    text.push_text(&all);
     Ok(())
 }
 
@@ -84,13 +85,13 @@ fn push_outer<'t>(
     alloc: Global,
     definitions: &Definitions<'t>,
     value: &TypeData<'t>,
-    text: &mut Vec<u8>,
+    text: &mut TextBuffer,
 ) -> Result<Option<TypeIndex>> {
     match value {
         TypeData::Modifier(modifier) => Ok(Some(modifier.underlying_type)),
         TypeData::Pointer(pointer) if is_plain(pointer) => {
             let bits = pointer.attributes.size() as u32 * 8;
-            text.extend_from_slice(format!(in alloc; "Ptr{bits} ")?.as_bytes())?;
+            text.push_string(format!(in alloc; "Ptr{bits} "));
             Ok(Some(pointer.underlying_type))
         }
         TypeData::Array(array) => {
@@ -108,39 +109,34 @@ fn push_last<'t>(
     index: TypeIndex,
     value: &TypeData<'t>,
     texts: &mut TextAllowance,
-    text: &mut Vec<u8>,
+    text: &mut TextBuffer,
 ) -> Result<()> {
     if let TypeData::Primitive(primitive) = value {
-        if push_primitive(*primitive, text)? {
+        if push_primitive(*primitive, text) {
             return Ok(());
         }
     }
-    let spelled = texts.bytes(alloc, definitions, index, b"")?;
-    text.extend_from_slice(&escape_text(alloc, &spelled)?)?;
-    Ok(())
+    texts.push(alloc, definitions, index, b"", text)
 }
 
-/// Returns a type as WinDbg's `dt` writes it, such as `Ptr64 Node` or `[4] Uint4B`; one that is no
+/// Appends a type as WinDbg's `dt` writes it, such as `Ptr64 Node` or `[4] Uint4B`; one that is no
 /// pointer, no array and no number as C++ spells it. The text is cut with `..` behind 32 types of
 /// which each is within the one before.
-pub(crate) fn dt_type<'t>(
+pub(crate) fn push_dt_type<'t>(
     alloc: Global,
     definitions: &Definitions<'t>,
     index: TypeIndex,
     texts: &mut TextAllowance,
-) -> Result<Vec<u8>> {
-    let mut text = Vec::new(alloc);
+    text: &mut TextBuffer,
+) -> Result<()> {
     let mut index = index;
     for _ in 0..MOST_TYPES {
         let value = type_at(alloc, definitions.types(), index)?;
-        match push_outer(alloc, definitions, &value, &mut text)? {
+        match push_outer(alloc, definitions, &value, text)? {
             Some(next) => index = next,
-            None => {
-                push_last(alloc, definitions, index, &value, texts, &mut text)?;
-                return Ok(text);
-            }
+            None => return push_last(alloc, definitions, index, &value, texts, text),
         }
     }
-    text.extend_from_slice(b"..")?;
-    Ok(text)
+    text.push(b"..");
+    Ok(())
 }

@@ -1,21 +1,16 @@
 //! Enumerations as they are shown: as declarations in C++, in the style of WinDbg's `dt`, and as
 //! objects of JSON.
 
-use crate::options::Style;
+use crate::options::{C_WIDTH, DT_WIDTH, Style};
 use pdb_base::{RawString, Result, TypeIndex};
 use pdb_types::Definitions;
-use pdb_values::{EnumerationType, TypeData};
-use pdbdump_rows::{Form, Line, Value};
+use pdb_values::TypeData;
+use pdbdump_rows::{Form, Value};
 use pdbdump_types::{
-    Enumerator, TextAllowance, enumerators_of, escape_text, push_commented, push_indent,
+    Enumerator, ObjectBuffer, TextAllowance, TextBuffer, enumerators_of, push_enumerator,
     show_enumerator, type_at, unmodified,
 };
 use std::alloc::Global;
-
-/// How wide enumerators are indented in each style.
-const C_WIDTH: u32 = 4;
-
-const DT_WIDTH: u32 = 3;
 
 /// An enumeration.
 #[derive(Clone, Copy)]
@@ -48,19 +43,14 @@ struct ShownEnumeration<'t> {
 
 /// Returns the enumeration of a record with this index.
 fn enumeration_in<'t>(index: TypeIndex, value: &TypeData<'t>) -> Option<Enumeration<'t>> {
-    let TypeData::Enumeration(enumeration) = value else {
-        return None;
-    };
-    Some(enumeration_of(index, enumeration))
-}
-
-/// Returns what a record says of an enumeration.
-fn enumeration_of<'t>(index: TypeIndex, record: &EnumerationType<'t>) -> Enumeration<'t> {
-    Enumeration {
-        index,
-        name: record.name,
-        list: record.fields,
-        underlying_type: record.underlying_type,
+    match value {
+        TypeData::Enumeration(record) => Some(Enumeration {
+            index,
+            name: record.name,
+            list: record.fields,
+            underlying_type: record.underlying_type,
+        }),
+        _ => None,
     }
 }
 
@@ -81,73 +71,57 @@ fn enumeration_at<'t>(
     Ok(enumeration_in(index, &value))
 }
 
-/// Returns an enumeration as the declaration of C++.
-fn c_text(alloc: Global, shown: &ShownEnumeration<'_>) -> Result<Vec<u8>> {
-    let mut head = Vec::from_slice(alloc, b"enum ")?;
-    head.extend_from_slice(&escape_text(alloc, shown.enumeration.name.as_bytes())?)?;
-    head.extend_from_slice(b" : ")?;
-    head.extend_from_slice(&escape_text(alloc, &shown.type_text)?)?;
-    head.extend_from_slice(b" {")?;
-    let (index, size) = (shown.enumeration.index.0, shown.size.unwrap_or(0));
-    let comment = format!(in alloc; "0x{index:x}, size 0x{size:x}")?;
-    let mut text = Vec::new(alloc);
-    push_commented(&head, comment.as_bytes(), &mut text)?;
+/// Appends an enumeration as the declaration of C++.
+fn push_c(alloc: Global, shown: &ShownEnumeration<'_>, text: &mut TextBuffer) {
+    text.push(b"enum ");
+    text.push_escaped(shown.enumeration.name.as_bytes());
+    text.push(b" : ");
+    text.push_escaped(&shown.type_text);
+    text.push(b" {");
+    text.end_head(shown.enumeration.index, Some(shown.size.unwrap_or(0)));
     for enumerator in &shown.enumerators {
-        let value = enumerator.value;
-        push_indent(1, C_WIDTH, &mut text)?;
-        text.extend_from_slice(&escape_text(alloc, enumerator.name.as_bytes())?)?;
-        text.extend_from_slice(format!(in alloc; " = {value},\n")?.as_bytes())?;
+        text.push_indent(1, C_WIDTH);
+        push_enumerator(alloc, enumerator, text);
     }
-    text.extend_from_slice(b"};\n")?;
-    Ok(text)
+    text.push(b"};\n");
 }
 
-/// Returns an enumeration in the style of WinDbg's `dt`.
-fn dt_text(alloc: Global, shown: &ShownEnumeration<'_>) -> Result<Vec<u8>> {
-    let mut text = escape_text(alloc, shown.enumeration.name.as_bytes())?;
-    text.push(b'\n')?;
+/// Appends an enumeration in the style of WinDbg's `dt`.
+fn push_dt(alloc: Global, shown: &ShownEnumeration<'_>, text: &mut TextBuffer) {
+    text.push_escaped(shown.enumeration.name.as_bytes());
+    text.push(b"\n");
     for enumerator in &shown.enumerators {
         let value = enumerator.value;
-        push_indent(1, DT_WIDTH, &mut text)?;
-        text.extend_from_slice(&escape_text(alloc, enumerator.name.as_bytes())?)?;
-        text.extend_from_slice(format!(in alloc; " = 0n{value}\n")?.as_bytes())?;
+        text.push_indent(1, DT_WIDTH);
+        text.push_escaped(enumerator.name.as_bytes());
+        text.push_string(format!(in alloc; " = 0n{value}\n"));
     }
-    Ok(text)
 }
 
-/// Returns an enumeration as a line of JSON: an object that describes it, with a list of its
+/// Appends an enumeration as a line of JSON: an object that describes it, with a list of its
 /// enumerators.
-fn json_text(alloc: Global, shown: &ShownEnumeration<'_>) -> Result<Vec<u8>> {
+fn push_json(alloc: Global, shown: &ShownEnumeration<'_>, text: &mut TextBuffer) {
     let enumeration = &shown.enumeration;
-    let mut line = Line::new(alloc);
-    line.begin(Form::Json);
-    line.field("index", Value::Hexadecimal(enumeration.index.0))?;
-    line.field("kind", Value::Word("enum"))?;
-    line.field("name", Value::Text(enumeration.name))?;
+    let mut object = ObjectBuffer::new(alloc);
+    object.field("index", Value::Hexadecimal(enumeration.index.0));
+    object.field("kind", Value::Word("enum"));
+    object.field("name", Value::Text(enumeration.name));
     if let Some(size) = shown.size {
-        line.field("size", Value::Number(size))?;
+        object.field("size", Value::Number(size));
     }
-    line.field(
+    object.field(
         "type_index",
         Value::Hexadecimal(enumeration.underlying_type.0),
-    )?;
-    line.field(
-        "type",
-        Value::Text(RawString::from(shown.type_text.as_slice())),
-    )?;
-    let mut text = Vec::from_slice(alloc, line.as_bytes())?;
-    text.extend_from_slice(b",\"rows\":[")?;
-    for (number, enumerator) in shown.enumerators.iter().enumerate() {
-        if number > 0 {
-            text.push(b',')?;
-        }
-        line.begin(Form::Json);
-        show_enumerator(&mut line, enumerator)?;
-        text.extend_from_slice(line.as_bytes())?;
-        text.push(b'}')?;
+    );
+    object.text("type", &shown.type_text);
+    text.push_fields(&object);
+    text.push(b",\"rows\":[");
+    for enumerator in &shown.enumerators {
+        object.begin();
+        show_enumerator(&mut object, enumerator);
+        text.push_item(&object);
     }
-    text.extend_from_slice(b"]}\n")?;
-    Ok(text)
+    text.push(b"]}\n");
 }
 
 /// Returns the enumeration of an index as text or JSON, or None for another type.
@@ -173,10 +147,11 @@ pub(crate) fn enumeration_text(
         type_text: texts.bytes(alloc, definitions, underlying_type, b"")?,
         size: definitions.size_of(alloc, underlying_type)?,
     };
-    let text = match (form, style) {
-        (Form::Json, _) => json_text(alloc, &shown)?,
-        (Form::Text, Style::C) => c_text(alloc, &shown)?,
-        (Form::Text, Style::Dt) => dt_text(alloc, &shown)?,
-    };
-    Ok(Some(text))
+    let mut text = TextBuffer::new(alloc);
+    match (form, style) {
+        (Form::Json, _) => push_json(alloc, &shown, &mut text),
+        (Form::Text, Style::C) => push_c(alloc, &shown, &mut text),
+        (Form::Text, Style::Dt) => push_dt(alloc, &shown, &mut text),
+    }
+    Ok(Some(text.finish()?))
 }

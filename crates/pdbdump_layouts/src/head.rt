@@ -2,7 +2,7 @@
 
 use pdb_base::{Result, TypeIndex};
 use pdb_types::{Definitions, FieldKind, LayoutField};
-use pdbdump_types::{Class, TextAllowance, escape_text};
+use pdbdump_types::{Class, TextAllowance, TextBuffer};
 use std::alloc::Global;
 
 /// Returns the base class of which a field tells, with the word `virtual` before a virtual one. A
@@ -21,41 +21,35 @@ fn push_bases<'t>(
     definitions: &Definitions<'t>,
     fields: &[LayoutField<'t>],
     texts: &mut TextAllowance,
-    head: &mut Vec<u8>,
+    head: &mut TextBuffer,
 ) -> Result<()> {
-    let mut is_first = true;
+    let mut mark = b" : ".as_slice();
     for field in fields {
-        let Some((word, index)) = base_of(field) else {
-            continue;
-        };
-        head.extend_from_slice(if is_first {
-            b" : ".as_slice()
-        } else {
-            b", ".as_slice()
-        })?;
-        is_first = false;
-        head.extend_from_slice(word.as_bytes())?;
-        let name = texts.bytes(alloc, definitions, index, b"")?;
-        head.extend_from_slice(&escape_text(alloc, &name)?)?;
+        if let Some((word, index)) = base_of(field) {
+            head.push(mark);
+            mark = b", ".as_slice();
+            head.push(word.as_bytes());
+            texts.push(alloc, definitions, index, b"", head)?;
+        }
     }
     Ok(())
 }
 
-/// Returns the line with which the declaration of a class begins, without what is behind its brace.
-pub(crate) fn head_of<'t>(
+/// Appends the line with which the declaration of a class begins, without what is behind its brace.
+pub(crate) fn push_head<'t>(
     alloc: Global,
     definitions: &Definitions<'t>,
     fields: &[LayoutField<'t>],
     class: Option<&Class<'t>>,
     texts: &mut TextAllowance,
-) -> Result<Vec<u8>> {
-    let mut head = Vec::new(alloc);
+    head: &mut TextBuffer,
+) -> Result<()> {
     if let Some(class) = class {
-        head.extend_from_slice(class.word.as_bytes())?;
-        head.push(b' ')?;
-        head.extend_from_slice(&escape_text(alloc, class.name.as_bytes())?)?;
+        head.push(class.word.as_bytes());
+        head.push(b" ");
+        head.push_escaped(class.name.as_bytes());
     }
-    push_bases(alloc, definitions, fields, texts, &mut head)?;
-    head.extend_from_slice(b" {")?;
-    Ok(head)
+    push_bases(alloc, definitions, fields, texts, head)?;
+    head.push(b" {");
+    Ok(())
 }

@@ -7,92 +7,75 @@ use crate::shown_class::ShownClass;
 use crate::totals::totals_of;
 use pdb_base::Result;
 use pdb_types::Definitions;
-use pdbdump_rows::{Form, Line, Value, optional_text, optional_word};
-use pdbdump_types::{TextAllowance, show_declared, show_gap};
+use pdbdump_rows::{Value, optional_text, optional_word};
+use pdbdump_types::{ObjectBuffer, TextAllowance, TextBuffer, show_declared, show_gap};
 use std::alloc::Global;
 
-/// Appends the object of a field or a gap.
-fn push_object<'t>(
+/// Adds what the object of a field or a gap holds.
+fn show_row<'t>(
     alloc: Global,
-    line: &mut Line,
+    object: &mut ObjectBuffer,
     definitions: &Definitions<'t>,
     shown: &ShownRow<'t>,
     texts: &mut TextAllowance,
-    text: &mut Vec<u8>,
 ) -> Result<()> {
-    line.begin(Form::Json);
+    let (depth, start) = (shown.depth, shown.start);
     match &shown.row {
         LayoutRow::Field(part) => {
-            show_declared(
-                alloc,
-                line,
-                definitions,
-                shown.depth,
-                shown.start,
-                part,
-                texts,
-            )?;
+            show_declared(alloc, object, definitions, depth, start, part, texts)?;
         }
-        LayoutRow::Gap(named) => {
-            show_gap(line, shown.depth, shown.start, &named.gap, named.role)?;
-        }
+        LayoutRow::Gap(named) => show_gap(object, depth, start, &named.gap, named.role),
     }
-    text.extend_from_slice(line.as_bytes())?;
-    text.push(b'}')?;
     Ok(())
 }
 
 /// Appends the objects of fields and gaps, and of what takes no place.
-fn push_objects<'t>(
+fn push_rows<'t>(
     alloc: Global,
-    line: &mut Line,
+    object: &mut ObjectBuffer,
     definitions: &Definitions<'t>,
     shown: &ShownClass<'_, 't>,
     texts: &mut TextAllowance,
-    text: &mut Vec<u8>,
+    text: &mut TextBuffer,
 ) -> Result<()> {
-    let mut mark = b"".as_slice();
     for row in &shown.expansion.rows {
-        text.extend_from_slice(mark)?;
-        mark = b",".as_slice();
-        push_object(alloc, line, definitions, row, texts, text)?;
+        object.begin();
+        show_row(alloc, object, definitions, row, texts)?;
+        text.push_item(object);
     }
     for other in &shown.others {
-        text.extend_from_slice(mark)?;
-        mark = b",".as_slice();
-        line.begin(Form::Json);
-        show_other(alloc, line, definitions, other, texts)?;
-        text.extend_from_slice(line.as_bytes())?;
-        text.push(b'}')?;
+        object.begin();
+        show_other(alloc, object, definitions, other, texts)?;
+        text.push_item(object);
     }
     Ok(())
 }
 
-/// Returns a layout as a line of JSON: an object that describes the class, with a list of its
+/// Appends a layout as a line of JSON: an object that describes the class, with a list of its
 /// fields and gaps.
-pub(crate) fn json_text<'t>(
+pub(crate) fn push_json<'t>(
     alloc: Global,
     definitions: &Definitions<'t>,
     shown: &ShownClass<'_, 't>,
     texts: &mut TextAllowance,
-) -> Result<Vec<u8>> {
+    text: &mut TextBuffer,
+) -> Result<()> {
     let totals = totals_of(shown.layout);
     let class = shown.class.as_ref();
-    let mut line = Line::new(alloc);
-    line.begin(Form::Json);
-    line.field("index", Value::Hexadecimal(shown.layout.index.0))?;
-    line.field("kind", optional_word(class.map(|class| class.word)))?;
-    line.field("name", optional_text(class.map(|class| class.name)))?;
-    line.field("size", Value::Number(shown.layout.size))?;
-    line.field("holes", Value::Number(totals.holes))?;
-    line.field("hole_bytes", Value::Number(totals.hole_bytes))?;
-    line.field("padding_bytes", Value::Number(totals.padding_bytes))?;
-    line.field("unused_bits", Value::Number(totals.unused_bits))?;
-    line.field("cut", Value::Flag(shown.expansion.is_cut))?;
+    let mut object = ObjectBuffer::new(alloc);
+    object.field("index", Value::Hexadecimal(shown.layout.index.0));
+    object.field("kind", optional_word(class.map(|class| class.word)));
+    object.field("name", optional_text(class.map(|class| class.name)));
+    object.field("size", Value::Number(shown.layout.size));
+    object.field("holes", Value::Number(totals.holes));
+    object.field("hole_bytes", Value::Number(totals.hole_bytes));
+    object.field("padding_bytes", Value::Number(totals.padding_bytes));
+    object.field("unused_bits", Value::Number(totals.unused_bits));
+    object.field("cut", Value::Flag(shown.expansion.is_cut));
     // The last member of the object is a list, so that the line doesn't end here.
-    let mut text = Vec::from_slice(alloc, line.as_bytes())?;
-    text.extend_from_slice(b",\"rows\":[")?;
-    push_objects(alloc, &mut line, definitions, shown, texts, &mut text)?;
-    text.extend_from_slice(b"]}\n")?;
-    Ok(text)
+    text.push_fields(&object);
+    text.push(b",\"rows\":[");
+    push_rows(alloc, &mut object, definitions, shown, texts, text)?;
+    text.push(b"]}\n");
+    Ok(())
 }

@@ -126,17 +126,6 @@ fn place_of<'t>(record: &TypeData<'t>) -> Option<FieldPlace<'t>> {
     }
 }
 
-/// Returns the base class that a record names, if that isn't virtual.
-fn base_in(record: &TypeData<'_>, start: u64) -> Option<Searched> {
-    match record {
-        TypeData::BaseClass(base) => Some(Searched {
-            class: base.base_class,
-            start: start.saturating_add(base.offset as u64),
-        }),
-        _ => None,
-    }
-}
-
 /// Returns what is behind a name with which steps of a path begin: nothing, or further steps.
 fn behind_name<'p>(name: &[u8], steps: Steps<'p>) -> Option<&'p [u8]> {
     if name.is_empty() {
@@ -235,11 +224,14 @@ pub(crate) fn find_field<'t, 'p>(
     Ok(None)
 }
 
-/// Appends the base classes that records name.
+/// Appends the base classes that records name, other than virtual ones.
 fn push_bases(records: &[TypeData<'_>], start: u64, classes: &mut Vec<Searched>) -> Result<()> {
     for record in records {
-        if let Some(base) = base_in(record, start) {
-            classes.push(base)?;
+        if let TypeData::BaseClass(base) = record {
+            classes.push(Searched {
+                class: base.base_class,
+                start: start.saturating_add(base.offset as u64),
+            })?;
         }
     }
     Ok(())

@@ -7,10 +7,10 @@ use crate::nearest::Nearest;
 use pdb_base::{RawString, Result, TypeIndex};
 use pdb_types::{Definitions, Extent, FieldKind, FieldPlace, LayoutField};
 use pdb_values::TypeData;
-use pdbdump_rows::{Form, Line, Value};
+use pdbdump_rows::Form;
 use pdbdump_types::{
-    Allowance, FieldTexts, LetterCase, TextAllowance, Wanted, classes_in, cut_at, escape_text,
-    field_type_text, is_pattern, name_defined, plural, show_field, type_at,
+    Allowance, FieldTexts, LetterCase, ObjectBuffer, TextAllowance, TextBuffer, Wanted, classes_in,
+    cut_at, field_type_text, is_pattern, name_defined, plural, show_field, type_at,
 };
 use std::alloc::Global;
 
@@ -32,31 +32,30 @@ fn pointer_path<'p>(path: &'p [u8], found: &FoundMember<'_>) -> Option<&'p [u8]>
     path.get(..found.pointer?)
 }
 
-/// Returns the line of a member: its path, its offset, its size and its type.
-fn text_line(
+/// Appends the line of a member: its path, its offset, its size and its type.
+fn push_line(
     alloc: Global,
     path: &[u8],
     type_text: &[u8],
     found: &FoundMember<'_>,
-) -> Result<Vec<u8>> {
-    let mut line = escape_text(alloc, path)?;
+    line: &mut TextBuffer,
+) {
+    line.push_escaped(path);
     if let Some(pointer) = pointer_path(path, found) {
-        line.extend_from_slice(b": through the pointer ")?;
-        line.extend_from_slice(&escape_text(alloc, pointer)?)?;
+        line.push(b": through the pointer ");
+        line.push_escaped(pointer);
     }
     let offset = found.field.place.offset;
-    let place = match found.field.extent {
-        Extent::Bytes(size) => format!(in alloc; ": offset 0x{offset:x}, size 0x{size:x}, ")?,
+    line.push_string(match found.field.extent {
+        Extent::Bytes(size) => format!(in alloc; ": offset 0x{offset:x}, size 0x{size:x}, "),
         Extent::Bits(bits) => {
             let (position, length) = (bits.position, bits.length);
-            format!(in alloc; ": offset 0x{offset:x}, bit {position}, {length} bits, ")?
+            format!(in alloc; ": offset 0x{offset:x}, bit {position}, {length} bits, ")
         }
-        Extent::Unknown => format!(in alloc; ": offset 0x{offset:x}, ")?,
-    };
-    line.extend_from_slice(place.as_bytes())?;
-    line.extend_from_slice(&escape_text(alloc, type_text)?)?;
-    line.push(b'\n')?;
-    Ok(line)
+        Extent::Unknown => format!(in alloc; ": offset 0x{offset:x}, "),
+    });
+    line.push_escaped(type_text);
+    line.push(b"\n");
 }
 
 /// Returns the last step of a path, without the point before it.
@@ -89,22 +88,22 @@ fn shown_field<'s>(path: &'s [u8], found: &FoundMember<'s>) -> LayoutField<'s> {
     }
 }
 
-/// Returns the object of a member.
-fn object_line(
+/// Appends the object of a member, and the end of its line.
+fn push_object(
     alloc: Global,
     path: &[u8],
     texts: FieldTexts<'_>,
     found: &FoundMember<'_>,
-) -> Result<Vec<u8>> {
-    let mut line = Line::new(alloc);
-    line.begin(Form::Json);
+    line: &mut TextBuffer,
+) {
+    let mut object = ObjectBuffer::new(alloc);
     let field = shown_field(path, found);
-    show_field(&mut line, 0, field.place.offset, &field, texts)?;
+    show_field(&mut object, 0, field.place.offset, &field, texts);
     if let Some(pointer) = pointer_path(path, found) {
-        line.field("pointer", Value::Text(RawString::from(pointer)))?;
+        object.text("pointer", pointer);
     }
-    line.finish(Ok(()))?;
-    Ok(Vec::from_slice(alloc, line.as_bytes())?)
+    line.push_fields(&object);
+    line.push(b"}\n");
 }
 
 /// Returns the line of a member that a path leads to.
@@ -117,17 +116,19 @@ fn found_line(
     texts: &mut TextAllowance,
 ) -> Result<Vec<u8>> {
     let type_text = field_type_text(alloc, definitions, &found.field, texts)?;
+    let mut line = TextBuffer::new(alloc);
     match form {
-        Form::Text => text_line(alloc, path, &type_text.bytes, found),
+        Form::Text => push_line(alloc, path, &type_text.bytes, found, &mut line),
         Form::Json => {
             let texts = FieldTexts {
                 type_text: &type_text.bytes,
                 declaration: path,
                 is_cut: type_text.is_cut,
             };
-            object_line(alloc, path, texts, found)
+            push_object(alloc, path, texts, found, &mut line);
         }
     }
+    Ok(line.finish()?)
 }
 
 /// Returns the names of the members of a class that are the nearest to a name.
@@ -149,39 +150,51 @@ fn nearest_members<'t>(
     Ok(nearest)
 }
 
-/// Returns that a type has no member of a name, and which it has with a name that is near.
-fn no_member(
+/// Appends that a type has no member of a name, and which it has with a name that is near.
+fn push_no_member(
     alloc: Global,
     definitions: &Definitions<'_>,
     class: TypeIndex,
     name: &[u8],
     records: &mut Allowance,
     texts: &mut TextAllowance,
-) -> Result<Vec<u8>> {
+    why: &mut TextBuffer,
+) -> Result<()> {
     if name.is_empty() {
-        return Ok(Vec::from_slice(alloc, b"a name is missing behind a point")?);
+        why.push(b"a name is missing behind a point");
+        return Ok(());
     }
-    let type_text = texts.bytes(alloc, definitions, class, b"")?;
-    let mut why = escape_text(alloc, &type_text)?;
-    why.extend_from_slice(b" has no member ")?;
-    why.extend_from_slice(&escape_text(alloc, name)?)?;
+    texts.push(alloc, definitions, class, b"", why)?;
+    why.push(b" has no member ");
+    why.push_escaped(name);
     let nearest = nearest_members(alloc, definitions, class, name, records)?;
-    nearest.push_question(alloc, &mut why)?;
-    Ok(why)
+    nearest.push_question(why);
+    Ok(())
 }
 
-/// Returns a path, escaped, and a text behind it.
-fn path_then(alloc: Global, path: &[u8], text: &[u8]) -> Result<Vec<u8>> {
-    let mut why = escape_text(alloc, path)?;
-    why.extend_from_slice(text)?;
-    Ok(why)
+/// Appends a path, escaped, and a text behind it.
+fn push_path(path: &[u8], text: &[u8], why: &mut TextBuffer) {
+    why.push_escaped(path);
+    why.push(text);
 }
 
-/// Returns that no type has a name, and which have names that are near.
-fn no_type(alloc: Global, definitions: &Definitions<'_>, path: &[u8]) -> Result<Vec<u8>> {
-    let mut why = Vec::from_slice(alloc, NO_NAME)?;
+/// Appends that an array has only so many elements.
+fn push_beyond(alloc: Global, path: &[u8], count: u64, why: &mut TextBuffer) {
+    let more = plural(count);
+    why.push_escaped(path);
+    why.push_string(format!(in alloc; " has {count} element{more}"));
+}
+
+/// Appends that no type has a name, and which have names that are near.
+fn push_no_type(
+    alloc: Global,
+    definitions: &Definitions<'_>,
+    path: &[u8],
+    why: &mut TextBuffer,
+) -> Result<()> {
+    why.push(NO_NAME);
     if is_pattern(path) {
-        return Ok(why);
+        return Ok(());
     }
     let types = definitions.types();
     let (name, _) = cut_at(b'.', path);
@@ -192,8 +205,8 @@ fn no_type(alloc: Global, definitions: &Definitions<'_>, path: &[u8]) -> Result<
             nearest.compare(alloc, name.as_bytes())?;
         }
     }
-    nearest.push_question(alloc, &mut why)?;
-    Ok(why)
+    nearest.push_question(why);
+    Ok(())
 }
 
 /// Returns what a path is answered with, such as `Derived.inner.tag`.
@@ -210,26 +223,23 @@ pub(crate) fn path_line(
     records: &mut Allowance,
     texts: &mut TextAllowance,
 ) -> Result<PathLine> {
-    let why = match path_end(alloc, definitions, path, case, records)? {
+    let mut why = TextBuffer::new(alloc);
+    match path_end(alloc, definitions, path, case, records)? {
         Some(PathEnd::Member(found)) => {
             let line = found_line(alloc, definitions, path, &found, form, texts)?;
             return Ok(PathLine::Member(line));
         }
         Some(PathEnd::NoMember(class, name)) => {
-            no_member(alloc, definitions, class, name, records, texts)?
+            push_no_member(alloc, definitions, class, name, records, texts, &mut why)?;
         }
         Some(PathEnd::NoElements(before)) => {
-            path_then(alloc, before, b" has no elements of a known size")?
+            push_path(before, b" has no elements of a known size", &mut why);
         }
-        Some(PathEnd::Beyond(before, count)) => {
-            let more = plural(count);
-            let text = format!(in alloc; " has {count} element{more}")?;
-            path_then(alloc, before, text.as_bytes())?
-        }
+        Some(PathEnd::Beyond(before, count)) => push_beyond(alloc, before, count, &mut why),
         Some(PathEnd::NoNumber(before)) => {
-            path_then(alloc, before, b" is followed by no number in brackets")?
+            push_path(before, b" is followed by no number in brackets", &mut why);
         }
-        None => no_type(alloc, definitions, path)?,
-    };
-    Ok(PathLine::Missing(why))
+        None => push_no_type(alloc, definitions, path, &mut why)?,
+    }
+    Ok(PathLine::Missing(why.finish()?))
 }

@@ -63,10 +63,7 @@ fn paths_of<'p>(
 
 /// Returns whether a path leads to a member.
 fn is_member(end: &PathEnd<'_, '_>) -> bool {
-    match end {
-        PathEnd::Member(_) => true,
-        _ => false,
-    }
+    matches!(end, PathEnd::Member(_))
 }
 
 /// Returns where a path ends such as `Derived.inner.tag`, from the first definition of the longest

@@ -2,6 +2,11 @@
 
 use pdbdump_types::LetterCase;
 
+/// How wide the parts of a type are indented in each style.
+pub(crate) const C_WIDTH: u32 = 4;
+
+pub(crate) const DT_WIDTH: u32 = 3;
+
 /// How a layout is written as text.
 #[derive(Clone, Copy)]
 pub enum Style {

@@ -5,8 +5,8 @@ use pdb_base::{RawString, Result, TypeIndex};
 use pdb_flags::FieldAttributes;
 use pdb_types::Definitions;
 use pdb_values::{MethodListEntry, OverloadedMethodType, TypeData};
-use pdbdump_rows::{Line, Value};
-use pdbdump_types::{Allowance, TextAllowance, class_of, type_at};
+use pdbdump_rows::Value;
+use pdbdump_types::{Allowance, ObjectBuffer, TextAllowance, TextBuffer, class_of, type_at};
 use std::alloc::Global;
 
 /// What a member is that takes no place.
@@ -169,18 +169,19 @@ pub(crate) fn other_declaration(
     texts: &mut TextAllowance,
 ) -> Result<Vec<u8>> {
     let name = other.name.as_bytes();
+    let mut declared = TextBuffer::new(alloc);
     if other.role == OtherRole::NestedType {
         let value = type_at(alloc, definitions.types(), other.type_index)?;
         if let Some(word) = nested_word(&value, name) {
-            let mut declared = Vec::from_slice(alloc, word.as_bytes())?;
-            declared.push(b' ')?;
-            declared.extend_from_slice(name)?;
-            return Ok(declared);
+            declared.push(word.as_bytes());
+            declared.push(b" ");
+            declared.push(name);
+            return Ok(declared.finish()?);
         }
     }
-    let mut declared = Vec::from_slice(alloc, first_word(other.role).as_bytes())?;
-    declared.extend_from_slice(&texts.bytes(alloc, definitions, other.type_index, name)?)?;
-    Ok(declared)
+    declared.push(first_word(other.role).as_bytes());
+    declared.push(&texts.bytes(alloc, definitions, other.type_index, name)?);
+    Ok(declared.finish()?)
 }
 
 /// Returns the word for what a member is.
@@ -200,21 +201,18 @@ fn role_word(role: OtherRole) -> &'static str {
 /// Fails as `Definitions::type_text` does for the type of the member.
 pub(crate) fn show_other(
     alloc: Global,
-    line: &mut Line,
+    object: &mut ObjectBuffer,
     definitions: &Definitions<'_>,
     other: &OtherMember<'_>,
     texts: &mut TextAllowance,
 ) -> Result<()> {
     let type_text = texts.bytes(alloc, definitions, other.type_index, b"")?;
     let declared = other_declaration(alloc, definitions, other, texts)?;
-    line.field("kind", Value::Word(role_word(other.role)))?;
-    line.field("depth", Value::Number(0))?;
-    line.field("name", Value::Text(other.name))?;
-    line.field("type_index", Value::Hexadecimal(other.type_index.0))?;
-    line.field("type", Value::Text(RawString::from(type_text.as_slice())))?;
-    line.field(
-        "declaration",
-        Value::Text(RawString::from(declared.as_slice())),
-    )?;
+    object.field("kind", Value::Word(role_word(other.role)));
+    object.field("depth", Value::Number(0));
+    object.field("name", Value::Text(other.name));
+    object.field("type_index", Value::Hexadecimal(other.type_index.0));
+    object.text("type", &type_text);
+    object.text("declaration", &declared);
     Ok(())
 }

@@ -6,11 +6,11 @@ ghost use Rattle.pdb_base.specs.Memory.{FailsOnlyForMemory};
 ghost use Rattle.pdb_tpi.specs.Table.{table_of};
 ghost use Rattle.pdbdump_types.specs.Shown.{IsShowResult, IsStopped, StaysAccounted};
 
-use crate::c_style::c_text;
-use crate::dt_style::dt_text;
+use crate::c_style::push_c;
+use crate::dt_style::push_dt;
 use crate::enumeration::enumeration_text;
 use crate::expanded::expand;
-use crate::json::json_text;
+use crate::json::push_json;
 use crate::member_line::{PathLine, path_line};
 use crate::named::types_named;
 use crate::options::{Options, Order, Style};
@@ -23,11 +23,24 @@ use pdb_tpi::{OpenTable, TypeInformation};
 use pdb_types::{Definitions, Layout};
 use pdbdump_rows::{Form, error_text};
 use pdbdump_types::{
-    Allowance, LetterCase, Progress, TOO_MANY, TextAllowance, Wanted, class_layout, class_of,
+    Allowance, Progress, TOO_MANY, TextAllowance, TextBuffer, Wanted, class_layout, class_of,
     classes_in, learn_table, tell, tell_fault, tell_index, type_at, write_layout,
 };
 use std::alloc::{AllocError, Global};
 use std::io::Write;
+
+/// What is asked of a table.
+#[derive(Clone, Copy)]
+struct Asked<'d, 't> {
+    /// The definitions of the table.
+    definitions: &'d Definitions<'t>,
+
+    /// Which of them are shown, and how.
+    options: &'d Options,
+
+    /// Whether they are shown as text or as JSON.
+    form: Form,
+}
 
 /// By what a class is sorted: a number, the greatest first, and then a name.
 #[derive(Clone, Copy)]
@@ -46,13 +59,12 @@ const TOO_DEEP: &[u8] = b"more is left out, since so much was shown";
 /// Returns what of a class takes no place, if it is to be shown.
 fn shown_others<'t>(
     alloc: Global,
-    definitions: &Definitions<'t>,
+    asked: &Asked<'_, 't>,
     class: TypeIndex,
-    options: &Options,
     records: &mut Allowance,
 ) -> Result<Vec<OtherMember<'t>>, Error> {
-    if options.has_all_members {
-        others_of(alloc, definitions, class, records)
+    if asked.options.has_all_members {
+        others_of(alloc, asked.definitions, class, records)
     } else {
         Ok(Vec::new(alloc))
     }
@@ -61,27 +73,28 @@ fn shown_others<'t>(
 /// Returns a layout as text or JSON.
 fn layout_text<'t>(
     alloc: Global,
-    definitions: &Definitions<'t>,
+    asked: &Asked<'_, 't>,
     layout: &Layout<'t>,
-    options: &Options,
-    form: Form,
     records: &mut Allowance,
     rows: &mut Allowance,
     texts: &mut TextAllowance,
 ) -> Result<Vec<u8>, Error> {
+    let (definitions, options) = (asked.definitions, asked.options);
     let class = class_of(&type_at(alloc, definitions.types(), layout.index)?);
     let shown = ShownClass {
         layout,
         class,
         expansion: expand(alloc, definitions, layout, options.depth, rows)?,
-        others: shown_others(alloc, definitions, layout.index, options, records)?,
+        others: shown_others(alloc, asked, layout.index, records)?,
         line_size: options.line_size,
     };
-    match (form, options.style) {
-        (Form::Json, _) => json_text(alloc, definitions, &shown, texts),
-        (Form::Text, Style::C) => c_text(alloc, definitions, &shown, texts),
-        (Form::Text, Style::Dt) => dt_text(alloc, definitions, &shown, texts),
+    let mut text = TextBuffer::new(alloc);
+    match (asked.form, options.style) {
+        (Form::Json, _) => push_json(alloc, definitions, &shown, texts, &mut text)?,
+        (Form::Text, Style::C) => push_c(alloc, definitions, &shown, texts, &mut text)?,
+        (Form::Text, Style::Dt) => push_dt(alloc, definitions, &shown, texts, &mut text)?,
     }
+    Ok(text.finish()?)
 }
 
 /// Returns whether a layout is among those that are wanted.
@@ -92,11 +105,9 @@ fn is_wanted(layout: &Layout<'_>, options: &Options) -> bool {
 /// Shows a layout that is wanted, or tells why it can't be written.
 fn show_layout<O: Write, E: Write>(
     alloc: Global,
-    definitions: &Definitions<'_>,
+    asked: &Asked<'_, '_>,
     index: TypeIndex,
     layout: &Layout<'_>,
-    options: &Options,
-    form: Form,
     progress: &mut Progress,
     out: &mut Output<O>,
     err: &mut Output<E>,
@@ -104,18 +115,10 @@ fn show_layout<O: Write, E: Write>(
     ensures accounted { OnOk result (StaysAccounted progress.old progress.new err.old err.new) }
     ensures stopped { IsStopped out.new result }
 {
-    let shown = layout_text(
-        alloc,
-        definitions,
-        layout,
-        options,
-        form,
-        &mut progress.records,
-        &mut progress.rows,
-        &mut progress.texts,
-    );
-    match shown {
-        Ok(text) => write_layout(&text, form, progress, out),
+    let records = &mut progress.records;
+    let rows = &mut progress.rows;
+    match layout_text(alloc, asked, layout, records, rows, &mut progress.texts) {
+        Ok(text) => write_layout(&text, asked.form, progress, out),
         Err(fault) => tell_fault(alloc, index, &fault, progress, err),
     }
 }
@@ -123,27 +126,24 @@ fn show_layout<O: Write, E: Write>(
 /// Writes an enumeration, which has no hole.
 fn write_enumeration<O: Write>(
     text: &[u8],
-    options: &Options,
-    form: Form,
+    asked: &Asked<'_, '_>,
     progress: &mut Progress,
     out: &mut Output<O>,
 ) -> Result<(), Error>
     ensures whole { progress.new.is_whole ≡ progress.old.is_whole }
     ensures stopped { IsStopped out.new result }
 {
-    if options.has_holes {
+    if asked.options.has_holes {
         return Ok(());
     }
-    write_layout(text, form, progress, out)
+    write_layout(text, asked.form, progress, out)
 }
 
 /// Shows an enumeration, unless only classes with holes are shown; or tells that a type is none.
 fn show_enumeration<O: Write, E: Write>(
     alloc: Global,
-    definitions: &Definitions<'_>,
+    asked: &Asked<'_, '_>,
     index: TypeIndex,
-    options: &Options,
-    form: Form,
     progress: &mut Progress,
     out: &mut Output<O>,
     err: &mut Output<E>,
@@ -151,10 +151,10 @@ fn show_enumeration<O: Write, E: Write>(
     ensures accounted { OnOk result (StaysAccounted progress.old progress.new err.old err.new) }
     ensures stopped { IsStopped out.new result }
 {
-    let style = options.style;
+    let (definitions, style) = (asked.definitions, asked.options.style);
     let texts = &mut progress.texts;
-    match enumeration_text(alloc, definitions, index, style, form, texts) {
-        Ok(Some(text)) => write_enumeration(&text, options, form, progress, out),
+    match enumeration_text(alloc, definitions, index, style, asked.form, texts) {
+        Ok(Some(text)) => write_enumeration(&text, asked, progress, out),
         Ok(None) => tell_index(alloc, index, NO_CLASS, progress, err),
         Err(fault) => tell_fault(alloc, index, &fault, progress, err),
     }
@@ -163,10 +163,8 @@ fn show_enumeration<O: Write, E: Write>(
 /// Shows the layout of a type, or tells why it has none.
 fn show_type<O: Write, E: Write>(
     alloc: Global,
-    definitions: &Definitions<'_>,
+    asked: &Asked<'_, '_>,
     index: TypeIndex,
-    options: &Options,
-    form: Form,
     progress: &mut Progress,
     out: &mut Output<O>,
     err: &mut Output<E>,
@@ -174,24 +172,14 @@ fn show_type<O: Write, E: Write>(
     ensures accounted { OnOk result (StaysAccounted progress.old progress.new err.old err.new) }
     ensures stopped { IsStopped out.new result }
 {
-    match class_layout(alloc, definitions, index) {
+    match class_layout(alloc, asked.definitions, index) {
         Ok(Some(layout)) => {
-            if !is_wanted(&layout, options) {
+            if !is_wanted(&layout, asked.options) {
                 return Ok(());
             }
-            show_layout(
-                alloc,
-                definitions,
-                index,
-                &layout,
-                options,
-                form,
-                progress,
-                out,
-                err,
-            )
+            show_layout(alloc, asked, index, &layout, progress, out, err)
         }
-        Ok(None) => show_enumeration(alloc, definitions, index, options, form, progress, out, err),
+        Ok(None) => show_enumeration(alloc, asked, index, progress, out, err),
         Err(fault) => tell_fault(alloc, index, &fault, progress, err),
     }
 }
@@ -199,10 +187,8 @@ fn show_type<O: Write, E: Write>(
 /// Shows the layouts of types.
 fn show_types<O: Write, E: Write>(
     alloc: Global,
-    definitions: &Definitions<'_>,
+    asked: &Asked<'_, '_>,
     indexes: &[TypeIndex],
-    options: &Options,
-    form: Form,
     progress: &mut Progress,
     out: &mut Output<O>,
     err: &mut Output<E>,
@@ -211,16 +197,7 @@ fn show_types<O: Write, E: Write>(
     ensures stopped { IsStopped out.new result }
 {
     for index in indexes {
-        show_type(
-            alloc,
-            definitions,
-            *index,
-            options,
-            form,
-            progress,
-            out,
-            err,
-        )?;
+        show_type(alloc, asked, *index, progress, out, err)?;
     }
     Ok(())
 }
@@ -333,10 +310,8 @@ fn sort_types(
 /// tells that the name means nothing.
 fn find_name<O: Write, E: Write>(
     alloc: Global,
-    definitions: &Definitions<'_>,
+    asked: &Asked<'_, '_>,
     name: &str,
-    case: LetterCase,
-    form: Form,
     found: &mut Vec<TypeIndex>,
     progress: &mut Progress,
     out: &mut Output<O>,
@@ -345,27 +320,22 @@ fn find_name<O: Write, E: Write>(
     ensures accounted { OnOk result (StaysAccounted progress.old progress.new err.old err.new) }
     ensures stopped { IsStopped out.new result }
 {
+    let (definitions, case) = (asked.definitions, asked.options.case);
     let types = types_named(alloc, definitions, name, case)?;
     if !types.is_empty() {
         found.extend_from_slice(&types)?;
         return Ok(());
     }
-    let line = path_line(
-        alloc,
-        definitions,
-        name.as_bytes(),
-        case,
-        form,
-        &mut progress.records,
-        &mut progress.texts,
-    );
-    match line {
+    let name = name.as_bytes();
+    let records = &mut progress.records;
+    let texts = &mut progress.texts;
+    match path_line(alloc, definitions, name, case, asked.form, records, texts) {
         Ok(PathLine::Member(line)) => out.write(&line),
-        Ok(PathLine::Missing(why)) => tell(alloc, name.as_bytes(), &why, progress, err),
+        Ok(PathLine::Missing(why)) => tell(alloc, name, &why, progress, err),
         Err(Error::OutOfMemory) => Err(Error::OutOfMemory),
         Err(fault) => {
             let why = error_text(alloc, &fault)?;
-            tell(alloc, name.as_bytes(), &why, progress, err)
+            tell(alloc, name, &why, progress, err)
         }
     }
 }
@@ -373,10 +343,8 @@ fn find_name<O: Write, E: Write>(
 /// Does the same for each of some names.
 fn find_names<O: Write, E: Write>(
     alloc: Global,
-    definitions: &Definitions<'_>,
+    asked: &Asked<'_, '_>,
     names: &[&str],
-    case: LetterCase,
-    form: Form,
     found: &mut Vec<TypeIndex>,
     progress: &mut Progress,
     out: &mut Output<O>,
@@ -386,17 +354,7 @@ fn find_names<O: Write, E: Write>(
     ensures stopped { IsStopped out.new result }
 {
     for name in names {
-        find_name(
-            alloc,
-            definitions,
-            name,
-            case,
-            form,
-            found,
-            progress,
-            out,
-            err,
-        )?;
+        find_name(alloc, asked, name, found, progress, out, err)?;
     }
     Ok(())
 }
@@ -473,10 +431,8 @@ fn tell_depth<E: Write>(
 /// class had an error.
 fn show_asked<O: Write, E: Write>(
     alloc: Global,
-    definitions: &Definitions<'_>,
+    asked: &Asked<'_, '_>,
     names: &[&str],
-    options: &Options,
-    form: Form,
     progress: &mut Progress,
     out: &mut Output<O>,
     err: &mut Output<E>,
@@ -484,30 +440,12 @@ fn show_asked<O: Write, E: Write>(
     ensures accounted { OnOk result (StaysAccounted progress.old progress.new err.old err.new) }
     ensures stopped { IsStopped out.new result }
 {
+    let (definitions, options) = (asked.definitions, asked.options);
     let mut found = first_types(alloc, definitions.types(), options.all)?;
-    find_names(
-        alloc,
-        definitions,
-        names,
-        options.case,
-        form,
-        &mut found,
-        progress,
-        out,
-        err,
-    )?;
+    find_names(alloc, asked, names, &mut found, progress, out, err)?;
     limit_types(alloc, definitions, &mut found, progress, err)?;
     let ordered = sort_types(alloc, definitions, found, options.order)?;
-    show_types(
-        alloc,
-        definitions,
-        &ordered,
-        options,
-        form,
-        progress,
-        out,
-        err,
-    )?;
+    show_types(alloc, asked, &ordered, progress, out, err)?;
     tell_depth(alloc, progress, err)
 }
 
@@ -534,16 +472,12 @@ pub fn show_layouts<O: Write, E: Write>(
     let bytes = stream.as_slice().len();
     let types = learn_table(alloc, stream)?;
     let definitions = Definitions::new(alloc, &types)?;
-    let mut progress = Progress::new(bytes);
-    show_asked(
-        alloc,
-        &definitions,
-        names,
+    let asked = Asked {
+        definitions: &definitions,
         options,
         form,
-        &mut progress,
-        out,
-        err,
-    )?;
+    };
+    let mut progress = Progress::new(bytes);
+    show_asked(alloc, &asked, names, &mut progress, out, err)?;
     Ok(progress.is_whole)
 }

@@ -1,2 +1,2 @@
 pub mod MatchLemmas
-pub mod ShowLemmas
+pub mod lemmas

@@ -1,5 +1,6 @@
 //! The classes and enumerations of a table.
 
+use crate::defined::defined_by;
 use crate::letter_case::LetterCase;
 use crate::pattern::{matches, matches_ignoring_case};
 use pdb_base::{Error, RawString, TypeIndex};
@@ -19,9 +20,6 @@ pub struct Class<'t> {
 
     /// Its name.
     pub name: RawString<'t>,
-
-    /// Whether it is only declared.
-    pub is_forward: bool,
 }
 
 /// Returns what C++ calls a kind of class.
@@ -39,32 +37,11 @@ pub fn class_of<'t>(value: &TypeData<'t>) -> Option<Class<'t>> {
         TypeData::Class(class) => Some(Class {
             word: class_word(class.kind),
             name: class.name,
-            is_forward: class.properties.forward_reference(),
         }),
         TypeData::Union(union_type) => Some(Class {
             word: "union",
             name: union_type.name,
-            is_forward: union_type.properties.forward_reference(),
         }),
-        _ => None,
-    }
-}
-
-/// Returns the class or union that a record defines, or None if it defines none.
-fn defined_class<'t>(value: &TypeData<'t>) -> Option<Class<'t>> {
-    let class = class_of(value)?;
-    if class.is_forward {
-        return None;
-    }
-    Some(class)
-}
-
-/// Returns the name of the enumeration that a record defines, or None if it defines none.
-fn defined_enumeration<'t>(value: &TypeData<'t>) -> Option<RawString<'t>> {
-    match value {
-        TypeData::Enumeration(enumeration) if !enumeration.properties.forward_reference() => {
-            Some(enumeration.name)
-        }
         _ => None,
     }
 }
@@ -88,10 +65,10 @@ pub enum Wanted<'n> {
 /// Returns the name of a class, a union or an enumeration that a record defines, if one of its kind
 /// may be wanted.
 pub fn name_defined<'t>(value: &TypeData<'t>, wanted: Wanted<'_>) -> Option<RawString<'t>> {
-    match (defined_class(value), wanted) {
-        (Some(class), _) => Some(class.name),
-        (None, Wanted::Named | Wanted::Meant(_, _)) => defined_enumeration(value),
-        (None, Wanted::All | Wanted::Before(_, _)) => None,
+    let defined = defined_by(value)?;
+    match wanted {
+        Wanted::All | Wanted::Before(_, _) if defined.enumeration.is_some() => None,
+        _ => Some(defined.name),
     }
 }
 

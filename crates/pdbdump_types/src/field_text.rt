@@ -1,24 +1,24 @@
-//! The line of a field in a declaration of its class in C++.
+//! The lines of fields and of enumerators in declarations of C++.
 
-use crate::text::{escape_text, push_commented};
+use crate::enumerators::Enumerator;
 use crate::text_allowance::TextAllowance;
+use crate::text_buffer::TextBuffer;
 use pdb_base::Result;
 use pdb_types::{Definitions, Extent, FieldKind, LayoutField, TypeText};
 use pdb_values::BitfieldType;
 use std::alloc::Global;
 
-/// Returns the place and the size of a field as a comment.
-fn field_place(alloc: Global, start: u64, field: &LayoutField<'_>) -> Result<Vec<u8>> {
+/// Appends the place and the size of a field.
+fn push_place(alloc: Global, start: u64, field: &LayoutField<'_>, text: &mut TextBuffer) {
     let offset = start.saturating_add(field.place.offset);
-    let text = match field.extent {
-        Extent::Bytes(size) => format!(in alloc; "0x{offset:03x} 0x{size:02x}")?,
+    text.push_string(match field.extent {
+        Extent::Bytes(size) => format!(in alloc; "0x{offset:03x} 0x{size:02x}"),
         Extent::Bits(bits) => {
             let position = bits.position;
-            format!(in alloc; "0x{offset:03x}:{position}")?
+            format!(in alloc; "0x{offset:03x}:{position}")
         }
-        Extent::Unknown => format!(in alloc; "0x{offset:03x} ?")?,
-    };
-    Ok(text.into_bytes())
+        Extent::Unknown => format!(in alloc; "0x{offset:03x} ?"),
+    });
 }
 
 /// Returns the text of the type of a bit field, which is also the declaration of one without a name.
@@ -38,38 +38,42 @@ pub(crate) fn bit_field_text<'t>(
     Ok(text)
 }
 
-/// Returns the declaration of a data member.
-fn member_declaration<'t>(
+/// Appends the declaration of a data member.
+fn push_member<'t>(
     alloc: Global,
     definitions: &Definitions<'t>,
     field: &LayoutField<'t>,
     name: &[u8],
     texts: &mut TextAllowance,
-) -> Result<Vec<u8>> {
+    text: &mut TextBuffer,
+) -> Result<()> {
     match field.extent {
         Extent::Bits(bits) if name.is_empty() => {
-            let text = bit_field_text(alloc, definitions, bits, texts)?;
-            Ok(text.bytes)
+            let declared = bit_field_text(alloc, definitions, bits, texts)?;
+            text.push_escaped(&declared.bytes);
+            Ok(())
         }
-        _ => texts.bytes(alloc, definitions, field.place.field_type, name),
+        _ => texts.push(alloc, definitions, field.place.field_type, name, text),
     }
 }
 
-/// Returns the declaration of a field.
-fn declaration<'t>(
+/// Appends the declaration of a field.
+fn push_declaration<'t>(
     alloc: Global,
     definitions: &Definitions<'t>,
     field: &LayoutField<'t>,
     texts: &mut TextAllowance,
-) -> Result<Vec<u8>> {
+    text: &mut TextBuffer,
+) -> Result<()> {
     match field.place.kind {
-        FieldKind::Base => texts.bytes(alloc, definitions, field.place.field_type, b""),
-        FieldKind::VirtualBasePointer(_) => Ok(Vec::from_slice(alloc, b"vbptr")?),
-        FieldKind::VirtualFunctionPointer => Ok(Vec::from_slice(alloc, b"vfptr")?),
+        FieldKind::Base => texts.push(alloc, definitions, field.place.field_type, b"", text)?,
+        FieldKind::VirtualBasePointer(_) => text.push(b"vbptr"),
+        FieldKind::VirtualFunctionPointer => text.push(b"vfptr"),
         FieldKind::Member(name) => {
-            member_declaration(alloc, definitions, field, name.as_bytes(), texts)
+            push_member(alloc, definitions, field, name.as_bytes(), texts, text)?;
         }
     }
+    Ok(())
 }
 
 /// Appends what the comment of a field says besides its place.
@@ -78,22 +82,21 @@ fn push_role<'t>(
     definitions: &Definitions<'t>,
     field: &LayoutField<'t>,
     texts: &mut TextAllowance,
-    comment: &mut Vec<u8>,
+    text: &mut TextBuffer,
 ) -> Result<()> {
     match field.place.kind {
-        FieldKind::Base => comment.extend_from_slice(b"  base")?,
+        FieldKind::Base => text.push(b"  base"),
         FieldKind::VirtualBasePointer(base) => {
-            let name = texts.bytes(alloc, definitions, base.base_class, b"")?;
-            comment.extend_from_slice(b"  of virtual base ")?;
-            comment.extend_from_slice(&escape_text(alloc, &name)?)?;
+            text.push(b"  of virtual base ");
+            texts.push(alloc, definitions, base.base_class, b"", text)?;
         }
         FieldKind::VirtualFunctionPointer | FieldKind::Member(_) => {}
     }
     Ok(())
 }
 
-/// Appends the line of a field of a class that begins at an offset from the start of what is shown,
-/// behind what the line begins with.
+/// Appends a field of a class that begins at an offset from the start of what is shown, and the end
+/// of its line.
 ///
 /// # Errors
 /// Fails as `Definitions::type_text` does for the type of the field.
@@ -103,14 +106,20 @@ pub fn push_field<'t>(
     start: u64,
     field: &LayoutField<'t>,
     texts: &mut TextAllowance,
-    mut line: Vec<u8>,
-    text: &mut Vec<u8>,
+    text: &mut TextBuffer,
 ) -> Result<()> {
-    let declared = declaration(alloc, definitions, field, texts)?;
-    line.extend_from_slice(&escape_text(alloc, &declared)?)?;
-    line.push(b';')?;
-    let mut comment = field_place(alloc, start, field)?;
-    push_role(alloc, definitions, field, texts, &mut comment)?;
-    push_commented(&line, &comment, text)?;
+    push_declaration(alloc, definitions, field, texts, text)?;
+    text.push(b";");
+    text.begin_comment();
+    push_place(alloc, start, field, text);
+    push_role(alloc, definitions, field, texts, text)?;
+    text.push(b"\n");
     Ok(())
+}
+
+/// Appends an enumerator, and the end of its line.
+pub fn push_enumerator(alloc: Global, enumerator: &Enumerator<'_>, text: &mut TextBuffer) {
+    let value = enumerator.value;
+    text.push_escaped(enumerator.name.as_bytes());
+    text.push_string(format!(in alloc; " = {value},\n"));
 }

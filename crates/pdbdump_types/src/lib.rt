@@ -12,6 +12,7 @@ mod field_text;
 mod letter_case;
 pub mod names;
 mod object;
+mod object_buffer;
 mod pattern;
 mod progress;
 mod shown_gap;
@@ -29,16 +30,17 @@ pub use classes::{
 pub use cut::cut_at;
 pub use defined::{Defined, defined_by};
 pub use enumerators::{Enumerator, enumerators_of};
-pub use field_text::push_field;
+pub use field_text::{push_enumerator, push_field};
 pub use letter_case::LetterCase;
 pub use object::{
     FieldTexts, field_type_text, show_declared, show_enumerator, show_field, show_gap,
 };
+pub use object_buffer::ObjectBuffer;
 pub use pattern::{is_pattern, matches, matches_ignoring_case};
 pub use progress::{Progress, TOO_MANY, tell, tell_fault, tell_index, write_layout};
 pub use shown_gap::{GapPlace, GapRole, fields_end, gap_place, gap_role};
 pub use table::learn_table;
-pub use text::{escape_text, plural, push_commented, push_indent, push_named, push_remark};
+pub use text::{escape_text, plural};
 pub use text_allowance::TextAllowance;
 pub use text_buffer::TextBuffer;
 pub use typed_index::index_named;

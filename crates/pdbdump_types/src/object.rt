@@ -3,12 +3,13 @@
 use crate::enumerators::Enumerator;
 use crate::field_text::bit_field_text;
 use crate::names::{BIT, BITS, CUT, DECLARATION, DEPTH, TYPE, TYPE_INDEX, VIRTUAL_BASE};
+use crate::object_buffer::ObjectBuffer;
 use crate::shown_gap::{GapRole, gap_place};
 use crate::text_allowance::TextAllowance;
 use pdb_base::{RawString, Result};
 use pdb_types::{Definitions, Extent, FieldKind, Gap, LayoutField, TypeText};
 use pdbdump_rows::names::{DIRECT, KIND, NAME, OFFSET, POSITION, SIZE, VALUE};
-use pdbdump_rows::{Line, LineResult, Value, optional_text};
+use pdbdump_rows::{Value, optional_text};
 use std::alloc::Global;
 
 /// Returns the word for what a field is.
@@ -31,28 +32,24 @@ fn role_name<'t>(kind: &FieldKind<'t>) -> Option<RawString<'t>> {
 
 /// Adds the size of a field in bytes, if something says it; or the bit at which a bit field begins,
 /// and how many it has.
-fn show_extent(line: &mut Line, extent: &Extent) -> LineResult {
+fn show_extent(object: &mut ObjectBuffer, extent: &Extent) {
     match extent {
-        Extent::Bytes(size) => line.field(SIZE, Value::Number(*size)),
+        Extent::Bytes(size) => object.field(SIZE, Value::Number(*size)),
         Extent::Bits(bits) => {
-            line.field(BIT, Value::Number(bits.position as u64))?;
-            line.field(BITS, Value::Number(bits.length as u64))
+            object.field(BIT, Value::Number(bits.position as u64));
+            object.field(BITS, Value::Number(bits.length as u64));
         }
-        Extent::Unknown => Ok(()),
+        Extent::Unknown => {}
     }
 }
 
 /// Adds which virtual base class a field leads to, if it leads to one: whether the class itself
 /// names it, and its position in the table of virtual bases.
-fn show_virtual_base(line: &mut Line, kind: &FieldKind<'_>) -> LineResult {
-    match kind {
-        FieldKind::VirtualBasePointer(base) => {
-            line.field(VIRTUAL_BASE, Value::Hexadecimal(base.base_class.0))?;
-            line.field(DIRECT, Value::Flag(base.direct))?;
-            line.field(POSITION, Value::Number(base.position as u64))?;
-            Ok(())
-        }
-        _ => Ok(()),
+fn show_virtual_base(object: &mut ObjectBuffer, kind: &FieldKind<'_>) {
+    if let FieldKind::VirtualBasePointer(base) = kind {
+        object.field(VIRTUAL_BASE, Value::Hexadecimal(base.base_class.0));
+        object.field(DIRECT, Value::Flag(base.direct));
+        object.field(POSITION, Value::Number(base.position as u64));
     }
 }
 
@@ -71,49 +68,40 @@ pub struct FieldTexts<'t> {
 
 /// Adds what the object of a field holds, which begins at an offset from the start of what is
 /// shown, and whose class is so deep in it.
-///
-/// # Errors
-/// Fails if an allocation fails.
 pub fn show_field(
-    line: &mut Line,
+    object: &mut ObjectBuffer,
     depth: u32,
     offset: u64,
     part: &LayoutField<'_>,
     texts: FieldTexts<'_>,
-) -> LineResult {
+) {
     let kind = &part.place.kind;
-    line.field(KIND, Value::Word(role_word(kind)))?;
-    line.field(DEPTH, Value::Number(depth as u64))?;
-    line.field(NAME, optional_text(role_name(kind)))?;
-    line.field(TYPE_INDEX, Value::Hexadecimal(part.place.field_type.0))?;
-    line.field(TYPE, Value::Text(RawString::from(texts.type_text)))?;
-    line.field(DECLARATION, Value::Text(RawString::from(texts.declaration)))?;
+    object.field(KIND, Value::Word(role_word(kind)));
+    object.field(DEPTH, Value::Number(depth as u64));
+    object.field(NAME, optional_text(role_name(kind)));
+    object.field(TYPE_INDEX, Value::Hexadecimal(part.place.field_type.0));
+    object.text(TYPE, texts.type_text);
+    object.text(DECLARATION, texts.declaration);
     if texts.is_cut {
-        line.field(CUT, Value::Flag(true))?;
+        object.field(CUT, Value::Flag(true));
     }
-    line.field(OFFSET, Value::Number(offset))?;
-    show_extent(line, &part.extent)?;
-    show_virtual_base(line, kind)?;
-    Ok(())
+    object.field(OFFSET, Value::Number(offset));
+    show_extent(object, &part.extent);
+    show_virtual_base(object, kind);
 }
 
 /// Adds what the object of an enumerator holds.
-///
-/// # Errors
-/// Fails if an allocation fails.
-pub fn show_enumerator(line: &mut Line, enumerator: &Enumerator<'_>) -> LineResult {
-    line.field(KIND, Value::Word("enumerator"))?;
-    line.field(NAME, Value::Text(enumerator.name))?;
-    if let Ok(number) = u64::try_from(enumerator.value) {
-        return line.field(VALUE, Value::Number(number));
-    }
-    line.field(
-        VALUE,
-        match i64::try_from(enumerator.value) {
+pub fn show_enumerator(object: &mut ObjectBuffer, enumerator: &Enumerator<'_>) {
+    object.field(KIND, Value::Word("enumerator"));
+    object.field(NAME, Value::Text(enumerator.name));
+    let value = match u64::try_from(enumerator.value) {
+        Ok(number) => Value::Number(number),
+        Err(_) => match i64::try_from(enumerator.value) {
             Ok(number) => Value::Signed(number),
             Err(_) => Value::Absent,
         },
-    )
+    };
+    object.field(VALUE, value);
 }
 
 /// Returns the word for what a gap is.
@@ -128,19 +116,17 @@ fn gap_word(role: GapRole) -> &'static str {
 
 /// Adds what the object of a gap holds, whose class begins at an offset from the start of what is
 /// shown, and is so deep in it.
-///
-/// # Errors
-/// Fails if an allocation fails.
-pub fn show_gap(line: &mut Line, depth: u32, start: u64, gap: &Gap, role: GapRole) -> LineResult {
+pub fn show_gap(object: &mut ObjectBuffer, depth: u32, start: u64, gap: &Gap, role: GapRole) {
     let place = gap_place(start, gap);
-    line.field(KIND, Value::Word(gap_word(role)))?;
-    line.field(DEPTH, Value::Number(depth as u64))?;
-    line.field(OFFSET, Value::Number(place.offset))?;
-    if role != GapRole::UnusedBits {
-        return line.field(SIZE, Value::Number(place.bytes));
+    object.field(KIND, Value::Word(gap_word(role)));
+    object.field(DEPTH, Value::Number(depth as u64));
+    object.field(OFFSET, Value::Number(place.offset));
+    if role == GapRole::UnusedBits {
+        object.field(BIT, Value::Number(place.bit));
+        object.field(BITS, Value::Number(place.bits));
+    } else {
+        object.field(SIZE, Value::Number(place.bytes));
     }
-    line.field(BIT, Value::Number(place.bit))?;
-    line.field(BITS, Value::Number(place.bits))
 }
 
 /// Returns the text of the type of a field.
@@ -168,7 +154,7 @@ pub fn field_type_text<'t>(
 /// Fails as `Definitions::type_text` does for the type of the field.
 pub fn show_declared<'t>(
     alloc: Global,
-    line: &mut Line,
+    object: &mut ObjectBuffer,
     definitions: &Definitions<'t>,
     depth: u32,
     start: u64,
@@ -192,6 +178,6 @@ pub fn show_declared<'t>(
         declaration: &declaration.bytes,
         is_cut: type_text.is_cut || declaration.is_cut,
     };
-    show_field(line, depth, offset, part, spelled)?;
+    show_field(object, depth, offset, part, spelled);
     Ok(())
 }

@@ -6,8 +6,8 @@ ghost use Rattle.pdbdump_types.specs.Shown.{IsStopped, StaysAccounted};
 
 use crate::allowance::Allowance;
 use crate::classes::records_of;
-use crate::text::escape_text;
 use crate::text_allowance::TextAllowance;
+use crate::text_buffer::TextBuffer;
 use pdb_base::{Error, TypeIndex};
 use pdb_output::Output;
 use pdb_types::Definitions;
@@ -92,10 +92,12 @@ pub fn tell<E: Write>(
     ensures shown { progress.new.has_shown ≡ progress.old.has_shown }
     ensures memory { FailsOnlyForMemory result }
 {
-    let mut line = escape_text(alloc, what)?;
-    line.extend_from_slice(b": ")?;
-    line.extend_from_slice(why)?;
-    line.push(b'\n')?;
+    let mut line = TextBuffer::new(alloc);
+    line.push_escaped(what);
+    line.push(b": ");
+    line.push(why);
+    line.push(b"\n");
+    let line = line.finish()?;
     progress.is_whole = false;
     err.report(&line);
     Ok(())

@@ -1,6 +1,7 @@
 //! How many bytes the texts of types have at most that one call writes, so that little in a file
 //! can't become much.
 
+use crate::text_buffer::TextBuffer;
 use pdb_base::{Result, TypeIndex};
 use pdb_types::{Definitions, TypeText};
 use std::alloc::Global;
@@ -66,5 +67,21 @@ impl TextAllowance {
     ) -> Result<Vec<u8>> {
         let text = self.text(alloc, definitions, index, name)?;
         Ok(text.bytes)
+    }
+
+    /// Appends what `bytes` returns as lines show it, with escapes for control characters.
+    ///
+    /// # Errors
+    /// Fails as `Definitions::type_text` does.
+    pub fn push(
+        &mut self,
+        alloc: Global,
+        definitions: &Definitions<'_>,
+        index: TypeIndex,
+        name: &[u8],
+        out: &mut TextBuffer,
+    ) -> Result<()> {
+        out.push_escaped(&self.bytes(alloc, definitions, index, name)?);
+        Ok(())
     }
 }

@@ -4,7 +4,7 @@ use Rattle.pdb_base.proofs.lemmas.Refused.{passed_on}
 use Rattle.pdb_tpi.specs.Table.{Table}
 use Rattle.pdb_types.specs.Definition.{whole_table}
 use Rattle.pdbdump_types.specs.Shown.{IsShowResult}
-use Rattle.pdbdump_types.proofs.ShowLemmas.{table_refused, walk_refused}
+use Rattle.pdbdump_types.proofs.lemmas.Shown.{table_refused, walk_refused}
 use Rattle.pdbdump_declarations.proofs.header.declare.Goals as goal
 
 pub returns-in_err-types : goal.returns-in_err-types

@@ -1,4 +1,4 @@
-use Rattle.pdbdump_types.proofs.ShowLemmas.{accounted_then}
+use Rattle.pdbdump_types.proofs.lemmas.Shown.{accounted_then}
 use Rattle.pdbdump_declarations.proofs.header.declare_asked.Goals as goal
 
 pub returns-in-Ordered-clause-accounted : goal.returns-in-Ordered-clause-accounted

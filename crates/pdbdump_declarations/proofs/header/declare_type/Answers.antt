@@ -1,5 +1,5 @@
 use Rattle.std.proofs.Common.{refl}
-use Rattle.pdbdump_types.proofs.ShowLemmas.{kept}
+use Rattle.pdbdump_types.proofs.lemmas.Shown.{kept}
 use Rattle.pdbdump_declarations.proofs.header.declare_type.Goals as goal
 
 pub returns-in-Ok-clause-accounted : goal.returns-in-Ok-clause-accounted

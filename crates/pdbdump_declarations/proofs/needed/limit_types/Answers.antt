@@ -1,5 +1,5 @@
 use Rattle.std.proofs.Common.{sym, subst, Bool}
-use Rattle.pdbdump_types.proofs.ShowLemmas.{accounted_then}
+use Rattle.pdbdump_types.proofs.lemmas.Shown.{accounted_then}
 use Rattle.pdbdump_types.specs.Shown.{Accounts}
 use Rattle.pdbdump_declarations.proofs.needed.limit_types.Goals as goal
 

@@ -1,4 +1,4 @@
-use Rattle.pdbdump_types.proofs.ShowLemmas.{accounted_then}
+use Rattle.pdbdump_types.proofs.lemmas.Shown.{accounted_then}
 use Rattle.pdbdump_layouts.proofs.show.show_asked.Goals as goal
 
 pub returns-clause-accounted : goal.returns-clause-accounted

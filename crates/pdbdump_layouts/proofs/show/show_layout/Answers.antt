@@ -1,4 +1,4 @@
-use Rattle.pdbdump_types.proofs.ShowLemmas.{kept}
+use Rattle.pdbdump_types.proofs.lemmas.Shown.{kept}
 use Rattle.pdbdump_layouts.proofs.show.show_layout.Goals as goal
 
 pub returns-in-Ok-clause-accounted : goal.returns-in-Ok-clause-accounted

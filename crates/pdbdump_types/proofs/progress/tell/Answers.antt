@@ -1,4 +1,4 @@
-use Rattle.pdbdump_types.proofs.ShowLemmas.{reported}
+use Rattle.pdbdump_types.proofs.lemmas.Shown.{reported}
 use Rattle.pdbdump_types.proofs.progress.tell.Goals as goal
 
 pub returns-clause-accounted : goal.returns-clause-accounted

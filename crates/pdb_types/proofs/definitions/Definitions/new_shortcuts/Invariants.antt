@@ -1,6 +1,6 @@
 use Rattle.pdb_tpi.specs.Steps.{items_left}
 use Rattle.pdb_types.specs.Shortcut.{AreShortcuts}
-use Rattle.pdb_types.proofs.definitions.Definitions.all_shortcuts.Given as goal
+use Rattle.pdb_types.proofs.definitions.Definitions.new_shortcuts.Given as goal
 
 abbrev pub invariant-loop-item : goal.invariant-loop-item
 invariant-loop-item l = AreShortcuts l.self l.shortcuts.items
