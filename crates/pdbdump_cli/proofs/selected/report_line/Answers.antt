@@ -1,4 +1,4 @@
-use Rattle.pdbdump_types.proofs.ShowLemmas.{reported}
+use Rattle.pdbdump_types.proofs.lemmas.Shown.{reported}
 use Rattle.pdbdump_cli.proofs.selected.report_line.Goals as goal
 
 pub returns : goal.returns
