@@ -37,6 +37,12 @@ fn is_table_pointer(field: &LayoutField<'_>) -> bool {
     matches!(field.place.kind, FieldKind::VirtualFunctionPointer)
 }
 
+/// Appends the type of a bit field.
+fn push_bits(alloc: Global, position: u8, length: u8, text: &mut TextBuffer) {
+    let more = plural(length as u64);
+    text.push_string(format!(in alloc; "Pos {position}, {length} Bit{more}"));
+}
+
 /// Appends the type of a field: `Pos 3, 5 Bits` for a bit field, and no more than that it is a
 /// pointer for one to a table of virtual functions.
 fn push_type<'t>(
@@ -47,11 +53,7 @@ fn push_type<'t>(
     text: &mut TextBuffer,
 ) -> Result<()> {
     match field.extent {
-        Extent::Bits(bits) => {
-            let (position, length) = (bits.position, bits.length);
-            let more = plural(length as u64);
-            text.push_string(format!(in alloc; "Pos {position}, {length} Bit{more}"));
-        }
+        Extent::Bits(bits) => push_bits(alloc, bits.position, bits.length, text),
         Extent::Bytes(size) if is_table_pointer(field) => {
             let bits = size.saturating_mul(8);
             text.push_string(format!(in alloc; "Ptr{bits}"));
