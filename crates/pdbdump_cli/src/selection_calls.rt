@@ -22,12 +22,19 @@ pub(crate) fn selecting(matches: &ArgMatches<'_>) -> Option<&'static str> {
     FLAGS.iter().find(|flag| matches.get_flag(flag)).copied()
 }
 
-/// Returns the type to which the records refer, by its index or by its name.
-fn used<'m, 'w>(matches: &'m ArgMatches<'w>) -> (Option<TypeIndex>, &'m [&'w str]) {
-    let words = matches.get_strs("uses").unwrap_or(&[]);
-    match words.first().and_then(|text| number(text)) {
-        Some(index) => (Some(TypeIndex(index)), &[]),
-        None => (None, words),
+/// Returns the index of the type to which the records refer, if it is given by its index.
+fn used_index(matches: &ArgMatches<'_>) -> Option<TypeIndex> {
+    matches
+        .get_str("uses")
+        .and_then(|text| number(text))
+        .map(TypeIndex)
+}
+
+/// Returns the names of the types to which the records refer, or none if one is given by its index.
+fn used_names<'m, 'w>(matches: &'m ArgMatches<'w>) -> &'m [&'w str] {
+    match matches.get_strs("uses") {
+        Some(names) if used_index(matches).is_none() => names,
+        _ => &[],
     }
 }
 
@@ -43,14 +50,13 @@ pub(crate) fn selected<'m, 'w>(
     } else {
         (Table::Types, TYPE_STREAM)
     };
-    let (uses, used_names) = used(matches);
     let selection = Selection {
         names,
         ignores_case: matches.get_flag("ignore-case"),
         kinds,
         leaves_out_forward: matches.get_flag("no-forward"),
-        uses,
-        used_names,
+        uses: used_index(matches),
+        used_names: used_names(matches),
     };
     Selected {
         table,
