@@ -432,7 +432,8 @@ fn serve_selection<P: Files + Input + Print + Eprint + AllocGlobal>(
 ) -> Result<u8> {
     let names = matches.get_strs("NAME").unwrap_or(&[]);
     let kinds = matches.get_strs("kind").unwrap_or(&[]);
-    let request = Request::Select(selected(name, matches, names, kinds));
+    let used = matches.get_strs("uses").unwrap_or(&[]);
+    let request = Request::Select(selected(name, matches, names, kinds, used));
     serve_request(process, matches, &request, form)
 }
 

@@ -30,33 +30,34 @@ fn used_index(matches: &ArgMatches<'_>) -> Option<TypeIndex> {
         .map(TypeIndex)
 }
 
-/// Returns the names of the types to which the records refer, or none if one is given by its index.
-fn used_names<'m, 'w>(matches: &'m ArgMatches<'w>) -> &'m [&'w str] {
-    match matches.get_strs("uses") {
-        Some(names) if used_index(matches).is_none() => names,
-        _ => &[],
-    }
+/// Returns the words behind an option, or none of them if it gives an index.
+fn names_only<'m, 'w>(words: &'m [&'w str], has_index: bool) -> &'m [&'w str] {
+    let count = if has_index { 0 } else { words.len() };
+    &words[..count]
 }
 
-/// Returns what a call of `types` or `ids` selects, with names and kinds that it gives.
+/// Returns what a call of `types` or `ids` selects, with the names, the kinds and the types that are
+/// used that it gives.
 pub(crate) fn selected<'m, 'w>(
     name: &str,
-    matches: &'m ArgMatches<'w>,
+    matches: &ArgMatches<'w>,
     names: &'m [&'w str],
     kinds: &'m [&'w str],
+    used: &'m [&'w str],
 ) -> Selected<'m, 'w> {
     let (table, own_stream) = if name == "ids" {
         (Table::Ids, ID_STREAM)
     } else {
         (Table::Types, TYPE_STREAM)
     };
+    let uses = used_index(matches);
     let selection = Selection {
         names,
         ignores_case: matches.get_flag("ignore-case"),
         kinds,
         leaves_out_forward: matches.get_flag("no-forward"),
-        uses: used_index(matches),
-        used_names: used_names(matches),
+        uses,
+        used_names: names_only(used, uses.is_some()),
     };
     Selected {
         table,
