@@ -23,7 +23,7 @@ complete -c pdbdump -n '__fish_seen_subcommand_from types' -l stream -x -d 'The 
 complete -c pdbdump -n '__fish_seen_subcommand_from types' -l index -x -d 'Show only the record of this index, in full'
 complete -c pdbdump -n '__fish_seen_subcommand_from types' -l kind -x -d 'Show only types of this kind'
 complete -c pdbdump -n '__fish_seen_subcommand_from types' -l no-forward -d 'Leave out forward references'
-complete -c pdbdump -n '__fish_seen_subcommand_from types' -l uses -x -d 'Show only types that refer to the type of this index'
+complete -c pdbdump -n '__fish_seen_subcommand_from types' -l uses -x -d 'Show only types that refer to this one, by its index or name'
 complete -c pdbdump -n '__fish_seen_subcommand_from types' -l ignore-case -d 'Ignore the case of ASCII letters in a NAME'
 complete -c pdbdump -n '__fish_seen_subcommand_from types' -l json -d 'Write each line as a JSON object'
 complete -c pdbdump -n '__fish_seen_subcommand_from types' -l help -d 'Print help'
