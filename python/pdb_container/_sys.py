@@ -4,7 +4,7 @@ from ctypes import Structure, c_size_t, c_uint8, c_uint16, c_uint32, c_uint64, c
 from enum import IntEnum, IntFlag
 
 # The version of the header, as pdb_version gives that of the library.
-VERSION = 100
+VERSION = 200
 
 
 class Status(IntEnum):
@@ -30,37 +30,10 @@ class Status(IntEnum):
     ALREADY_OPEN = 100
     NOT_OPEN = 101
     TOO_SMALL = 102
-    TOO_LONG = 103
     NO_TEXT = 104
     END = 105
     NONE = 106
     UNMAPPED = 107
-
-
-class IdentityFlag(IntFlag):
-    """What the debug information says of the file."""
-
-    LINKED_INCREMENTALLY = 1
-    PRIVATE_SYMBOLS_STRIPPED = 2
-    TYPES_MAY_CONFLICT = 4
-
-
-class Feature(IntFlag):
-    """The features that the file tells of itself, in the numbers after the stream names in stream
-    1. If VC110 is among them, those behind it are not read."""
-
-    VC110 = 1
-    VC140 = 2
-    NO_TYPE_MERGE = 4
-    MINIMAL = 8
-
-
-class KeyForm(IntEnum):
-    """The forms of a key."""
-
-    UPPER = 0
-    LOWER = 1
-    GUID = 2
 
 
 class Format(IntEnum):
@@ -137,14 +110,40 @@ class Inconsistency(IntEnum):
 class StreamNumber(IntEnum):
     """Streams whose numbers are fixed, and the number that stands for none."""
 
-    TYPES_STREAM = 2
-    IDS_STREAM = 4
+    TYPES = 2
+    IDS = 4
     NO_STREAM = 0xffff
 
 
+class IdentityFlag(IntFlag):
+    """What the debug information says of the file."""
+
+    LINKED_INCREMENTALLY = 1
+    PRIVATE_SYMBOLS_STRIPPED = 2
+    TYPES_MAY_CONFLICT = 4
+
+
+class Feature(IntFlag):
+    """The features that the file tells of itself, in the numbers after the stream names in stream
+    1. If VC110 is among them, those behind it are not read."""
+
+    VC110 = 1
+    VC140 = 2
+    NO_TYPE_MERGE = 4
+    MINIMAL = 8
+
+
+class KeyForm(IntEnum):
+    """The forms of a key."""
+
+    UPPER = 0
+    LOWER = 1
+    GUID = 2
+
+
 class AddressForm(IntEnum):
-    """The forms of an address or a place. An RVA is an address in the image as it is loaded, and an
-    internal RVA is one in the original image, to which the parts of a program database refer."""
+    """The forms of an address. An RVA is an address in the image as it is loaded, and an internal
+    RVA is one in the original image, to which the parts of a program database refer."""
 
     RVA = 0
     SECTION_OFFSET = 1
@@ -164,7 +163,7 @@ class FrameKind(IntEnum):
 
 
 class Shape(IntEnum):
-    """The shapes of types."""
+    """The shapes of types and of ids."""
 
     PRIMITIVE = 0
     CLASS = 1
@@ -189,17 +188,12 @@ class Shape(IntEnum):
     ARGUMENT_LIST = 20
     METHOD_LIST = 21
     VIRTUAL_TABLE_SHAPE = 22
-
-
-class IdShape(IntEnum):
-    """The shapes of ids."""
-
-    FUNCTION = 0
-    MEMBER_FUNCTION = 1
-    BUILD_INFO = 2
-    STRING_LIST = 3
-    STRING = 4
-    TYPE_SOURCE = 5
+    FUNCTION_ID = 32
+    MEMBER_FUNCTION_ID = 33
+    BUILD_INFO_ID = 34
+    STRING_LIST_ID = 35
+    STRING_ID = 36
+    TYPE_SOURCE_ID = 37
 
 
 class Has(IntFlag):
@@ -352,6 +346,7 @@ class Handle(Structure):
     _fields_ = [
         ("held", c_void_p),
         ("kind", c_uint32),
+        ("fault", Fault),
     ]
 
 
@@ -360,22 +355,6 @@ class File(Structure):
         ("handle", Handle),
         ("bytes", c_void_p),
         ("length", c_size_t),
-    ]
-
-
-class Identity(Structure):
-    _fields_ = [
-        ("version", c_uint32),
-        ("signature", c_uint32),
-        ("age", c_uint32),
-        ("information_age", c_uint32),
-        ("has_debug_header", c_uint32),
-        ("debug_age", c_uint32),
-        ("machine", c_uint16),
-        ("flags", c_uint16),
-        ("guid", c_uint8 * 16),
-        ("has_features", c_uint32),
-        ("features", c_uint32),
     ]
 
 
@@ -397,17 +376,16 @@ class Finding(Structure):
     ]
 
 
-class Information(Structure):
+class Sizes(Structure):
     _fields_ = [
-        ("version", c_uint32),
-        ("signature", c_uint32),
-        ("age", c_uint32),
-        ("guid", c_uint8 * 16),
+        ("page_size", c_uint32),
+        ("stream_count", c_uint32),
     ]
 
 
 class NamedStream(Structure):
     _fields_ = [
+        ("name_offset", c_size_t),
         ("name_length", c_size_t),
         ("number", c_uint32),
     ]
@@ -426,6 +404,22 @@ class Roles(Structure):
         ("pdata", c_uint16),
         ("framedata", c_uint16),
         ("original_section_headers", c_uint16),
+    ]
+
+
+class Identity(Structure):
+    _fields_ = [
+        ("version", c_uint32),
+        ("signature", c_uint32),
+        ("age", c_uint32),
+        ("information_age", c_uint32),
+        ("has_debug_header", c_uint32),
+        ("debug_age", c_uint32),
+        ("machine", c_uint16),
+        ("flags", c_uint16),
+        ("guid", c_uint8 * 16),
+        ("has_features", c_uint32),
+        ("features", c_uint32),
     ]
 
 
@@ -465,7 +459,7 @@ class Section(Structure):
     ]
 
 
-class Place(Structure):
+class SectionOffset(Structure):
     _fields_ = [
         ("offset", c_uint32),
         ("section", c_uint32),
@@ -476,12 +470,12 @@ class Translation(Structure):
     _fields_ = [
         ("has_rva", c_uint32),
         ("rva", c_uint32),
-        ("has_place", c_uint32),
-        ("place", Place),
+        ("has_section_offset", c_uint32),
+        ("section_offset", SectionOffset),
         ("has_internal_rva", c_uint32),
         ("internal_rva", c_uint32),
-        ("has_internal_place", c_uint32),
-        ("internal_place", Place),
+        ("has_internal_section_offset", c_uint32),
+        ("internal_section_offset", SectionOffset),
     ]
 
 
@@ -505,6 +499,13 @@ class Frame(Structure):
     ]
 
 
+class IndexRange(Structure):
+    _fields_ = [
+        ("first", c_uint32),
+        ("end", c_uint32),
+    ]
+
+
 class Record(Structure):
     _fields_ = [
         ("index", c_uint32),
@@ -515,7 +516,7 @@ class Record(Structure):
 
 class FoundRecord(Structure):
     _fields_ = [
-        ("place", Record),
+        ("position", Record),
         ("fault", Fault),
     ]
 
@@ -539,7 +540,7 @@ class Row(Structure):
 
 class Type(Structure):
     _fields_ = [
-        ("place", Record),
+        ("position", Record),
         ("fault", Fault),
         ("info", Row),
     ]
@@ -548,6 +549,7 @@ class Type(Structure):
 class Field(Structure):
     _fields_ = [
         ("info", Row),
+        ("name_offset", c_size_t),
         ("name_length", c_size_t),
         ("has_name", c_uint32),
     ]
@@ -557,6 +559,7 @@ class LayoutRow(Structure):
     _fields_ = [
         ("offset", c_uint64),
         ("size", c_uint64),
+        ("name_offset", c_size_t),
         ("name_length", c_size_t),
         ("kind", c_uint32),
         ("extent", c_uint32),
@@ -647,61 +650,50 @@ PRIMITIVES = {
 # The result and the parameters of each call. A pointer is an address.
 FUNCTIONS = {
     "pdb_version": (c_uint32, []),
-    "pdb_error_text": (c_uint32, [c_void_p, c_void_p, c_size_t, c_void_p, c_void_p]),
-    "pdb_close": (None, [c_void_p]),
-    "pdb_identity_of": (c_uint32, [c_void_p, c_size_t, c_void_p, c_void_p]),
-    "pdb_key": (c_uint32, [c_void_p, c_uint32, c_void_p, c_size_t, c_void_p, c_void_p]),
+    "pdb_fault_text": (c_uint32, [c_void_p, c_void_p, c_size_t, c_void_p]),
+    "pdb_handle_close": (None, [c_void_p]),
     "pdb_format_of": (c_uint32, [c_void_p, c_size_t]),
-    "pdb_validate": (c_uint32, [c_void_p, c_size_t, c_uint32, c_void_p, c_size_t, c_void_p, c_void_p]),
-    "pdb_file_open": (c_uint32, [c_void_p, c_size_t, c_void_p, c_void_p]),
-    "pdb_file_page_size": (c_uint32, [c_void_p, c_void_p, c_void_p]),
-    "pdb_file_stream_count": (c_uint32, [c_void_p, c_void_p, c_void_p]),
-    "pdb_file_stream_size": (c_uint32, [c_void_p, c_uint32, c_void_p, c_void_p]),
-    "pdb_file_stream": (c_uint32, [c_void_p, c_uint32, c_size_t, c_void_p, c_size_t, c_void_p, c_void_p]),
-    "pdb_file_named_stream": (c_uint32, [c_void_p, c_void_p, c_size_t, c_void_p, c_size_t, c_void_p, c_void_p]),
-    "pdb_file_information": (c_uint32, [c_void_p, c_void_p, c_void_p]),
-    "pdb_file_stream_names": (c_uint32, [c_void_p, c_void_p, c_size_t, c_void_p, c_void_p, c_size_t, c_void_p, c_void_p]),
-    "pdb_file_roles": (c_uint32, [c_void_p, c_void_p, c_void_p]),
-    "pdb_file_addresses": (c_uint32, [c_void_p, c_void_p, c_void_p]),
-    "pdb_file_frames": (c_uint32, [c_void_p, c_void_p, c_void_p]),
-    "pdb_names_open": (c_uint32, [c_void_p, c_size_t, c_void_p, c_void_p]),
-    "pdb_names_place": (c_uint32, [c_void_p, c_uint32, c_void_p, c_void_p]),
-    "pdb_names_places": (c_uint32, [c_void_p, c_void_p, c_size_t, c_void_p, c_size_t, c_void_p, c_void_p]),
-    "pdb_omap_open": (c_uint32, [c_void_p, c_size_t, c_void_p, c_void_p]),
-    "pdb_omap_records": (c_uint32, [c_void_p, c_void_p, c_size_t, c_void_p, c_void_p]),
-    "pdb_omap_is_sorted": (c_uint32, [c_void_p, c_void_p, c_void_p]),
-    "pdb_omap_lookup": (c_uint32, [c_void_p, c_uint32, c_void_p, c_void_p]),
-    "pdb_omap_ranges": (c_uint32, [c_void_p, c_uint32, c_uint32, c_void_p, c_size_t, c_void_p, c_void_p]),
-    "pdb_sections": (c_uint32, [c_void_p, c_size_t, c_void_p, c_size_t, c_void_p, c_void_p]),
-    "pdb_translate": (c_uint32, [c_void_p, c_uint32, c_uint16, c_uint32, c_void_p, c_void_p]),
-    "pdb_rva_ranges": (c_uint32, [c_void_p, c_uint32, c_uint32, c_void_p, c_size_t, c_void_p, c_void_p]),
-    "pdb_internal_rva_ranges": (c_uint32, [c_void_p, c_uint32, c_uint32, c_void_p, c_size_t, c_void_p, c_void_p]),
-    "pdb_frames_at": (c_uint32, [c_void_p, c_uint32, c_void_p, c_void_p]),
-    "pdb_frames_list": (c_uint32, [c_void_p, c_void_p, c_size_t, c_void_p, c_void_p]),
-    "pdb_types_open": (c_uint32, [c_void_p, c_size_t, c_void_p, c_void_p]),
-    "pdb_types_first_index": (c_uint32, [c_void_p, c_void_p, c_void_p]),
-    "pdb_types_count": (c_uint32, [c_void_p, c_void_p, c_void_p]),
-    "pdb_types_find": (c_uint32, [c_void_p, c_uint32, c_void_p, c_void_p]),
-    "pdb_types_find_all": (c_uint32, [c_void_p, c_void_p, c_size_t, c_void_p, c_size_t, c_void_p, c_void_p]),
-    "pdb_types_next": (c_uint32, [c_void_p, c_void_p, c_void_p]),
-    "pdb_types_rewind": (c_uint32, [c_void_p, c_void_p]),
-    "pdb_type_parse": (c_uint32, [c_void_p, c_size_t, c_uint32, c_void_p, c_void_p]),
-    "pdb_types_read": (c_uint32, [c_void_p, c_void_p, c_size_t, c_void_p, c_void_p]),
-    "pdb_type_name": (c_uint32, [c_void_p, c_size_t, c_uint32, c_void_p, c_size_t, c_void_p, c_void_p]),
-    "pdb_type_unique_name": (c_uint32, [c_void_p, c_size_t, c_uint32, c_void_p, c_size_t, c_void_p, c_void_p]),
-    "pdb_type_arguments": (c_uint32, [c_void_p, c_size_t, c_uint32, c_void_p, c_size_t, c_void_p, c_void_p]),
-    "pdb_type_dimensions": (c_uint32, [c_void_p, c_size_t, c_uint32, c_void_p, c_size_t, c_void_p, c_void_p]),
-    "pdb_type_methods": (c_uint32, [c_void_p, c_size_t, c_uint32, c_void_p, c_size_t, c_void_p, c_void_p]),
-    "pdb_type_fields": (c_uint32, [c_void_p, c_size_t, c_uint32, c_void_p, c_size_t, c_void_p, c_void_p, c_size_t, c_void_p, c_void_p]),
-    "pdb_types_fields": (c_uint32, [c_void_p, c_uint32, c_void_p, c_size_t, c_void_p, c_void_p, c_size_t, c_void_p, c_void_p]),
+    "pdb_validate": (c_uint32, [c_void_p, c_size_t, c_uint32, c_void_p, c_size_t, c_void_p]),
+    "pdb_file_open": (c_uint32, [c_void_p, c_size_t, c_void_p]),
+    "pdb_file_sizes": (c_uint32, [c_void_p, c_void_p]),
+    "pdb_file_stream_size": (c_uint32, [c_void_p, c_uint32, c_void_p]),
+    "pdb_file_stream": (c_uint32, [c_void_p, c_uint32, c_size_t, c_void_p, c_size_t, c_void_p]),
+    "pdb_file_named_stream": (c_uint32, [c_void_p, c_void_p, c_size_t, c_void_p, c_size_t, c_void_p]),
+    "pdb_file_stream_names": (c_uint32, [c_void_p, c_void_p, c_size_t, c_void_p, c_void_p, c_size_t, c_void_p]),
+    "pdb_file_roles": (c_uint32, [c_void_p, c_void_p]),
+    "pdb_file_identity": (c_uint32, [c_void_p, c_void_p]),
+    "pdb_key": (c_uint32, [c_void_p, c_uint32, c_void_p, c_size_t, c_void_p]),
+    "pdb_names_open": (c_uint32, [c_void_p, c_void_p]),
+    "pdb_names_get": (c_uint32, [c_void_p, c_uint32, c_void_p, c_size_t, c_void_p]),
+    "pdb_names_places": (c_uint32, [c_void_p, c_void_p, c_size_t, c_void_p, c_size_t, c_void_p]),
+    "pdb_omap_open": (c_uint32, [c_void_p, c_uint32, c_void_p]),
+    "pdb_omap_records": (c_uint32, [c_void_p, c_void_p, c_size_t, c_void_p]),
+    "pdb_omap_is_sorted": (c_uint32, [c_void_p, c_void_p]),
+    "pdb_omap_lookup": (c_uint32, [c_void_p, c_uint32, c_void_p]),
+    "pdb_omap_ranges": (c_uint32, [c_void_p, c_uint32, c_uint32, c_void_p, c_size_t, c_void_p]),
+    "pdb_file_sections": (c_uint32, [c_void_p, c_uint32, c_void_p, c_size_t, c_void_p]),
+    "pdb_address_map_open": (c_uint32, [c_void_p, c_void_p]),
+    "pdb_translate": (c_uint32, [c_void_p, c_uint32, c_uint16, c_uint32, c_void_p]),
+    "pdb_address_ranges": (c_uint32, [c_void_p, c_uint32, c_uint32, c_uint32, c_void_p, c_size_t, c_void_p]),
+    "pdb_frames_open": (c_uint32, [c_void_p, c_void_p]),
+    "pdb_frames_at": (c_uint32, [c_void_p, c_uint32, c_void_p]),
+    "pdb_frames_list": (c_uint32, [c_void_p, c_void_p, c_size_t, c_void_p]),
+    "pdb_types_open": (c_uint32, [c_void_p, c_uint32, c_void_p]),
+    "pdb_types_range": (c_uint32, [c_void_p, c_void_p]),
+    "pdb_types_find": (c_uint32, [c_void_p, c_void_p, c_size_t, c_void_p, c_size_t, c_void_p]),
+    "pdb_types_read": (c_uint32, [c_void_p, c_void_p, c_size_t, c_void_p]),
+    "pdb_types_rewind": (c_uint32, [c_void_p]),
+    "pdb_type_parse": (c_uint32, [c_void_p, c_uint32, c_void_p]),
+    "pdb_type_record": (c_uint32, [c_void_p, c_uint32, c_void_p, c_size_t, c_void_p]),
+    "pdb_type_name": (c_uint32, [c_void_p, c_uint32, c_void_p, c_size_t, c_void_p]),
+    "pdb_type_unique_name": (c_uint32, [c_void_p, c_uint32, c_void_p, c_size_t, c_void_p]),
+    "pdb_type_numbers": (c_uint32, [c_void_p, c_uint32, c_void_p, c_size_t, c_void_p]),
+    "pdb_type_methods": (c_uint32, [c_void_p, c_uint32, c_void_p, c_size_t, c_void_p]),
+    "pdb_type_fields": (c_uint32, [c_void_p, c_uint32, c_uint32, c_void_p, c_size_t, c_void_p, c_void_p, c_size_t, c_void_p]),
     "pdb_enumerator_typed": (None, [c_void_p, c_uint32]),
-    "pdb_id_parse": (c_uint32, [c_void_p, c_size_t, c_void_p, c_void_p]),
-    "pdb_id_name": (c_uint32, [c_void_p, c_size_t, c_void_p, c_size_t, c_void_p, c_void_p]),
-    "pdb_id_list": (c_uint32, [c_void_p, c_size_t, c_void_p, c_size_t, c_void_p, c_void_p]),
-    "pdb_definitions_open": (c_uint32, [c_void_p, c_size_t, c_void_p, c_void_p]),
-    "pdb_definitions_named": (c_uint32, [c_void_p, c_void_p, c_size_t, c_void_p, c_size_t, c_void_p, c_void_p]),
-    "pdb_definition_of": (c_uint32, [c_void_p, c_uint32, c_void_p, c_void_p]),
-    "pdb_type_size": (c_uint32, [c_void_p, c_uint32, c_void_p, c_void_p]),
-    "pdb_type_text": (c_uint32, [c_void_p, c_uint32, c_void_p, c_size_t, c_void_p, c_size_t, c_void_p, c_void_p]),
-    "pdb_layout": (c_uint32, [c_void_p, c_uint32, c_void_p, c_size_t, c_void_p, c_void_p, c_size_t, c_void_p, c_void_p]),
+    "pdb_types_named": (c_uint32, [c_void_p, c_void_p, c_size_t, c_void_p, c_size_t, c_void_p]),
+    "pdb_type_definition": (c_uint32, [c_void_p, c_uint32, c_void_p]),
+    "pdb_type_size": (c_uint32, [c_void_p, c_uint32, c_void_p]),
+    "pdb_type_text": (c_uint32, [c_void_p, c_uint32, c_void_p, c_size_t, c_void_p, c_size_t, c_void_p]),
+    "pdb_type_layout": (c_uint32, [c_void_p, c_uint32, c_void_p, c_size_t, c_void_p, c_void_p, c_size_t, c_void_p]),
 }

@@ -5,7 +5,7 @@
 
 use std::ffi::c_void;
 
-pub const PDB_VERSION: u32 = 100;
+pub const PDB_VERSION: u32 = 200;
 
 #[repr(C)]
 #[derive(Debug, Clone, Copy, Default, PartialEq, Eq)]
@@ -20,6 +20,7 @@ pub struct Fault {
 pub struct Handle {
     pub held: *mut c_void,
     pub kind: u32,
+    pub fault: Fault,
 }
 
 #[repr(C)]
@@ -28,22 +29,6 @@ pub struct File {
     pub handle: Handle,
     pub bytes: *mut u8,
     pub length: usize,
-}
-
-#[repr(C)]
-#[derive(Debug, Clone, Copy, Default, PartialEq, Eq)]
-pub struct Identity {
-    pub version: u32,
-    pub signature: u32,
-    pub age: u32,
-    pub information_age: u32,
-    pub has_debug_header: u32,
-    pub debug_age: u32,
-    pub machine: u16,
-    pub flags: u16,
-    pub guid: [u8; 16],
-    pub has_features: u32,
-    pub features: u32,
 }
 
 #[repr(C)]
@@ -66,16 +51,15 @@ pub struct Finding {
 
 #[repr(C)]
 #[derive(Debug, Clone, Copy, Default, PartialEq, Eq)]
-pub struct Information {
-    pub version: u32,
-    pub signature: u32,
-    pub age: u32,
-    pub guid: [u8; 16],
+pub struct Sizes {
+    pub page_size: u32,
+    pub stream_count: u32,
 }
 
 #[repr(C)]
 #[derive(Debug, Clone, Copy, Default, PartialEq, Eq)]
 pub struct NamedStream {
+    pub name_offset: usize,
     pub name_length: usize,
     pub number: u32,
 }
@@ -94,6 +78,22 @@ pub struct Roles {
     pub pdata: u16,
     pub framedata: u16,
     pub original_section_headers: u16,
+}
+
+#[repr(C)]
+#[derive(Debug, Clone, Copy, Default, PartialEq, Eq)]
+pub struct Identity {
+    pub version: u32,
+    pub signature: u32,
+    pub age: u32,
+    pub information_age: u32,
+    pub has_debug_header: u32,
+    pub debug_age: u32,
+    pub machine: u16,
+    pub flags: u16,
+    pub guid: [u8; 16],
+    pub has_features: u32,
+    pub features: u32,
 }
 
 #[repr(C)]
@@ -134,7 +134,7 @@ pub struct Section {
 
 #[repr(C)]
 #[derive(Debug, Clone, Copy, Default, PartialEq, Eq)]
-pub struct Place {
+pub struct SectionOffset {
     pub offset: u32,
     pub section: u32,
 }
@@ -144,12 +144,12 @@ pub struct Place {
 pub struct Translation {
     pub has_rva: u32,
     pub rva: u32,
-    pub has_place: u32,
-    pub place: Place,
+    pub has_section_offset: u32,
+    pub section_offset: SectionOffset,
     pub has_internal_rva: u32,
     pub internal_rva: u32,
-    pub has_internal_place: u32,
-    pub internal_place: Place,
+    pub has_internal_section_offset: u32,
+    pub internal_section_offset: SectionOffset,
 }
 
 #[repr(C)]
@@ -174,6 +174,13 @@ pub struct Frame {
 
 #[repr(C)]
 #[derive(Debug, Clone, Copy, Default, PartialEq, Eq)]
+pub struct IndexRange {
+    pub first: u32,
+    pub end: u32,
+}
+
+#[repr(C)]
+#[derive(Debug, Clone, Copy, Default, PartialEq, Eq)]
 pub struct Record {
     pub index: u32,
     pub offset: u32,
@@ -183,7 +190,7 @@ pub struct Record {
 #[repr(C)]
 #[derive(Debug, Clone, Copy, Default, PartialEq, Eq)]
 pub struct FoundRecord {
-    pub place: Record,
+    pub position: Record,
     pub fault: Fault,
 }
 
@@ -207,7 +214,7 @@ pub struct Row {
 #[repr(C)]
 #[derive(Debug, Clone, Copy, Default, PartialEq, Eq)]
 pub struct Type {
-    pub place: Record,
+    pub position: Record,
     pub fault: Fault,
     pub info: Row,
 }
@@ -216,6 +223,7 @@ pub struct Type {
 #[derive(Debug, Clone, Copy, Default, PartialEq, Eq)]
 pub struct Field {
     pub info: Row,
+    pub name_offset: usize,
     pub name_length: usize,
     pub has_name: u32,
 }
@@ -225,6 +233,7 @@ pub struct Field {
 pub struct LayoutRow {
     pub offset: u64,
     pub size: u64,
+    pub name_offset: usize,
     pub name_length: usize,
     pub kind: u32,
     pub extent: u32,
@@ -256,24 +265,10 @@ pub const PDB_OUT_OF_MEMORY: u32 = 28;
 pub const PDB_ALREADY_OPEN: u32 = 100;
 pub const PDB_NOT_OPEN: u32 = 101;
 pub const PDB_TOO_SMALL: u32 = 102;
-pub const PDB_TOO_LONG: u32 = 103;
 pub const PDB_NO_TEXT: u32 = 104;
 pub const PDB_END: u32 = 105;
 pub const PDB_NONE: u32 = 106;
 pub const PDB_UNMAPPED: u32 = 107;
-
-pub const PDB_LINKED_INCREMENTALLY: u32 = 1;
-pub const PDB_PRIVATE_SYMBOLS_STRIPPED: u32 = 2;
-pub const PDB_TYPES_MAY_CONFLICT: u32 = 4;
-
-pub const PDB_FEATURE_VC110: u32 = 1;
-pub const PDB_FEATURE_VC140: u32 = 2;
-pub const PDB_FEATURE_NO_TYPE_MERGE: u32 = 4;
-pub const PDB_FEATURE_MINIMAL: u32 = 8;
-
-pub const PDB_KEY_UPPER: u32 = 0;
-pub const PDB_KEY_LOWER: u32 = 1;
-pub const PDB_KEY_GUID: u32 = 2;
 
 pub const PDB_FORMAT_UNKNOWN: u32 = 0;
 pub const PDB_FORMAT_MSF_7: u32 = 1;
@@ -333,9 +328,22 @@ pub const PDB_SYMBOL_HASH_SIZES: u32 = 31;
 pub const PDB_PUBLIC_SIZES: u32 = 32;
 pub const PDB_SYMBOL_CUT: u32 = 33;
 
-pub const PDB_TYPES_STREAM: u32 = 2;
-pub const PDB_IDS_STREAM: u32 = 4;
+pub const PDB_TYPES: u32 = 2;
+pub const PDB_IDS: u32 = 4;
 pub const PDB_NO_STREAM: u32 = 0xffff;
+
+pub const PDB_LINKED_INCREMENTALLY: u32 = 1;
+pub const PDB_PRIVATE_SYMBOLS_STRIPPED: u32 = 2;
+pub const PDB_TYPES_MAY_CONFLICT: u32 = 4;
+
+pub const PDB_FEATURE_VC110: u32 = 1;
+pub const PDB_FEATURE_VC140: u32 = 2;
+pub const PDB_FEATURE_NO_TYPE_MERGE: u32 = 4;
+pub const PDB_FEATURE_MINIMAL: u32 = 8;
+
+pub const PDB_KEY_UPPER: u32 = 0;
+pub const PDB_KEY_LOWER: u32 = 1;
+pub const PDB_KEY_GUID: u32 = 2;
 
 pub const PDB_RVA: u32 = 0;
 pub const PDB_SECTION_OFFSET: u32 = 1;
@@ -372,13 +380,12 @@ pub const PDB_FIELD_LIST: u32 = 19;
 pub const PDB_ARGUMENT_LIST: u32 = 20;
 pub const PDB_METHOD_LIST: u32 = 21;
 pub const PDB_VIRTUAL_TABLE_SHAPE: u32 = 22;
-
-pub const PDB_ID_FUNCTION: u32 = 0;
-pub const PDB_ID_MEMBER_FUNCTION: u32 = 1;
-pub const PDB_ID_BUILD_INFO: u32 = 2;
-pub const PDB_ID_STRING_LIST: u32 = 3;
-pub const PDB_ID_STRING: u32 = 4;
-pub const PDB_ID_TYPE_SOURCE: u32 = 5;
+pub const PDB_FUNCTION_ID: u32 = 32;
+pub const PDB_MEMBER_FUNCTION_ID: u32 = 33;
+pub const PDB_BUILD_INFO_ID: u32 = 34;
+pub const PDB_STRING_LIST_ID: u32 = 35;
+pub const PDB_STRING_ID: u32 = 36;
+pub const PDB_TYPE_SOURCE_ID: u32 = 37;
 
 pub const PDB_HAS_KIND: u32 = 1;
 pub const PDB_HAS_ATTRIBUTES: u32 = 2;
@@ -481,61 +488,50 @@ pub const PDB_EXTENT_UNKNOWN: u32 = 2;
 
 unsafe extern "C" {
     pub fn pdb_version() -> u32;
-    pub fn pdb_error_text(about: *const Fault, room: *mut u8, room_length: usize, length: *mut usize, fault: *mut Fault) -> u32;
-    pub fn pdb_close(handle: *mut Handle);
-    pub fn pdb_identity_of(file: *const u8, file_length: usize, identity: *mut Identity, fault: *mut Fault) -> u32;
-    pub fn pdb_key(identity: *const Identity, form: u32, room: *mut u8, room_length: usize, length: *mut usize, fault: *mut Fault) -> u32;
+    pub fn pdb_fault_text(fault: *const Fault, buffer: *mut u8, buffer_length: usize, length: *mut usize) -> u32;
+    pub fn pdb_handle_close(handle: *mut Handle);
     pub fn pdb_format_of(file: *const u8, file_length: usize) -> u32;
-    pub fn pdb_validate(file: *const u8, file_length: usize, every: u32, room: *mut Finding, room_length: usize, length: *mut usize, fault: *mut Fault) -> u32;
-    pub fn pdb_file_open(bytes: *const u8, bytes_length: usize, file: *mut File, fault: *mut Fault) -> u32;
-    pub fn pdb_file_page_size(file: *mut File, page_size: *mut u32, fault: *mut Fault) -> u32;
-    pub fn pdb_file_stream_count(file: *mut File, count: *mut u32, fault: *mut Fault) -> u32;
-    pub fn pdb_file_stream_size(file: *mut File, number: u32, size: *mut u32, fault: *mut Fault) -> u32;
-    pub fn pdb_file_stream(file: *mut File, number: u32, limit: usize, room: *mut u8, room_length: usize, length: *mut usize, fault: *mut Fault) -> u32;
-    pub fn pdb_file_named_stream(file: *mut File, name: *const u8, name_length: usize, room: *mut u8, room_length: usize, length: *mut usize, fault: *mut Fault) -> u32;
-    pub fn pdb_file_information(file: *mut File, information: *mut Information, fault: *mut Fault) -> u32;
-    pub fn pdb_file_stream_names(file: *mut File, rows: *mut NamedStream, rows_length: usize, count: *mut usize, names: *mut u8, names_length: usize, size: *mut usize, fault: *mut Fault) -> u32;
-    pub fn pdb_file_roles(file: *mut File, roles: *mut Roles, fault: *mut Fault) -> u32;
-    pub fn pdb_file_addresses(file: *mut File, addresses: *mut Handle, fault: *mut Fault) -> u32;
-    pub fn pdb_file_frames(file: *mut File, frames: *mut Handle, fault: *mut Fault) -> u32;
-    pub fn pdb_names_open(stream: *const u8, stream_length: usize, names: *mut Handle, fault: *mut Fault) -> u32;
-    pub fn pdb_names_place(names: *mut Handle, offset: u32, place: *mut Name, fault: *mut Fault) -> u32;
-    pub fn pdb_names_places(names: *mut Handle, offsets: *const u32, offsets_length: usize, room: *mut Name, room_length: usize, length: *mut usize, fault: *mut Fault) -> u32;
-    pub fn pdb_omap_open(stream: *const u8, stream_length: usize, omap: *mut Handle, fault: *mut Fault) -> u32;
-    pub fn pdb_omap_records(omap: *mut Handle, room: *mut OmapRecord, room_length: usize, length: *mut usize, fault: *mut Fault) -> u32;
-    pub fn pdb_omap_is_sorted(omap: *mut Handle, is_sorted: *mut u32, fault: *mut Fault) -> u32;
-    pub fn pdb_omap_lookup(omap: *mut Handle, address: u32, target: *mut u32, fault: *mut Fault) -> u32;
-    pub fn pdb_omap_ranges(omap: *mut Handle, start: u32, end: u32, room: *mut Span, room_length: usize, length: *mut usize, fault: *mut Fault) -> u32;
-    pub fn pdb_sections(stream: *const u8, stream_length: usize, room: *mut Section, room_length: usize, count: *mut usize, fault: *mut Fault) -> u32;
-    pub fn pdb_translate(addresses: *mut Handle, form: u32, section: u16, offset: u32, translation: *mut Translation, fault: *mut Fault) -> u32;
-    pub fn pdb_rva_ranges(addresses: *mut Handle, start: u32, end: u32, room: *mut Span, room_length: usize, length: *mut usize, fault: *mut Fault) -> u32;
-    pub fn pdb_internal_rva_ranges(addresses: *mut Handle, start: u32, end: u32, room: *mut Span, room_length: usize, length: *mut usize, fault: *mut Fault) -> u32;
-    pub fn pdb_frames_at(frames: *mut Handle, address: u32, frame: *mut Frame, fault: *mut Fault) -> u32;
-    pub fn pdb_frames_list(frames: *mut Handle, room: *mut Frame, room_length: usize, length: *mut usize, fault: *mut Fault) -> u32;
-    pub fn pdb_types_open(stream: *const u8, stream_length: usize, table: *mut Handle, fault: *mut Fault) -> u32;
-    pub fn pdb_types_first_index(table: *mut Handle, index: *mut u32, fault: *mut Fault) -> u32;
-    pub fn pdb_types_count(table: *mut Handle, count: *mut u32, fault: *mut Fault) -> u32;
-    pub fn pdb_types_find(table: *mut Handle, index: u32, record: *mut Record, fault: *mut Fault) -> u32;
-    pub fn pdb_types_find_all(table: *mut Handle, indexes: *const u32, indexes_length: usize, room: *mut FoundRecord, room_length: usize, length: *mut usize, fault: *mut Fault) -> u32;
-    pub fn pdb_types_next(table: *mut Handle, record: *mut Record, fault: *mut Fault) -> u32;
-    pub fn pdb_types_rewind(table: *mut Handle, fault: *mut Fault) -> u32;
-    pub fn pdb_type_parse(record: *const u8, record_length: usize, index: u32, info: *mut Row, fault: *mut Fault) -> u32;
-    pub fn pdb_types_read(table: *mut Handle, types: *mut Type, types_length: usize, count: *mut usize, fault: *mut Fault) -> u32;
-    pub fn pdb_type_name(record: *const u8, record_length: usize, index: u32, room: *mut u8, room_length: usize, length: *mut usize, fault: *mut Fault) -> u32;
-    pub fn pdb_type_unique_name(record: *const u8, record_length: usize, index: u32, room: *mut u8, room_length: usize, length: *mut usize, fault: *mut Fault) -> u32;
-    pub fn pdb_type_arguments(record: *const u8, record_length: usize, index: u32, room: *mut u32, room_length: usize, length: *mut usize, fault: *mut Fault) -> u32;
-    pub fn pdb_type_dimensions(record: *const u8, record_length: usize, index: u32, room: *mut u32, room_length: usize, length: *mut usize, fault: *mut Fault) -> u32;
-    pub fn pdb_type_methods(record: *const u8, record_length: usize, index: u32, room: *mut Row, room_length: usize, length: *mut usize, fault: *mut Fault) -> u32;
-    pub fn pdb_type_fields(record: *const u8, record_length: usize, index: u32, rows: *mut Field, rows_length: usize, count: *mut usize, names: *mut u8, names_length: usize, size: *mut usize, fault: *mut Fault) -> u32;
-    pub fn pdb_types_fields(table: *mut Handle, index: u32, rows: *mut Field, rows_length: usize, count: *mut usize, names: *mut u8, names_length: usize, size: *mut usize, fault: *mut Fault) -> u32;
+    pub fn pdb_validate(bytes: *const u8, bytes_length: usize, every: u32, findings: *mut Finding, findings_length: usize, length: *mut usize) -> u32;
+    pub fn pdb_file_open(bytes: *const u8, bytes_length: usize, file: *mut File) -> u32;
+    pub fn pdb_file_sizes(file: *mut File, sizes: *mut Sizes) -> u32;
+    pub fn pdb_file_stream_size(file: *mut File, number: u32, size: *mut u32) -> u32;
+    pub fn pdb_file_stream(file: *mut File, number: u32, limit: usize, buffer: *mut u8, buffer_length: usize, length: *mut usize) -> u32;
+    pub fn pdb_file_named_stream(file: *mut File, name: *const u8, name_length: usize, buffer: *mut u8, buffer_length: usize, length: *mut usize) -> u32;
+    pub fn pdb_file_stream_names(file: *mut File, rows: *mut NamedStream, rows_length: usize, count: *mut usize, names: *mut u8, names_length: usize, size: *mut usize) -> u32;
+    pub fn pdb_file_roles(file: *mut File, roles: *mut Roles) -> u32;
+    pub fn pdb_file_identity(file: *mut File, identity: *mut Identity) -> u32;
+    pub fn pdb_key(identity: *const Identity, form: u32, buffer: *mut u8, buffer_length: usize, length: *mut usize) -> u32;
+    pub fn pdb_names_open(file: *mut File, names: *mut Handle) -> u32;
+    pub fn pdb_names_get(names: *mut Handle, offset: u32, buffer: *mut u8, buffer_length: usize, length: *mut usize) -> u32;
+    pub fn pdb_names_places(names: *mut Handle, offsets: *const u32, offsets_length: usize, places: *mut Name, places_length: usize, length: *mut usize) -> u32;
+    pub fn pdb_omap_open(file: *mut File, number: u32, omap: *mut Handle) -> u32;
+    pub fn pdb_omap_records(omap: *mut Handle, records: *mut OmapRecord, records_length: usize, length: *mut usize) -> u32;
+    pub fn pdb_omap_is_sorted(omap: *mut Handle, is_sorted: *mut u32) -> u32;
+    pub fn pdb_omap_lookup(omap: *mut Handle, address: u32, target: *mut u32) -> u32;
+    pub fn pdb_omap_ranges(omap: *mut Handle, start: u32, end: u32, spans: *mut Span, spans_length: usize, length: *mut usize) -> u32;
+    pub fn pdb_file_sections(file: *mut File, number: u32, sections: *mut Section, sections_length: usize, length: *mut usize) -> u32;
+    pub fn pdb_address_map_open(file: *mut File, map: *mut Handle) -> u32;
+    pub fn pdb_translate(map: *mut Handle, form: u32, section: u16, offset: u32, translation: *mut Translation) -> u32;
+    pub fn pdb_address_ranges(map: *mut Handle, form: u32, start: u32, end: u32, spans: *mut Span, spans_length: usize, length: *mut usize) -> u32;
+    pub fn pdb_frames_open(file: *mut File, frames: *mut Handle) -> u32;
+    pub fn pdb_frames_at(frames: *mut Handle, address: u32, frame: *mut Frame) -> u32;
+    pub fn pdb_frames_list(frames: *mut Handle, rows: *mut Frame, rows_length: usize, length: *mut usize) -> u32;
+    pub fn pdb_types_open(file: *mut File, number: u32, types: *mut Handle) -> u32;
+    pub fn pdb_types_range(types: *mut Handle, range: *mut IndexRange) -> u32;
+    pub fn pdb_types_find(types: *mut Handle, indexes: *const u32, indexes_length: usize, records: *mut FoundRecord, records_length: usize, length: *mut usize) -> u32;
+    pub fn pdb_types_read(types: *mut Handle, rows: *mut Type, rows_length: usize, count: *mut usize) -> u32;
+    pub fn pdb_types_rewind(types: *mut Handle) -> u32;
+    pub fn pdb_type_parse(types: *mut Handle, index: u32, info: *mut Row) -> u32;
+    pub fn pdb_type_record(types: *mut Handle, index: u32, buffer: *mut u8, buffer_length: usize, length: *mut usize) -> u32;
+    pub fn pdb_type_name(types: *mut Handle, index: u32, buffer: *mut u8, buffer_length: usize, length: *mut usize) -> u32;
+    pub fn pdb_type_unique_name(types: *mut Handle, index: u32, buffer: *mut u8, buffer_length: usize, length: *mut usize) -> u32;
+    pub fn pdb_type_numbers(types: *mut Handle, index: u32, numbers: *mut u32, numbers_length: usize, length: *mut usize) -> u32;
+    pub fn pdb_type_methods(types: *mut Handle, index: u32, methods: *mut Row, methods_length: usize, length: *mut usize) -> u32;
+    pub fn pdb_type_fields(types: *mut Handle, index: u32, whole: u32, rows: *mut Field, rows_length: usize, count: *mut usize, names: *mut u8, names_length: usize, size: *mut usize) -> u32;
     pub fn pdb_enumerator_typed(info: *mut Row, underlying_type: u32);
-    pub fn pdb_id_parse(record: *const u8, record_length: usize, info: *mut Row, fault: *mut Fault) -> u32;
-    pub fn pdb_id_name(record: *const u8, record_length: usize, room: *mut u8, room_length: usize, length: *mut usize, fault: *mut Fault) -> u32;
-    pub fn pdb_id_list(record: *const u8, record_length: usize, room: *mut u32, room_length: usize, length: *mut usize, fault: *mut Fault) -> u32;
-    pub fn pdb_definitions_open(stream: *const u8, stream_length: usize, definitions: *mut Handle, fault: *mut Fault) -> u32;
-    pub fn pdb_definitions_named(definitions: *mut Handle, name: *const u8, name_length: usize, room: *mut u32, room_length: usize, length: *mut usize, fault: *mut Fault) -> u32;
-    pub fn pdb_definition_of(definitions: *mut Handle, index: u32, definition: *mut u32, fault: *mut Fault) -> u32;
-    pub fn pdb_type_size(definitions: *mut Handle, index: u32, size: *mut u64, fault: *mut Fault) -> u32;
-    pub fn pdb_type_text(definitions: *mut Handle, index: u32, name: *const u8, name_length: usize, room: *mut u8, room_length: usize, length: *mut usize, fault: *mut Fault) -> u32;
-    pub fn pdb_layout(definitions: *mut Handle, index: u32, rows: *mut LayoutRow, rows_length: usize, count: *mut usize, names: *mut u8, names_length: usize, size: *mut usize, fault: *mut Fault) -> u32;
+    pub fn pdb_types_named(types: *mut Handle, name: *const u8, name_length: usize, indexes: *mut u32, indexes_length: usize, length: *mut usize) -> u32;
+    pub fn pdb_type_definition(types: *mut Handle, index: u32, definition: *mut u32) -> u32;
+    pub fn pdb_type_size(types: *mut Handle, index: u32, size: *mut u64) -> u32;
+    pub fn pdb_type_text(types: *mut Handle, index: u32, name: *const u8, name_length: usize, buffer: *mut u8, buffer_length: usize, length: *mut usize) -> u32;
+    pub fn pdb_type_layout(types: *mut Handle, index: u32, rows: *mut LayoutRow, rows_length: usize, count: *mut usize, names: *mut u8, names_length: usize, size: *mut usize) -> u32;
 }

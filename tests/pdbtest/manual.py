@@ -5,7 +5,7 @@ from dataclasses import dataclass, field
 
 from pdbtest.calls import call
 
-PROGRAM, VERSION = "pdbdump", "0.1.0"
+PROGRAM, VERSION = "pdbdump", "0.2.0"
 SHARE = "tools/share"
 EXAMPLES = """\
 pdbdump program.pdb

@@ -1,39 +1,39 @@
-//! OMAP tables and address maps, and the sections of which maps are made.
+//! OMAP tables and address maps.
 
-ghost use Rattle.std.specs.Prelude.{◌≡◌, map, Ok, Some, ◌<◌, ◌≤◌, length};
-ghost use Rattle.pdb_space.specs.Omap.{omap_table_of};
-ghost use Rattle.pdb_handles.specs.Copied.{CopiesAnswer, CopiesOrLacks, copied_of, nothing_copied};
-ghost use Rattle.pdb_handles.specs.Handle.{OpensStream, held_as, omap_held, Opens, addresses_held};
-ghost use Rattle.pdb_handles.specs.Addresses.{TellsMoved, TellsOrder, omap_info, WritesMoved, Translates};
-ghost use Rattle.pdb_handles.specs.{declared.content.Content.TheVariants.Omap, Fault.not_open, Fault.too_long};
-ghost use Rattle.pdb_handles.specs.{Found.AsksContent, Found.not_held, Handle.file_held};
-ghost use Rattle.pdb_handles.specs.File.{addresses_said, sections_told};
+ghost use Rattle.std.specs.Prelude.{◌≡◌, map, Ok, Some};
+ghost use Rattle.pdb_handles.specs.Addresses.{TellsMoved, TellsOrder, Translates, WritesMoved, WritesRangesOf};
+ghost use Rattle.pdb_handles.specs.Addresses.{omap_info};
+ghost use Rattle.pdb_handles.specs.Copied.{CopiesOrLacks, copied_of, nothing_copied};
+ghost use Rattle.pdb_handles.specs.{Fault.not_open, File.addresses_said, File.omap_said, Found.AsksContent};
+ghost use Rattle.pdb_handles.specs.{Found.not_held, Handle.OpensFrom, Handle.addresses_held, Handle.file_held};
+ghost use Rattle.pdb_handles.specs.{Handle.omap_held};
+ghost use Rattle.pdb_handles.specs.Kept.{HoldsFile, Keeps};
 
 use pdb_handles::addresses::{
-    OmapRow, Span, Translation, records_in, table_in, tell_order, translate, write_internal,
-    write_loaded, write_moved,
+    OmapRow, Span, Translation, records_in, tell_order, translate, write_moved, write_ranges,
 };
-use pdb_handles::copied::{copy_list, copy_nothing};
-use pdb_handles::file::{OpenFile, addresses_in};
+use pdb_handles::copied::copy_list;
+use pdb_handles::file::{OpenFile, addresses_in, omap_in};
 use pdb_handles::found::tell_found;
-use pdb_handles::sections::{Section, sections_in};
-use pdb_handles::{Fault, Handle, TOO_LONG, UNMAPPED};
-use pdb_space::{PdbInternalRva, Rva};
+use pdb_handles::{Fault, Handle, UNMAPPED};
 use std::alloc::Global;
 
-/// Opens the OMAP table in a stream, which is copied.
+/// Opens the OMAP table in a stream of a file.
 #[unsafe(no_mangle)]
 pub extern "C" fn pdb_omap_open(
     alloc: Global,
-    stream: &[u8],
+    file: &mut OpenFile<'_>,
+    number: u32,
     omap: &mut Handle,
-    fault: &mut Fault,
 ) -> u32
-    ensures opens { OpensStream stream.now omap.old.held.content
-        (held_as Omap (omap_table_of stream.now)) fault.new omap.new.held.content }
-    ensures status { result ≡ fault.new.status }
+    ensures opens { OpensFrom (file_held file.old.handle.held.content)
+        (λ layout. omap_said layout file.old.bytes.now number)
+        omap.old.held.content omap.new.fault omap.new.held.content }
+    ensures kept { HoldsFile file.old file.new }
+    ensures status { result ≡ omap.new.fault.status }
 {
-    open_stream!(omap, alloc, stream, table_in(alloc, stream)).tell(fault)
+    let bytes = file.bytes;
+    open_from!(file, omap, alloc, layout => omap_in(alloc, layout, bytes, number))
 }
 
 /// Copies the records of a table, in their order, into the caller's array.
@@ -43,32 +43,24 @@ pub extern "C" fn pdb_omap_records(
     omap: &mut Handle,
     room: &mut [OmapRow],
     length: &mut usize,
-    fault: &mut Fault,
 ) -> u32
-    ensures answer { CopiesOrLacks (record { fault = fault.new; length = length.new; room = room.new }) room.old
+    ensures answer { CopiesOrLacks (record { fault = omap.new.fault; length = length.new; room = room.new }) room.old
         (copied_of room.old (λ table. Ok (map omap_info table)) (omap_held omap.old.held.content)) }
-    ensures kept { omap.new.held.content ≡ omap.old.held.content }
-    ensures status { result ≡ fault.new.status }
+    ensures kept { Keeps omap.old omap.new result }
 {
     *length = 0;
-    ask!(omap, alloc, fault, Omap(table) => copy_list(records_in(alloc, table), room, length))
+    ask!(omap, alloc, Omap(table) => copy_list(records_in(alloc, table), room, length))
 }
 
 /// Writes 1 if no record of a table has a source below that of the record before it, and 0 if one
 /// has.
 #[unsafe(no_mangle)]
-pub extern "C" fn pdb_omap_is_sorted(
-    alloc: Global,
-    omap: &mut Handle,
-    is_sorted: &mut u32,
-    fault: &mut Fault,
-) -> u32
+pub extern "C" fn pdb_omap_is_sorted(alloc: Global, omap: &mut Handle, is_sorted: &mut u32) -> u32
     ensures answer { AsksContent TellsOrder (not_held is_sorted.old) (omap_held omap.old.held.content)
-        (record { fault = fault.new; value = is_sorted.new }) }
-    ensures kept { omap.new.held.content ≡ omap.old.held.content }
-    ensures status { result ≡ fault.new.status }
+        (record { fault = omap.new.fault; value = is_sorted.new }) }
+    ensures kept { Keeps omap.old omap.new result }
 {
-    ask!(omap, alloc, fault, Omap(table) => tell_order(table, is_sorted))
+    ask!(omap, alloc, Omap(table) => tell_order(table, is_sorted))
 }
 
 /// Looks up the address to which a table moves an address, and writes it.
@@ -78,14 +70,12 @@ pub extern "C" fn pdb_omap_lookup(
     omap: &mut Handle,
     address: u32,
     target: &mut u32,
-    fault: &mut Fault,
 ) -> u32
     ensures answer { AsksContent (λ table told. TellsMoved table address target.old told) (not_held target.old)
-        (omap_held omap.old.held.content) (record { fault = fault.new; value = target.new }) }
-    ensures kept { omap.new.held.content ≡ omap.old.held.content }
-    ensures status { result ≡ fault.new.status }
+        (omap_held omap.old.held.content) (record { fault = omap.new.fault; value = target.new }) }
+    ensures kept { Keeps omap.old omap.new result }
 {
-    ask!(omap, alloc, fault, Omap(table) => {
+    ask!(omap, alloc, Omap(table) => {
         tell_found(table.lookup(address), Fault::status(UNMAPPED), target)
     })
 }
@@ -101,57 +91,30 @@ pub extern "C" fn pdb_omap_ranges(
     end: u32,
     room: &mut [Span],
     length: &mut usize,
-    fault: &mut Fault,
 ) -> u32
     ensures answer { AsksContent (λ table. WritesMoved (Some table) (record { start = start; end = end }) room.old)
         (nothing_copied not_open room.old) (omap_held omap.old.held.content)
-        (record { fault = fault.new; length = length.new; room = room.new }) }
-    ensures kept { omap.new.held.content ≡ omap.old.held.content }
-    ensures status { result ≡ fault.new.status }
+        (record { fault = omap.new.fault; length = length.new; room = room.new }) }
+    ensures kept { Keeps omap.old omap.new result }
 {
     *length = 0;
-    ask!(omap, alloc, fault, Omap(table) => write_moved(alloc, table, start..end, room, length))
-}
-
-/// Writes the headers of the sections that a stream holds.
-#[unsafe(no_mangle)]
-pub extern "C" fn pdb_sections(
-    alloc: Global,
-    stream: &[u8],
-    room: &mut [Section],
-    count: &mut usize,
-    fault: &mut Fault,
-) -> u32
-    ensures answer { length stream.now < 0xffffffff
-        → CopiesAnswer (sections_told stream.now) room.old fault.new count.new room.new }
-    ensures long { 0xffffffff ≤ length stream.now
-        → record { fault = fault.new; length = count.new; room = room.new } ≡ nothing_copied too_long room.old }
-    ensures status { result ≡ fault.new.status }
-{
-    if stream.len() >= 0xffff_ffff {
-        return copy_nothing(Fault::status(TOO_LONG), count).tell(fault);
-    }
-    copy_list(sections_in(alloc, stream), room, count).tell(fault)
+    ask!(omap, alloc, Omap(table) => write_moved(alloc, table, start..end, room, length))
 }
 
 /// Opens the address map of a file.
 #[unsafe(no_mangle)]
-pub extern "C" fn pdb_file_addresses(
+pub extern "C" fn pdb_address_map_open(
     alloc: Global,
     file: &mut OpenFile<'_>,
-    addresses: &mut Handle,
-    fault: &mut Fault,
+    map: &mut Handle,
 ) -> u32
-    ensures opens { AsksContent
-        (λ layout told. Opens addresses.old.held.content (addresses_said file.old.bytes.now) told.fault told.value)
-        (not_held addresses.old.held.content) (file_held file.old.handle.held.content)
-        (record { fault = fault.new; value = addresses.new.held.content }) }
-    ensures kept { file.new.handle.held.content ≡ file.old.handle.held.content }
-    ensures bytes { file.new.bytes.now ≡ file.old.bytes.now }
-    ensures status { result ≡ fault.new.status }
+    ensures opens { OpensFrom (file_held file.old.handle.held.content) (λ layout. addresses_said file.old.bytes.now)
+        map.old.held.content map.new.fault map.new.held.content }
+    ensures kept { HoldsFile file.old file.new }
+    ensures status { result ≡ map.new.fault.status }
 {
     let bytes = file.bytes;
-    ask!(file.handle, alloc, fault, File(_) => open!(addresses, alloc, addresses_in(alloc, bytes)))
+    open_from!(file, map, alloc, _ => addresses_in(alloc, bytes))
 }
 
 /// Writes the four forms of an address or a place. `form` is its own form, numbered as in
@@ -159,69 +122,43 @@ pub extern "C" fn pdb_file_addresses(
 #[unsafe(no_mangle)]
 pub extern "C" fn pdb_translate(
     alloc: Global,
-    addresses: &mut Handle,
+    map: &mut Handle,
     form: u32,
     section: u16,
     offset: u32,
     translation: &mut Translation,
-    fault: &mut Fault,
 ) -> u32
     ensures answer { AsksContent (λ map. Translates map form
         (record { section = section; offset = offset }) translation.old)
-        (not_held translation.old) (addresses_held addresses.old.held.content)
-        (record { fault = fault.new; value = translation.new }) }
-    ensures kept { addresses.new.held.content ≡ addresses.old.held.content }
-    ensures status { result ≡ fault.new.status }
+        (not_held translation.old) (addresses_held map.old.held.content)
+        (record { fault = map.new.fault; value = translation.new }) }
+    ensures kept { Keeps map.old map.new result }
 {
-    ask!(addresses, alloc, fault, Addresses(map) => {
-        translate(map, form, section, offset, translation)
+    ask!(map, alloc, Addresses(addresses) => {
+        translate(addresses, form, section, offset, translation)
     })
 }
 
-/// Writes where the addresses of a range of the original image lie in the image as it is loaded.
+/// Writes where the addresses of a range of one image lie in the other. `form` is that of the range,
+/// numbered as in `pdb_address_form`.
 #[unsafe(no_mangle)]
-pub extern "C" fn pdb_rva_ranges(
+pub extern "C" fn pdb_address_ranges(
     alloc: Global,
-    addresses: &mut Handle,
+    map: &mut Handle,
+    form: u32,
     start: u32,
     end: u32,
     room: &mut [Span],
     length: &mut usize,
-    fault: &mut Fault,
 ) -> u32
     ensures answer { AsksContent
-        (λ map. WritesMoved map.original_to_transformed (record { start = start; end = end }) room.old)
-        (nothing_copied not_open room.old) (addresses_held addresses.old.held.content)
-        (record { fault = fault.new; length = length.new; room = room.new }) }
-    ensures kept { addresses.new.held.content ≡ addresses.old.held.content }
-    ensures status { result ≡ fault.new.status }
+        (λ map. WritesRangesOf map form (record { start = start; end = end }) room.old)
+        (nothing_copied not_open room.old) (addresses_held map.old.held.content)
+        (record { fault = map.new.fault; length = length.new; room = room.new }) }
+    ensures kept { Keeps map.old map.new result }
 {
     *length = 0;
-    ask!(addresses, alloc, fault, Addresses(map) => {
-        write_loaded(alloc, map, PdbInternalRva(start)..PdbInternalRva(end), room, length)
-    })
-}
-
-/// Writes where the addresses of a range of the image as it is loaded lie in the original image.
-#[unsafe(no_mangle)]
-pub extern "C" fn pdb_internal_rva_ranges(
-    alloc: Global,
-    addresses: &mut Handle,
-    start: u32,
-    end: u32,
-    room: &mut [Span],
-    length: &mut usize,
-    fault: &mut Fault,
-) -> u32
-    ensures answer { AsksContent
-        (λ map. WritesMoved map.transformed_to_original (record { start = start; end = end }) room.old)
-        (nothing_copied not_open room.old) (addresses_held addresses.old.held.content)
-        (record { fault = fault.new; length = length.new; room = room.new }) }
-    ensures kept { addresses.new.held.content ≡ addresses.old.held.content }
-    ensures status { result ≡ fault.new.status }
-{
-    *length = 0;
-    ask!(addresses, alloc, fault, Addresses(map) => {
-        write_internal(alloc, map, Rva(start)..Rva(end), room, length)
+    ask!(map, alloc, Addresses(addresses) => {
+        write_ranges(alloc, addresses, form, start..end, room, length)
     })
 }

@@ -1,51 +1,47 @@
 //! String tables.
 
 ghost use Rattle.std.specs.Prelude.{◌≡◌, map, Ok};
-ghost use Rattle.pdb_space.specs.StringTable.{names_of};
-ghost use Rattle.pdb_handles.specs.{declared.content.Content.TheVariants.Names, Copied.copied_of, Found.answered_of};
-ghost use Rattle.pdb_handles.specs.{Handle.OpensStream, Handle.held_as, Handle.names_held};
-ghost use Rattle.pdb_handles.specs.Names.{name_place, place_or_zeros};
+ghost use Rattle.pdb_space.specs.StringTable.{name_of};
+ghost use Rattle.pdb_handles.specs.{Copied.copied_of, Copied.text_asked, File.names_said, Handle.OpensFrom};
+ghost use Rattle.pdb_handles.specs.{Handle.file_held, Handle.names_held, Names.name_place, Names.place_or_zeros};
+ghost use Rattle.pdb_handles.specs.Kept.{HoldsFile, Keeps};
 
-use pdb_handles::found::tell_answered;
-use pdb_handles::names::{NamePlace, find_names, names_in, place_in};
-use pdb_handles::{Fault, Handle};
+use pdb_handles::Handle;
+use pdb_handles::file::{OpenFile, names_in};
+use pdb_handles::names::{NamePlace, copy_name_at, find_names};
 use std::alloc::Global;
 
-/// Opens the string table in a stream, which is copied.
+/// Opens the string table of a file.
 #[unsafe(no_mangle)]
-pub extern "C" fn pdb_names_open(
-    alloc: Global,
-    stream: &[u8],
-    names: &mut Handle,
-    fault: &mut Fault,
-) -> u32
-    ensures opens { OpensStream stream.now names.old.held.content
-        (held_as Names (names_of stream.now)) fault.new names.new.held.content }
-    ensures status { result ≡ fault.new.status }
+pub extern "C" fn pdb_names_open(alloc: Global, file: &mut OpenFile<'_>, names: &mut Handle) -> u32
+    ensures opens { OpensFrom (file_held file.old.handle.held.content) (λ layout. names_said file.old.bytes.now)
+        names.old.held.content names.new.fault names.new.held.content }
+    ensures kept { HoldsFile file.old file.new }
+    ensures status { result ≡ names.new.fault.status }
 {
-    open_stream!(names, alloc, stream, names_in(alloc, stream)).tell(fault)
+    let bytes = file.bytes;
+    open_from!(file, names, alloc, _ => names_in(alloc, bytes))
 }
 
-/// Writes where the name at an offset is in the stream that the table was opened with, and its
-/// length without its NUL. Nothing is copied.
+/// Copies the name at an offset.
 #[unsafe(no_mangle)]
-pub extern "C" fn pdb_names_place(
+pub extern "C" fn pdb_names_get(
     alloc: Global,
     names: &mut Handle,
     offset: u32,
-    place: &mut NamePlace,
-    fault: &mut Fault,
+    room: &mut [u8],
+    length: &mut usize,
 ) -> u32
-    ensures answer { record { fault = fault.new; value = place.new }
-        ≡ answered_of place.old (λ names. name_place names offset) (names_held names.old.held.content) }
-    ensures kept { names.new.held.content ≡ names.old.held.content }
-    ensures status { result ≡ fault.new.status }
+    ensures answer { record { fault = names.new.fault; length = length.new; room = room.new }
+        ≡ text_asked room.old (λ names. name_of names offset) (names_held names.old.held.content) }
+    ensures kept { Keeps names.old names.new result }
 {
-    ask!(names, alloc, fault, Names(table) => tell_answered(place_in(table, offset), place))
+    *length = 0;
+    ask!(names, alloc, Names(table) => copy_name_at(table, offset, room, length))
 }
 
-/// Writes where the name at each of some offsets is, as `pdb_names_place` does, or zeros where there
-/// is no name.
+/// Writes where the name at each of some offsets is in the stream of the table, and its length
+/// without its NUL, or zeros where there is no name.
 #[unsafe(no_mangle)]
 pub extern "C" fn pdb_names_places(
     alloc: Global,
@@ -53,14 +49,12 @@ pub extern "C" fn pdb_names_places(
     offsets: &[u32],
     room: &mut [NamePlace],
     length: &mut usize,
-    fault: &mut Fault,
 ) -> u32
-    ensures answer { record { fault = fault.new; length = length.new; room = room.new } ≡ copied_of room.old
+    ensures answer { record { fault = names.new.fault; length = length.new; room = room.new } ≡ copied_of room.old
         (λ names. Ok (map (λ offset. place_or_zeros (name_place names offset)) offsets.now))
         (names_held names.old.held.content) }
-    ensures kept { names.new.held.content ≡ names.old.held.content }
-    ensures status { result ≡ fault.new.status }
+    ensures kept { Keeps names.old names.new result }
 {
     *length = 0;
-    ask!(names, alloc, fault, Names(table) => find_names(table, offsets, room, length))
+    ask!(names, alloc, Names(table) => find_names(table, offsets, room, length))
 }

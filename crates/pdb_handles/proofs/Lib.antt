@@ -1,5 +1,8 @@
+mod CopiedLemmas
 mod FieldsLemmas
 mod HeldSteps
+mod LayoutRowLemmas
+mod ListingLemmas
 mod NamedLemmas
 mod NamesLemmas
 mod PartsSteps

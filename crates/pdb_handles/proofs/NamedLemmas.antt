@@ -6,7 +6,7 @@ use Rattle.std.proofs.lemmas.List.{get_or-map, length-map}
 use Rattle.std.proofs.lemmas.List.Folds.{length-flat_map-take}
 use Rattle.pdb_file.specs.StreamNames.{Named, named_view}
 use Rattle.pdb_file.specs.declared.stream_names.StreamName.{StreamName}
-use Rattle.pdb_handles.specs.File.{names_of_all}
+use Rattle.pdb_handles.specs.StreamNames.{names_of_all}
 
 -- the names up to one that no longer fits are too long, and so are all
 pub too_long : (streams : List StreamName) (i left limit size : ℕ) (d : StreamName) → i < length streams

@@ -6,7 +6,7 @@ use Rattle.pdb_space.specs.Conversions.{translated_parts, AddressMapValue, Comes
 use Rattle.pdb_space.specs.Conversions as space
 use Rattle.pdb_space.specs.{Omap.IsSortedBySource, Omap.MovesSomehow, Omap.OmapValue, Omap.shift, Ranges.IsNotEmpty}
 use Rattle.pdb_space.specs.SectionPlace.{SectionPlace}
-use Rattle.pdb_handles.specs.Copied.{Copied, CopiesOrLacks, items_copied}
+use Rattle.pdb_handles.specs.Copied.{Copied, CopiesOrLacks, items_copied, nothing_copied}
 use Rattle.pdb_handles.specs.declared.addresses.Translation.{Translation}
 use Rattle.pdb_handles.specs.{declared.addresses.OmapRow.OmapRow, Fault.fine, Fault.not_mapped, Fault.no_value}
 use Rattle.pdb_handles.specs.{Found.Found, Found.value_or_fault, declared.addresses.Span.Span}
@@ -51,6 +51,14 @@ pub record WritesMoved (table : Option (List OmapValue)) (asked : Range ℕ) (ro
   pub exact : IfSome table IsSortedBySource → WritesRanges (translated_parts table asked) room told
   pub unsorted : IfSome table (λ table. WritesSome table room told)
 
+-- The same for a range of an image: of the image as it is loaded if the form is 0, and of the original one if it is 2.
+-- Other numbers stand for no form, and nothing is written.
+abbrev pub WritesRangesOf : AddressMapValue → ℕ → Range ℕ → List Span → Copied Span → Type 0
+WritesRangesOf map zero asked room told = WritesMoved map.transformed_to_original asked room told
+WritesRangesOf map (suc zero) asked room told = told ≡ nothing_copied no_value room
+WritesRangesOf map (suc (suc zero)) asked room told = WritesMoved map.original_to_transformed asked room told
+WritesRangesOf map (suc (suc (suc n))) asked room told = told ≡ nothing_copied no_value room
+
 -- a place that may be absent, for the caller
 abbrev pub place_or_none : Option SectionPlace → Place
 place_or_none (Some place) = record { offset = place.offset; section = place.section }
@@ -61,12 +69,12 @@ abbrev pub translation_of : Forms → Translation
 translation_of forms = record {
   has_rva = flag (is_some forms.rva);
   rva = unwrap_or forms.rva 0;
-  has_place = flag (is_some forms.place);
-  place = place_or_none forms.place;
+  has_section_offset = flag (is_some forms.place);
+  section_offset = place_or_none forms.place;
   has_internal_rva = flag (is_some forms.internal_rva);
   internal_rva = unwrap_or forms.internal_rva 0;
-  has_internal_place = flag (is_some forms.internal_place);
-  internal_place = place_or_none forms.internal_place;
+  has_internal_section_offset = flag (is_some forms.internal_place);
+  internal_section_offset = place_or_none forms.internal_place;
 }
 
 -- The forms of an address in the image as it is loaded. `by_table` says of the two in the original image that they are

@@ -24,11 +24,7 @@ not_open = record { status = 101; first = 0; second = 0 }
 abbrev pub too_small : Fault
 too_small = record { status = 102; first = 0; second = 0 }
 
--- the caller's stream has more bytes than a stream can have
-abbrev pub too_long : Fault
-too_long = record { status = 103; first = 0; second = 0 }
-
--- the caller's fault isn't one that a call returns, or the library has no text for it
+-- the caller's fault isn't one that a call leaves
 abbrev pub no_text : Fault
 no_text = record { status = 104; first = 0; second = 0 }
 

@@ -1,20 +1,14 @@
 -- What is read of a caller's file, as a caller sees it.
-use Rattle.std.specs.Prelude.{ℕ, List, Some, None, Ok, length, map, Option, nat_le, codes}
-use Rattle.std.specs.List.{flat_map}
-use Rattle.pdb_base.specs.Answer.{Answer, ◌>>=◌, ok_if}
-use Rattle.pdb_base.specs.Refusal.{unimplemented_feature}
-use Rattle.pdb_msf.specs.{Header.Head, Header.file_head, File.stream_of, Layout.LayoutValue, Layout.layout_of}
-use Rattle.pdb_space.specs.declared.section_header.ImageSectionHeader.{ImageSectionHeader}
-use Rattle.pdb_file.specs.File.{file_address_map, file_frame_table, file_named_stream, file_roles, file_information}
-use Rattle.pdb_file.specs.declared.debug_header.DBIExtraStreams.{DBIExtraStreams}
-use Rattle.pdb_file.specs.StreamNames.{Named, stream_names_of}
-use Rattle.pdb_file.specs.{declared.information.PDBInformation.PDBInformation, SectionHeaders.section_headers_of}
-use Rattle.pdb_handles.specs.declared.information.Information.{Information}
-use Rattle.pdb_handles.specs.declared.information.NamedStream.{NamedStream}
-use Rattle.pdb_handles.specs.{declared.content.Content.Content, Handle.held_as, declared.roles.Roles.Roles}
-use Rattle.pdb_handles.specs.{Fault.not_open, Records.listing_told}
-use Rattle.pdb_handles.specs.{Records.Fielded, Records.NamedRows, Records.no_rows_copied}
-use Rattle.pdb_handles.specs.declared.sections.Section.{Section}
+use Rattle.std.specs.Prelude.{ℕ, List, Option, Some, None, Ok, Err, if◌then◌else◌, ◌&&◌, length, map, min, nat_le, nat_lt}
+use Rattle.pdb_base.specs.Answer.{Answer, ◌>>=◌}
+use Rattle.pdb_msf.specs.{Directory.stream_count_in, Header.Head, Header.file_head, File.stream_of}
+use Rattle.pdb_msf.specs.Layout.{LayoutValue, layout_of, size_by, stream_by}
+use Rattle.pdb_space.specs.{declared.section_header.ImageSectionHeader.ImageSectionHeader, Omap.omap_table_of}
+use Rattle.pdb_file.specs.File.{file_address_map, file_frame_table, file_named_stream, file_roles, file_string_table}
+use Rattle.pdb_file.specs.{declared.debug_header.DBIExtraStreams.DBIExtraStreams, SectionHeaders.section_headers_of}
+use Rattle.pdb_handles.specs.{declared.content.Content.Content, declared.file.Sizes.Sizes, declared.roles.Roles.Roles}
+use Rattle.pdb_handles.specs.{declared.sections.Section.Section, Copied.Copied, Copied.answer_copied}
+use Rattle.pdb_handles.specs.{Copied.nothing_copied, Fault.fault_of_refusal, Fault.not_open, Fault.too_small, Handle.held_as}
 use Rattle.pdb_handles.specs.declared.content.Content.TheVariants as contents
 
 -- what is read of a file, whose header is read first
@@ -33,12 +27,43 @@ named_stream_said name file = read_of_file (λ bytes head. file_named_stream byt
 abbrev pub layout_said : List ℕ → Answer Content
 layout_said file = held_as contents.File (layout_of file)
 
--- its address map and its frame table, as the contents of a handle
+-- its string table, its address map and its frame table, as the contents of a handle
+abbrev pub names_said : List ℕ → Answer Content
+names_said file = held_as contents.Names (read_of_file file_string_table file)
+
 abbrev pub addresses_said : List ℕ → Answer Content
 addresses_said file = held_as contents.Addresses (read_of_file file_address_map file)
 
 abbrev pub frames_said : List ℕ → Answer Content
 frames_said file = held_as contents.Frames (read_of_file file_frame_table file)
+
+-- the OMAP table in one of its streams, by its layout
+abbrev pub omap_said : LayoutValue → List ℕ → ℕ → Answer Content
+omap_said layout file number = held_as contents.Omap (stream_by layout file number None >>= omap_table_of)
+
+-- the sizes in it
+abbrev pub sizes_in : LayoutValue → Answer Sizes
+sizes_in layout = stream_count_in layout.directory >>= λ count. Ok (record {
+  page_size = layout.head.geometry.page_size;
+  stream_count = count;
+})
+
+-- The bytes of a stream, at most so many, are written to an array. An array that has no room for as many as the
+-- directory says is left as it was, whatever the stream's pages hold, unless the file itself has fewer bytes.
+abbrev pub front_copied : LayoutValue → List ℕ → ℕ → ℕ → List ℕ → Answer ℕ → Copied ℕ
+front_copied layout file number limit room (Ok size) =
+    if nat_lt (length room) (min limit size) && nat_le (min limit size) (length file)
+    then record { fault = too_small; length = min limit size; room = room }
+    else answer_copied room (stream_by layout file number (Some limit))
+front_copied layout file number limit room (Err refusal) = nothing_copied (fault_of_refusal refusal) room
+
+abbrev pub stream_copied : LayoutValue → List ℕ → ℕ → ℕ → List ℕ → Copied ℕ
+stream_copied layout file number limit room = front_copied layout file number limit room (size_by layout number)
+
+-- the same for a file that is open, and else `not_open`
+abbrev pub stream_asked : List ℕ → ℕ → ℕ → List ℕ → Option LayoutValue → Copied ℕ
+stream_asked file number limit room (Some layout) = stream_copied layout file number limit room
+stream_asked file number limit room None = nothing_copied not_open room
 
 -- the roles for the caller
 abbrev pub roles_of : DBIExtraStreams → Roles
@@ -60,41 +85,6 @@ roles_of streams = record {
 abbrev pub roles_said : List ℕ → Answer Roles
 roles_said file = read_of_file file_roles file >>= λ streams. Ok (roles_of streams)
 
--- the numbers that tell a file from others, for the caller
-abbrev pub information_told : PDBInformation → Information
-information_told read = record { version = read.version; signature = read.signature; age = read.age; guid = read.guid }
-
--- those in stream 1
-abbrev pub information_said : List ℕ → Answer Information
-information_said file = read_of_file file_information file >>= λ read. Ok (information_told read)
-
--- a stream and how long its name is, for the caller
-abbrev pub named_row : Named → NamedStream
-named_row named = record { number = named.stream; name_length = length named.name }
-
--- the bytes of the names of streams, one name behind another
-abbrev pub names_of_all : List Named → List ℕ
-names_of_all streams = flat_map (λ named. named.name) streams
-
--- streams and the bytes of their names
-abbrev pub named_listing : List Named → NamedRows NamedStream
-named_listing streams = record { rows = map named_row streams; names = names_of_all streams }
-
--- The streams that stream 1 names, in the order of their entries. They are refused if their names together have
--- more bytes than the file, which they can only if they share bytes.
-abbrev pub names_said : List ℕ → Answer (Option (NamedRows NamedStream))
-names_said file = do
-  information ← read_of_file file_information file
-  streams ← stream_names_of information
-  fit ← ok_if (nat_le (length (names_of_all streams)) (length file))
-      (unimplemented_feature (codes "stream names that share bytes"))
-  Ok (Some (named_listing streams))
-
--- the same for a file that is open, and else `not_open`
-abbrev pub names_asked : List NamedStream → List ℕ → List ℕ → Option LayoutValue → Fielded NamedStream
-names_asked rows names bytes (Some layout) = listing_told rows names (names_said bytes)
-names_asked rows names bytes None = no_rows_copied not_open rows names
-
 -- a section for the caller
 abbrev pub section_info : ImageSectionHeader → Section
 section_info header = record {
@@ -110,6 +100,7 @@ section_info header = record {
   characteristics = header.characteristics.0;
 }
 
--- the sections that a stream holds, for the caller
-abbrev pub sections_told : List ℕ → Answer (List Section)
-sections_told stream = section_headers_of stream >>= λ headers. Ok (map section_info headers)
+-- the sections that a stream of a file holds, by the layout of the file
+abbrev pub sections_told : LayoutValue → List ℕ → ℕ → Answer (List Section)
+sections_told layout file number =
+    stream_by layout file number None >>= section_headers_of >>= λ headers. Ok (map section_info headers)

@@ -1,7 +1,7 @@
 -- How a value that may not exist is returned to a caller.
 use Rattle.std.specs.Prelude.{◌≡◌, Option, Some, None, Ok, Err}
 use Rattle.pdb_base.specs.Answer.{Answer}
-use Rattle.pdb_handles.specs.{declared.fault.Fault.Fault, Fault.fault_of_refusal, Fault.fine, Fault.not_open}
+use Rattle.pdb_handles.specs.{declared.fault.Fault.Fault, Fault.fault_of_refusal, Fault.fine, Fault.not_open, Copied.IsAnswerTold}
 
 -- how a call ended, and the caller's variable afterwards
 pub record Found (A : Type 0) : Type 0 where
@@ -36,3 +36,8 @@ found_of old number None = not_held old
 abbrev pub AsksContent : {A T : Type 0} → (A → T → Type 0) → T → Option A → T → Type 0
 AsksContent said closed (Some held) told = said held told
 AsksContent said closed None told = told ≡ closed
+
+-- The answer for what a handle holds is written; or it doesn't hold that, and the variable stays as it was.
+abbrev pub AsksAnswer : {A B : Type 0} → (A → Answer B) → B → Option A → Fault → B → Type 0
+AsksAnswer answer old (Some held) fault new = IsAnswerTold (λ value. value) (answer held) old fault new
+AsksAnswer answer old None fault new = (fault ≡ not_open) × (new ≡ old)

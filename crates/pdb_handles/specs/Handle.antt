@@ -1,12 +1,11 @@
 -- What a handle holds, and what opening it results in.
-use Rattle.std.specs.Prelude.{◌≡◌, ◌<◌, ◌≤◌, ℕ, List, length, Option, Some, None, Ok, Err}
+use Rattle.std.specs.Prelude.{◌≡◌, ℕ, List, Option, Some, None, Ok, Err}
 use Rattle.pdb_base.specs.Answer.{Answer}
 use Rattle.pdb_msf.specs.Layout.{LayoutValue}
 use Rattle.pdb_space.specs.{Conversions.AddressMapValue, Omap.OmapValue}
 use Rattle.pdb_frames.specs.Table.{Frames}
-use Rattle.pdb_tpi.specs.Steps.{WalkPosition}
-use Rattle.pdb_handles.specs.declared.content.Content.{Content}
-use Rattle.pdb_handles.specs.{declared.fault.Fault.Fault, Copied.IsAnswerTold, Fault.already_open, Fault.too_long}
+use Rattle.pdb_handles.specs.{declared.content.Content.Content, declared.content.Records.Records}
+use Rattle.pdb_handles.specs.{declared.fault.Fault.Fault, Copied.IsAnswerTold, Fault.already_open, Fault.not_open}
 use Rattle.pdb_handles.specs.declared.content.Content.TheVariants as contents
 
 -- the number of the kind of a handle's contents; 0 if it holds nothing
@@ -18,7 +17,6 @@ content_kind (Some (contents.Addresses map)) = 3
 content_kind (Some (contents.Frames table)) = 4
 content_kind (Some (contents.File layout)) = 5
 content_kind (Some (contents.Table table)) = 6
-content_kind (Some (contents.Definitions table)) = 7
 
 -- the value of an answer, as the contents of a handle
 abbrev pub held_as : {A : Type 0} → (A → Content) → Answer A → Answer Content
@@ -36,12 +34,12 @@ abbrev pub Opens : Option Content → Answer Content → Fault → Option Conten
 Opens None meant fault now = OpensTo meant fault now
 Opens (Some held) meant fault now = (fault ≡ already_open) × (now ≡ Some held)
 
--- The same for what a caller's stream holds; a stream of 0xffffffff bytes or more is refused with `too_long`.
-abbrev pub OpensStream : List ℕ → Option Content → Answer Content → Fault → Option Content → Type 0
-OpensStream stream None meant fault now =
-    (length stream < 0xffffffff → OpensTo meant fault now)
-    × (0xffffffff ≤ length stream → (fault ≡ too_long) × (now ≡ None))
-OpensStream stream (Some held) meant fault now = (fault ≡ already_open) × (now ≡ Some held)
+-- The same for what is read of a file, by the layout that the handle of the file holds; the call ends with `not_open`
+-- if it holds none.
+abbrev pub OpensFrom : Option LayoutValue → (LayoutValue → Answer Content) → Option Content → Fault → Option Content
+    → Type 0
+OpensFrom (Some layout) meant before fault now = Opens before (meant layout) fault now
+OpensFrom None meant before fault now = (fault ≡ not_open) × (now ≡ before)
 
 -- the names that a handle holds, if it holds names
 abbrev pub names_held : Option Content → Option (List ℕ)
@@ -69,6 +67,6 @@ frames_held (Some (contents.Frames table)) = Some table
 frames_held held = None
 
 -- the table of types or of ids that a handle holds, if it holds one, and where the walk along it stands
-abbrev pub table_held : Option Content → Option WalkPosition
-table_held (Some (contents.Table table)) = Some table
-table_held held = None
+abbrev pub records_held : Option Content → Option Records
+records_held (Some (contents.Table records)) = Some records
+records_held held = None

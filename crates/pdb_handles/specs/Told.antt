@@ -1,11 +1,12 @@
 -- Which refusal a fault stands for, so that refusals can be told apart and shown as text.
-use Rattle.std.specs.Prelude.{Bool, ℕ, zero, suc, ◌<◌, ◌^◌, ◌==◌, ◌&&◌, nat_lt, if◌then◌else◌, ⊤, List, [], ◌∷◌}
+use Rattle.std.specs.Prelude.{codes, Bool, ℕ, zero, suc, ◌<◌, ◌^◌, ◌==◌, ◌&&◌, nat_lt, if◌then◌else◌, ⊤, List, [], ◌∷◌}
 use Rattle.std.specs.Prelude.{Contains, slice_get, Option, Some, None, option_map}
 use Rattle.std.specs.{declared.io.ErrorKind.ErrorKind, Option.option_map_or}
 use Rattle.std.specs.declared.io.ErrorKind.TheVariants as kinds
 use Rattle.pdb_base.specs.{Refusal.Refusal, ErrorText.text_of}
 use Rattle.pdb_base.specs.Refusal as refusals
-use Rattle.pdb_handles.specs.{declared.fault.Fault.Fault, Fault.fault_of_refusal, Fault.texts}
+use Rattle.pdb_handles.specs.{declared.fault.Fault.Fault, Fault.fault_of_refusal, Fault.no_text, Fault.texts}
+use Rattle.pdb_handles.specs.Copied.{Copied, nothing_copied, text_copied}
 
 -- the refusal that a status can stand for, if any, by the two numbers that go with it
 abbrev pub RefusalByNumbers : Type 0
@@ -86,7 +87,40 @@ IsOurs (refusals.unexpected_numeric_prefix prefix) = prefix < 2 ^ 16
 IsOurs (refusals.unimplemented_file_checksum_kind kind) = kind < 2 ^ 8
 IsOurs refusal = ⊤
 
+-- the texts of the statuses that need no number
+abbrev pub plain_texts : List (ℕ × List ℕ)
+plain_texts =
+    (0, codes "success") ∷ (1, codes "not a program database of version 7.00") ∷ (5, codes "no stream has this name")
+    ∷ (7, codes "the file ends too soon") ∷ (8, codes "the bytes end too soon")
+    ∷ (14, codes "a record's length leaves no room for its kind")
+    ∷ (21, codes "the file has no section headers, and so no address map") ∷ (28, codes "an allocation failed")
+    ∷ (100, codes "the handle is open already") ∷ (101, codes "the handle is not open")
+    ∷ (102, codes "the array has no room for the answer") ∷ (104, codes "no text for this fault")
+    ∷ (105, codes "the walk is at its end") ∷ (106, codes "there is no such value")
+    ∷ (107, codes "the table moves the address nowhere") ∷ []
+
+-- the text of such a status
+abbrev pub text_among : List (ℕ × List ℕ) → ℕ → Option (List ℕ)
+text_among [] status = None
+text_among ((other, text) ∷ more) status = if status == other then Some text else text_among more status
+
+abbrev pub plain_text : ℕ → Option (List ℕ)
+plain_text status = text_among plain_texts status
+
 -- the library's text of a refusal that may be absent
 abbrev pub text_if : Option Refusal → Option (List ℕ)
 text_if (Some refusal) = text_of refusal
 text_if None = None
+
+-- the text of a fault: that of its status, or else that of the refusal that it stands for
+abbrev pub text_else : Option (List ℕ) → Option Refusal → Option (List ℕ)
+text_else (Some text) refusal = Some text
+text_else None refusal = text_if refusal
+
+abbrev pub fault_text : Fault → Option (List ℕ)
+fault_text fault = text_else (plain_text fault.status) (refusal_told fault)
+
+-- a text is written, or the fault is `no_text` if there is none
+abbrev pub text_or_none : List ℕ → Option (List ℕ) → Copied ℕ
+text_or_none room (Some text) = text_copied room text
+text_or_none room None = nothing_copied no_text room

@@ -2,19 +2,16 @@
 //! or a place: in the image as it is loaded and in the original one, which a program database
 //! refers to.
 
-ghost use Rattle.std.specs.Prelude.{◌≡◌, ◌<◌, length, map, Ok, Some};
+ghost use Rattle.std.specs.Prelude.{◌≡◌, map, Ok, Some};
 ghost use Rattle.pdb_base.specs.Answer.{Answers};
-ghost use Rattle.pdb_space.specs.Omap.{omap_table_of};
-ghost use Rattle.pdb_handles.specs.{declared.content.Content.TheVariants.Omap, Handle.held_as, Addresses.TellsOrder};
-ghost use Rattle.pdb_handles.specs.Addresses.{omap_info, WritesMoved, span_of, AreForms};
-ghost use Rattle.pdb_handles.specs.Addresses.{Translates, place_or_none, translation_of};
+ghost use Rattle.pdb_handles.specs.Addresses.{omap_info, WritesMoved, WritesRangesOf, span_of, AreForms};
+ghost use Rattle.pdb_handles.specs.Addresses.{TellsOrder, Translates, place_or_none, translation_of};
 
-use crate::content::Content;
-use crate::copied::copy_list;
+use crate::copied::{copy_list, copy_nothing};
 use crate::fault::{Fault, NONE};
 use crate::found::{tell_found, tell_value};
 use crate::frames::flag;
-use pdb_base::{Result, Stream};
+use pdb_base::Result;
 use pdb_space::{
     AddressMap, OMAPRecord, OMAPTable, PdbInternalRva, PdbInternalRvaRangeIter,
     PdbInternalSectionOffset, RangeIter, Rva, RvaRangeIter, SectionOffset,
@@ -30,17 +27,6 @@ pub struct OmapRow {
     pub source: u32,
     /// The address to which it moves that one, or 0 if it moves it nowhere.
     pub target: u32,
-}
-
-/// Parses the OMAP table in a stream, which is copied.
-///
-/// # Errors
-/// Fails as `OMAPTable::parse` does, and with `OutOfMemory` if an allocation fails.
-pub fn table_in(alloc: Global, stream: &[u8]) -> Result<Content>
-    requires { length stream.now < 0xffffffff }
-    ensures { Answers (λ content. content) result (held_as Omap (omap_table_of stream.now)) }
-{
-    Ok(Content::Omap(OMAPTable::parse(Stream::new(stream.to_vec(alloc)?))?))
 }
 
 /// Converts a record for the caller.
@@ -129,33 +115,31 @@ pub fn write_moved(
     copy_list(spans_in(alloc, table.lookup_range(asked)), room, length)
 }
 
-/// Writes where the addresses of a range of the original image lie in the image as it is loaded.
-pub fn write_loaded(
+/// Writes where the addresses of a range lie in the other image, for a range of the image as it is
+/// loaded if the form is 0, and of the original one if it is 2. Returns a fault of status `NONE` for
+/// any other form.
+pub fn write_ranges(
     alloc: Global,
     map: &AddressMap,
-    asked: Range<PdbInternalRva>,
+    form: u32,
+    asked: Range<u32>,
     room: &mut [Span],
     length: &mut usize,
 ) -> Fault
-    ensures { WritesMoved map.now.original_to_transformed asked room.old
+    ensures { WritesRangesOf map.now form asked room.old
         (record { fault = result; length = length.new; room = room.new }) }
 {
-    copy_list(loaded_spans_in(alloc, map.rva_ranges(asked)), room, length)
-}
-
-/// Writes where the addresses of a range of the image as it is loaded lie in the original image.
-pub fn write_internal(
-    alloc: Global,
-    map: &AddressMap,
-    asked: Range<Rva>,
-    room: &mut [Span],
-    length: &mut usize,
-) -> Fault
-    ensures { WritesMoved map.now.transformed_to_original asked room.old
-        (record { fault = result; length = length.new; room = room.new }) }
-{
-    let spans = internal_spans_in(alloc, map.internal_rva_ranges(asked));
-    copy_list(spans, room, length)
+    match form {
+        0 => {
+            let ranges = map.internal_rva_ranges(Rva(asked.start)..Rva(asked.end));
+            copy_list(internal_spans_in(alloc, ranges), room, length)
+        }
+        2 => {
+            let ranges = map.rva_ranges(PdbInternalRva(asked.start)..PdbInternalRva(asked.end));
+            copy_list(loaded_spans_in(alloc, ranges), room, length)
+        }
+        _ => copy_nothing(Fault::status(NONE), length),
+    }
 }
 
 /// A place in a section of an image.
@@ -177,17 +161,17 @@ pub struct Translation {
     /// That address.
     pub rva: u32,
     /// Whether there is a place in a section of the image as it is loaded, as 0 or 1.
-    pub has_place: u32,
+    pub has_section_offset: u32,
     /// That place.
-    pub place: Place,
+    pub section_offset: Place,
     /// Whether there is an address in the original image, as 0 or 1.
     pub has_internal_rva: u32,
     /// That address.
     pub internal_rva: u32,
     /// Whether there is a place in a section of the original image, as 0 or 1.
-    pub has_internal_place: u32,
+    pub has_internal_section_offset: u32,
     /// That place.
-    pub internal_place: Place,
+    pub internal_section_offset: Place,
 }
 
 /// The forms that exist.
@@ -272,12 +256,12 @@ impl Translation {
         Translation {
             has_rva: flag(forms.rva.is_some()),
             rva: forms.rva.map_or(0, |rva| rva.0),
-            has_place: flag(forms.place.is_some()),
-            place: place_in(forms.place),
+            has_section_offset: flag(forms.place.is_some()),
+            section_offset: place_in(forms.place),
             has_internal_rva: flag(forms.internal_rva.is_some()),
             internal_rva: forms.internal_rva.map_or(0, |rva| rva.0),
-            has_internal_place: flag(forms.internal_place.is_some()),
-            internal_place: internal_place_in(forms.internal_place),
+            has_internal_section_offset: flag(forms.internal_place.is_some()),
+            internal_section_offset: internal_place_in(forms.internal_place),
         }
     }
 }

@@ -1,11 +1,18 @@
 //! The contents of handles.
 
-use pdb_base::TypeIndex;
 use pdb_frames::FrameTable;
 use pdb_msf::Layout;
 use pdb_space::{AddressMap, OMAPTable, StringTable};
-use pdb_tpi::OpenWalk;
-use pdb_types::OpenDefinitions;
+use pdb_types::OpenTypes;
+
+/// A table of types or of ids.
+#[derive(Drop)]
+pub struct Records {
+    /// The table, and a walk along it.
+    pub types: OpenTypes,
+    /// Whether its items are ids.
+    pub are_ids: bool,
+}
 
 /// What a handle holds.
 #[derive(Drop)]
@@ -22,7 +29,5 @@ pub enum Content {
     /// The header and the directory of a file.
     File(Layout),
     /// The items of a table of types or of ids.
-    Table(OpenWalk<TypeIndex>),
-    /// The definitions of a table of types.
-    Definitions(OpenDefinitions),
+    Table(Records),
 }

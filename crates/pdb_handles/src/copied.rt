@@ -1,11 +1,11 @@
 //! Answers that are copied into a caller's arrays.
 
-ghost use Rattle.std.specs.{Prelude.◌≡◌, Prelude.ℕ, Prelude.List, Prelude.Option, Option.option_map};
-ghost use Rattle.pdb_base.specs.Answer.{Answer, Answers};
+ghost use Rattle.std.specs.Prelude.{◌≡◌, ◌++◌, ◌∷◌, [], ℕ, List, Option, OnOk};
+ghost use Rattle.std.specs.Option.{option_map};
+ghost use Rattle.pdb_base.specs.{Answer.Answer, Answer.Answers, Memory.FailsOnlyForMemory};
 ghost use Rattle.pdb_values.specs.Text.{text_bytes};
-ghost use Rattle.pdb_handles.specs.Copied.{CopiesAnswer, items_copied};
-ghost use Rattle.pdb_handles.specs.Records.{CopiesIf, rows_copied, FieldsOrLacks, NamedRows, listing_told};
-ghost use Rattle.pdb_handles.specs.Records.{listing_view};
+ghost use Rattle.pdb_handles.specs.Copied.{CopiesAnswer, CopiesIf, items_copied, text_copied, text_if_copied};
+ghost use Rattle.pdb_handles.specs.Listing.{RowsOrLacks, NamedRows, listing_told, listing_view, rows_copied};
 
 use crate::fault::{FINE, Fault, NONE, TOO_SMALL};
 use pdb_base::{RawString, Result, Stream};
@@ -23,7 +23,22 @@ pub fn copy_out<T: Copy>(items: &[T], room: &mut [T], length: &mut usize) -> Fau
     Fault::status(FINE)
 }
 
-/// Copies items and the bytes of their names to the starts of two arrays of the caller, if both
+/// Copies a text and a NUL behind it to the start of a caller's array, and sets `length` to the
+/// number of bytes of the text. If the array has no room for both, nothing is copied.
+#[tactic(auto, using(crate::proofs::CopiedLemmas::text_put))]
+pub fn copy_text(text: &[u8], room: &mut [u8], length: &mut usize) -> Fault
+    ensures { record { fault = result; length = length.new; room = room.new } ≡ text_copied room.old text.now }
+{
+    *length = text.len();
+    if room.len() <= text.len() {
+        return Fault::status(TOO_SMALL);
+    }
+    room[..text.len()].copy_from_slice(text);
+    room[text.len()] = 0;
+    Fault::status(FINE)
+}
+
+/// Copies rows and their names to the starts of two arrays of the caller, if both
 /// have room for all of them, and sets `count` and `size` to their numbers.
 pub fn copy_both<T: Copy>(
     items: &[T],
@@ -90,24 +105,29 @@ pub fn copy_if<T: Copy>(answer: Result<Option<Vec<T>>>, room: &mut [T], length: 
     }
 }
 
-/// Copies the bytes of a name to the caller's array if there is one, or returns a fault of status
-/// `NONE` if there is none, or the fault of the error.
-pub fn copy_name(
-    answer: Result<Option<RawString<'_>>>,
-    room: &mut [u8],
-    length: &mut usize,
-) -> Fault
-    ensures { (meant : Answer (Option (List ℕ))) → Answers (option_map text_bytes) answer.entry meant
-        → CopiesIf meant room.old result length.new room.new }
+/// Copies a name to the caller's array if there is one, or returns a fault of status `NONE` if there
+/// is none.
+pub fn copy_name(name: Option<RawString<'_>>, room: &mut [u8], length: &mut usize) -> Fault
+    ensures { record { fault = result; length = length.new; room = room.new }
+        ≡ text_if_copied room.old (option_map text_bytes name.entry) }
 {
-    match answer {
-        Ok(Some(name)) => copy_out(name.as_bytes(), room, length),
-        Ok(None) => copy_nothing(Fault::status(NONE), length),
-        Err(error) => copy_nothing(Fault::of(&error), length),
+    match name {
+        Some(name) => copy_text(name.as_bytes(), room, length),
+        None => copy_nothing(Fault::status(NONE), length),
     }
 }
 
-/// Entries and the bytes of their names.
+/// Appends a name and a NUL.
+pub fn push_name(names: &mut Vec<u8>, name: &[u8]) -> Result<()>
+    ensures ok { OnOk result (names.new.items ≡ names.old.items ++ (name.now ++ 0 ∷ [])) }
+    ensures memory { FailsOnlyForMemory result }
+{
+    names.extend_from_slice(name)?;
+    names.push(0)?;
+    Ok(())
+}
+
+/// Rows and their names, each with a NUL behind it.
 #[derive(Drop)]
 pub struct Listing<R> {
     pub(crate) rows: Vec<R>,
@@ -125,8 +145,8 @@ pub fn write_nothing(fault: Fault, count: &mut usize, size: &mut usize) -> Fault
     fault
 }
 
-/// Writes a listing and the bytes of its names if there is one, or returns a fault of status `NONE`
-/// if there is none, or the fault of the error.
+/// Writes a listing if there is one, or returns a fault of status `NONE` if there is none, or the
+/// fault of the error.
 pub fn write_listing<R: Copy>(
     found: Result<Option<Listing<R>>>,
     rows: &mut [R],
@@ -134,7 +154,7 @@ pub fn write_listing<R: Copy>(
     names: &mut [u8],
     size: &mut usize,
 ) -> Fault
-    ensures { (meant : Answer (Option (NamedRows R))) → Answers (option_map listing_view) found meant → FieldsOrLacks
+    ensures { (meant : Answer (Option (NamedRows R))) → Answers (option_map listing_view) found meant → RowsOrLacks
         (record { fault = result; rows = rows.new; count = count.new; names = names.new; size = size.new })
         rows.old names.old (listing_told rows.old names.old meant) }
 {

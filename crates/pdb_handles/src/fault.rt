@@ -29,9 +29,7 @@ pub const ALREADY_OPEN: u32 = 100;
 pub const NOT_OPEN: u32 = 101;
 /// The caller's array has no room for the answer.
 pub const TOO_SMALL: u32 = 102;
-/// The caller's stream has more bytes than a stream can have.
-pub const TOO_LONG: u32 = 103;
-/// The caller's fault isn't one that a call returns, or the library has no text for it.
+/// The caller's fault isn't one that a call leaves.
 pub const NO_TEXT: u32 = 104;
 /// The walk is at its end.
 pub const END: u32 = 105;
@@ -96,15 +94,6 @@ impl Fault {
         ensures { result ≡ record { status = status; first = 0; second = 0 } }
     {
         Fault::new(status, 0, 0)
-    }
-
-    /// Writes for the caller how a call ended, and returns the status.
-    pub fn tell(self, fault: &mut Fault) -> u32
-        ensures told { fault.new ≡ self }
-        ensures status { result ≡ self.status }
-    {
-        *fault = self;
-        self.status
     }
 
     /// Returns the fault that reports an error: its status, and the numbers that go with it.

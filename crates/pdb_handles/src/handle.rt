@@ -19,6 +19,8 @@ pub struct Handle {
     pub held: Held,
     /// The number of the kind of what it holds, 0 if it holds nothing.
     pub kind: u32,
+    /// How the last call ended that is about the handle.
+    pub fault: Fault,
     ghost agrees: { kind ≡ content_kind held.content },
 }
 
@@ -33,7 +35,6 @@ fn kind_of(content: &Content) -> u32
         Content::Frames(_) => 4,
         Content::File(_) => 5,
         Content::Table(_) => 6,
-        Content::Definitions(_) => 7,
     }
 }
 
@@ -45,6 +46,7 @@ impl Handle {
         Handle {
             held: Held::nothing(alloc),
             kind: 0,
+            fault: Fault::status(FINE),
         }
     }
 
@@ -56,7 +58,11 @@ impl Handle {
         if self.kind == 0 {
             return None;
         }
-        let Handle { held, kind: _ } = replace(self, Handle::empty(alloc));
+        let Handle {
+            held,
+            kind: _,
+            fault: _,
+        } = replace(self, Handle::empty(alloc));
         Some(held.into_parts().into_box())
     }
 
@@ -67,7 +73,12 @@ impl Handle {
     {
         let kind = kind_of(&content);
         let held = Held::of_parts(Parts::of(content));
-        let Handle { held, kind: _ } = replace(self, Handle { held, kind });
+        let fault = Fault::status(FINE);
+        let Handle {
+            held,
+            kind: _,
+            fault: _,
+        } = replace(self, Handle { held, kind, fault });
         held.end();
     }
 
@@ -88,6 +99,16 @@ impl Handle {
             }
             Err(_) => Fault::of(&Error::OutOfMemory),
         }
+    }
+
+    /// Keeps how a call ended that is about the handle, and returns its status.
+    pub fn keep(&mut self, fault: Fault) -> u32
+        ensures fault { self.new.fault ≡ fault }
+        ensures content { self.new.held.content ≡ self.old.held.content }
+        ensures status { result ≡ fault.status }
+    {
+        self.fault = fault;
+        fault.status
     }
 
     /// Returns whether the handle holds something.

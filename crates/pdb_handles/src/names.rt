@@ -1,16 +1,15 @@
 //! String tables.
 
-ghost use Rattle.std.specs.Prelude.{◌≡◌, ◌<◌, length, map};
-ghost use Rattle.pdb_base.specs.Answer.{Answers, Gives};
-ghost use Rattle.pdb_space.specs.StringTable.{names_of};
-ghost use Rattle.pdb_handles.specs.{declared.content.Content.TheVariants.Names, Copied.items_copied, Handle.held_as};
+ghost use Rattle.std.specs.Prelude.{◌≡◌, map};
+ghost use Rattle.pdb_base.specs.Answer.{Gives};
+ghost use Rattle.pdb_space.specs.StringTable.{name_of};
+ghost use Rattle.pdb_handles.specs.Copied.{items_copied, text_answered};
 ghost use Rattle.pdb_handles.specs.Names.{name_place, place_or_zeros};
 
-use crate::content::Content;
+use crate::copied::{copy_nothing, copy_text};
 use crate::fault::{FINE, Fault, TOO_SMALL};
-use pdb_base::{Result, Stream};
+use pdb_base::Result;
 use pdb_space::{StringRef, StringTable};
-use std::alloc::Global;
 
 /// The number of bytes of a stream before the names.
 const NAMES_START: usize = 12;
@@ -25,15 +24,15 @@ pub struct NamePlace {
     pub length: usize,
 }
 
-/// Parses the string table in a stream, which is copied.
-///
-/// # Errors
-/// Fails as `StringTable::parse` does, and with `OutOfMemory` if an allocation fails.
-pub fn names_in(alloc: Global, stream: &[u8]) -> Result<Content>
-    requires { length stream.now < 0xffffffff }
-    ensures { Answers (λ content. content) result (held_as Names (names_of stream.now)) }
+/// Copies the name at an offset of a table to the caller's array, or returns the fault of the error.
+pub fn copy_name_at(names: &StringTable, offset: u32, room: &mut [u8], length: &mut usize) -> Fault
+    ensures { record { fault = result; length = length.new; room = room.new }
+        ≡ text_answered room.old (name_of names.now offset) }
 {
-    Ok(Content::Names(StringTable::parse(Stream::new(stream.to_vec(alloc)?))?))
+    match names.get(StringRef(offset)) {
+        Ok(name) => copy_text(name.as_bytes(), room, length),
+        Err(error) => copy_nothing(Fault::of(&error), length),
+    }
 }
 
 /// Returns where the name at an offset of a table is in the stream of the table.

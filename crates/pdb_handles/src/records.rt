@@ -3,41 +3,26 @@
 ghost use Rattle.std.specs.Prelude.{map, [], Ok, ◌≡◌, ℕ, List, Option};
 ghost use Rattle.std.specs.Option.{option_map};
 ghost use Rattle.pdb_base.specs.{declared.index.TypeIndex.TypeIndex, Answer.Answer, Answer.Answers, Answer.Gives};
-ghost use Rattle.pdb_values.specs.TypeValue.{TypeValue, argument_list, field_list, name_of_type, no_field};
-ghost use Rattle.pdb_values.specs.{Text.text_bytes, TypeView.type_value, IdValue.id_name, IdValue.id_value};
+ghost use Rattle.pdb_values.specs.TypeValue.{TypeValue, argument_list, field_list, no_field};
+ghost use Rattle.pdb_values.specs.{Text.text_bytes, TypeView.type_value, IdValue.id_value};
 ghost use Rattle.pdb_records.specs.Fields.{type_record};
-ghost use Rattle.pdb_tpi.specs.Record.{type_of, id_of};
-ghost use Rattle.pdb_handles.specs.Records.{arguments_in, of_type, dimensions_in, method_info, methods_in};
-ghost use Rattle.pdb_handles.specs.Records.{unique_name_in, id_info, id_list, of_id};
-ghost use Rattle.pdb_handles.specs.{Copied.IsAnswerTold, Row.type_info};
+ghost use Rattle.pdb_tpi.specs.Record.{id_of, type_of};
+ghost use Rattle.pdb_handles.specs.Records.{id_info, method_info, methods_of, name_of, numbers_of, row_of};
+ghost use Rattle.pdb_handles.specs.Records.{said_view, unique_name_of, value_at};
+ghost use Rattle.pdb_handles.specs.Copied.{IsAnswerTold};
+ghost use Rattle.pdb_handles.specs.Row.{type_info};
 
+use crate::content::Records;
 use crate::fault::{FINE, Fault};
 use crate::row::{Numbers, Row, index_in, row};
 use pdb_base::{ParseBuffer, RawString, Result, TypeIndex};
-use pdb_records::{
-    parse_behind_leaf, parse_id_data, parse_type_data, skip_arguments, skip_field_list,
-};
+use pdb_records::{parse_behind_leaf, parse_id_data, skip_arguments, skip_field_list};
 use pdb_values::constants::{LF_ARGLIST, LF_FIELDLIST};
 use pdb_values::{
     FIRST_RECORD, IdData, MethodListEntry, TypeData, UserDefinedTypeSourceFileRef,
     type_data_for_primitive,
 };
 use std::alloc::Global;
-
-/// Parses the record of the type of an index. An index below 0x1000 is that of a primitive type,
-/// which needs no record.
-///
-/// # Errors
-/// Fails as `type_data_for_primitive` and `parse_type_data` do.
-#[tactic(auto, unfolding(pdb_tpi::specs::Record::type_of))]
-pub fn type_in<'t>(alloc: Global, bytes: &'t [u8], index: u32) -> Result<TypeData<'t>>
-    ensures { Answers type_value result (type_of index bytes.now) }
-{
-    if index < FIRST_RECORD {
-        return type_data_for_primitive(TypeIndex(index));
-    }
-    parse_type_data(alloc, bytes)
-}
 
 /// Writes the numbers in a record that was parsed, or returns the fault of its error.
 #[inline(always)]
@@ -121,38 +106,133 @@ pub fn write_type_row(alloc: Global, bytes: &[u8], index: u32, row: &mut Row) ->
     write_record_row(alloc, bytes, row)
 }
 
-/// Parses a record and returns the name of its type, if it has one.
+/// Returns the `Row` of an id.
+fn row_of_id(value: &IdData<'_>) -> Row
+    ensures { result ≡ id_info (id_value value.now) }
+{
+    match value {
+        IdData::Function(id) => row!(32;
+            type_index: Some(id.function_type.0), second_index: id.scope.map(|scope| scope.0)),
+        IdData::MemberFunction(id) => row!(33;
+            type_index: Some(id.function_type.0), third_index: Some(id.parent.0)),
+        IdData::BuildInfo(_) => Row::of(34, &Numbers::default()),
+        IdData::StringList(_) => Row::of(35, &Numbers::default()),
+        IdData::String(id) => row!(36; list_index: id.substrings.map(|list| list.0)),
+        IdData::UserDefinedTypeSource(id) => match id.source_file {
+            UserDefinedTypeSourceFileRef::Local(file) => row!(37;
+                type_index: Some(id.udt.0), second_index: Some(file.0), extra: Some(id.line)),
+            UserDefinedTypeSourceFileRef::Remote(module, place) => row!(37;
+                type_index: Some(id.udt.0), third_index: Some(module as u32),
+                number: Some(place.0 as u64), extra: Some(id.line)),
+        },
+    }
+}
+
+/// Writes the numbers in the record of an id, or returns the fault of its error.
+pub(crate) fn write_id_row(alloc: Global, bytes: &[u8], row: &mut Row) -> Fault
+    ensures { IsAnswerTold (λ value. id_info value) (id_of bytes.now) row.old result row.new }
+{
+    match id_in(alloc, bytes) {
+        Ok(value) => {
+            *row = row_of_id(&value);
+            Fault::status(FINE)
+        }
+        Err(error) => Fault::of(&error),
+    }
+}
+
+/// Parses the record of an id.
 ///
 /// # Errors
-/// Fails as `type_in` does.
-pub fn type_name_in<'t>(alloc: Global, bytes: &'t [u8], index: u32) -> Result<Option<RawString<'t>>>
-    ensures { Answers (option_map text_bytes) result (of_type name_of_type index bytes.now) }
+/// Fails as `parse_id_data` does.
+#[tactic(auto, unfolding(pdb_tpi::specs::Record::id_of))]
+fn id_in<'t>(alloc: Global, bytes: &'t [u8]) -> Result<IdData<'t>>
+    ensures { Answers id_value result (id_of bytes.now) }
 {
-    let value = type_in(alloc, bytes, index)?;
-    Ok(value.name())
+    parse_id_data(alloc, bytes)
+}
+
+/// What the record of a type or of an id says.
+#[derive(Drop)]
+pub enum Said<'t> {
+    /// That of a type.
+    Type(TypeData<'t>),
+    /// That of an id.
+    Id(IdData<'t>),
+}
+
+/// Returns what the type or the id of an index is.
+///
+/// # Errors
+/// Fails as `OpenTable::item`, `Type::parse` and `parse_id_data` do.
+pub fn said_at<'t>(alloc: Global, records: &'t Records, index: u32) -> Result<Said<'t>>
+    ensures { Answers said_view result (value_at records.now index) }
+{
+    let item = records.types.table().item(TypeIndex(index))?;
+    if records.are_ids {
+        Ok(Said::Id(id_in(alloc, item.as_bytes())?))
+    } else {
+        Ok(Said::Type(item.parse(alloc)?))
+    }
+}
+
+/// Returns the `Row` of a type or of an id.
+pub fn row_of(said: &Said<'_>) -> Row
+    ensures { result ≡ row_of (said_view said.now) }
+{
+    match said {
+        Said::Type(value) => Row::of_type(value),
+        Said::Id(value) => row_of_id(value),
+    }
+}
+
+/// Returns the name of a type, or of an id that is a function, a method or a text.
+pub fn name_of<'t>(said: &Said<'t>) -> Option<RawString<'t>>
+    ensures { option_map text_bytes result ≡ name_of (said_view said.now) }
+{
+    match said {
+        Said::Type(value) => value.name(),
+        Said::Id(value) => value.name(),
+    }
+}
+
+/// Returns the unique name of a class, a union or an enumeration.
+pub fn unique_name_of<'t>(said: &Said<'t>) -> Option<RawString<'t>>
+    ensures { option_map text_bytes result ≡ unique_name_of (said_view said.now) }
+{
+    match said {
+        Said::Type(TypeData::Class(class)) => class.unique_name,
+        Said::Type(TypeData::Union(union)) => union.unique_name,
+        Said::Type(TypeData::Enumeration(enumeration)) => enumeration.unique_name,
+        _ => None,
+    }
 }
 
 /// Returns the numbers of type indexes.
 ///
 /// # Errors
 /// Fails with `OutOfMemory` if an allocation fails.
-pub fn numbers_of(alloc: Global, indexes: &[TypeIndex]) -> Result<Vec<u32>>
+pub(crate) fn numbers_in(alloc: Global, indexes: &[TypeIndex]) -> Result<Vec<u32>>
     ensures { Answers (λ numbers. numbers.items) result (Ok (map (λ index. index.0) indexes.now)) }
 {
     Ok(indexes.iter().map(|index| index.0).collect(alloc)?)
 }
 
-/// Parses a record and returns the types of the arguments that it lists, or None if it isn't a list
-/// of arguments.
+/// Returns the numbers that a record lists: the arguments of a list of arguments, the dimensions of
+/// an array, or the ids in a list of ids or of texts.
 ///
 /// # Errors
-/// Fails as `type_in` does, and with `OutOfMemory` if an allocation fails.
-pub fn arguments_of(alloc: Global, bytes: &[u8], index: u32) -> Result<Option<Vec<u32>>>
-    ensures { Answers (option_map (λ list. list.items)) result (of_type arguments_in index bytes.now) }
+/// Fails with `OutOfMemory` if an allocation fails.
+pub fn numbers_of(alloc: Global, said: &Said<'_>) -> Result<Option<Vec<u32>>>
+    ensures { Answers (option_map (λ numbers. numbers.items)) result (Ok (numbers_of (said_view said.now))) }
 {
-    let value = type_in(alloc, bytes, index)?;
-    match &value {
-        TypeData::ArgumentList(list) => Ok(Some(numbers_of(alloc, &list.arguments)?)),
+    match said {
+        Said::Type(TypeData::ArgumentList(list)) => Ok(Some(numbers_in(alloc, &list.arguments)?)),
+        Said::Type(TypeData::Array(array)) => Ok(Some(array.dimensions.to_vec(alloc)?)),
+        Said::Id(IdData::BuildInfo(list)) => {
+            Ok(Some(list.arguments.iter().map(|index| index.0).collect(alloc)?))
+        }
+        Said::Id(IdData::StringList(list)) => Ok(Some(numbers_in(alloc, &list.substrings)?)),
         _ => Ok(None),
     }
 }
@@ -177,121 +257,15 @@ fn method_rows(alloc: Global, methods: &[MethodListEntry]) -> Result<Vec<Row>>
     Ok(rows)
 }
 
-/// Parses a record and returns the methods that it lists, or None if it isn't a list of methods.
+/// Returns a `Row` for each method of a list of methods.
 ///
 /// # Errors
-/// Fails as `type_in` does, and with `OutOfMemory` if an allocation fails.
-pub fn methods_of(alloc: Global, bytes: &[u8], index: u32) -> Result<Option<Vec<Row>>>
-    ensures { Answers (option_map (λ rows. rows.items)) result (of_type methods_in index bytes.now) }
+/// Fails with `OutOfMemory` if an allocation fails.
+pub fn methods_of(alloc: Global, said: &Said<'_>) -> Result<Option<Vec<Row>>>
+    ensures { Answers (option_map (λ rows. rows.items)) result (Ok (methods_of (said_view said.now))) }
 {
-    let value = type_in(alloc, bytes, index)?;
-    match &value {
-        TypeData::MethodList(list) => Ok(Some(method_rows(alloc, &list.methods)?)),
-        _ => Ok(None),
-    }
-}
-
-/// Parses a record and returns the dimensions of its type, or None if it isn't an array.
-///
-/// # Errors
-/// Fails as `type_in` does.
-pub fn dimensions_of(alloc: Global, bytes: &[u8], index: u32) -> Result<Option<Vec<u32>>>
-    ensures { Answers (option_map (λ sizes. sizes.items)) result (of_type dimensions_in index bytes.now) }
-{
-    match type_in(alloc, bytes, index)? {
-        TypeData::Array(array) => Ok(Some(array.dimensions)),
-        _ => Ok(None),
-    }
-}
-
-/// Parses a record and returns the unique name of its type, if it has one.
-///
-/// # Errors
-/// Fails as `type_in` does.
-pub fn unique_name_in<'t>(
-    alloc: Global,
-    bytes: &'t [u8],
-    index: u32,
-) -> Result<Option<RawString<'t>>>
-    ensures { Answers (option_map text_bytes) result (of_type unique_name_in index bytes.now) }
-{
-    let value = type_in(alloc, bytes, index)?;
-    match &value {
-        TypeData::Class(class) => Ok(class.unique_name),
-        TypeData::Union(union) => Ok(union.unique_name),
-        TypeData::Enumeration(enumeration) => Ok(enumeration.unique_name),
-        _ => Ok(None),
-    }
-}
-
-/// Parses the record of an id.
-///
-/// # Errors
-/// Fails as `parse_id_data` does.
-#[tactic(auto, unfolding(pdb_tpi::specs::Record::id_of))]
-pub fn id_at<'t>(alloc: Global, bytes: &'t [u8]) -> Result<IdData<'t>>
-    ensures { Answers id_value result (id_of bytes.now) }
-{
-    parse_id_data(alloc, bytes)
-}
-
-/// Returns the `Row` of an id.
-fn row_of_id(value: &IdData<'_>) -> Row
-    ensures { result ≡ id_info (id_value value.now) }
-{
-    match value {
-        IdData::Function(id) => row!(0;
-            type_index: Some(id.function_type.0), second_index: id.scope.map(|scope| scope.0)),
-        IdData::MemberFunction(id) => row!(1;
-            type_index: Some(id.function_type.0), third_index: Some(id.parent.0)),
-        IdData::BuildInfo(_) => Row::of(2, &Numbers::default()),
-        IdData::StringList(_) => Row::of(3, &Numbers::default()),
-        IdData::String(id) => row!(4; list_index: id.substrings.map(|list| list.0)),
-        IdData::UserDefinedTypeSource(id) => match id.source_file {
-            UserDefinedTypeSourceFileRef::Local(file) => row!(5;
-                type_index: Some(id.udt.0), second_index: Some(file.0), extra: Some(id.line)),
-            UserDefinedTypeSourceFileRef::Remote(module, place) => row!(5;
-                type_index: Some(id.udt.0), third_index: Some(module as u32),
-                number: Some(place.0 as u64), extra: Some(id.line)),
-        },
-    }
-}
-
-/// Parses the record of an id and returns its `Row`, for the caller.
-///
-/// # Errors
-/// Fails as `id_at` does.
-pub fn id_row_in(alloc: Global, bytes: &[u8]) -> Result<Row>
-    ensures { Answers (λ row. row) result (of_id id_info bytes.now) }
-{
-    Ok(row_of_id(&id_at(alloc, bytes)?))
-}
-
-/// Parses the record of an id and returns the name of a function, a method or a text. No other id
-/// has one.
-///
-/// # Errors
-/// Fails as `id_at` does.
-pub fn id_name_in<'t>(alloc: Global, bytes: &'t [u8]) -> Result<Option<RawString<'t>>>
-    ensures { Answers (option_map text_bytes) result (of_id id_name bytes.now) }
-{
-    let value = id_at(alloc, bytes)?;
-    Ok(value.name())
-}
-
-/// Parses the record of an id and returns the indexes that it lists, or None if it isn't a list.
-///
-/// # Errors
-/// Fails as `id_at` does, and with `OutOfMemory` if an allocation fails.
-pub fn list_of(alloc: Global, bytes: &[u8]) -> Result<Option<Vec<u32>>>
-    ensures { Answers (option_map (λ list. list.items)) result (of_id id_list bytes.now) }
-{
-    let value = id_at(alloc, bytes)?;
-    match &value {
-        IdData::BuildInfo(list) => {
-            Ok(Some(list.arguments.iter().map(|index| index.0).collect(alloc)?))
-        }
-        IdData::StringList(list) => Ok(Some(numbers_of(alloc, &list.substrings)?)),
+    match said {
+        Said::Type(TypeData::MethodList(list)) => Ok(Some(method_rows(alloc, &list.methods)?)),
         _ => Ok(None),
     }
 }

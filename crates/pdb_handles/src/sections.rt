@@ -1,11 +1,13 @@
 //! The sections of an image.
 
-ghost use Rattle.std.specs.Prelude.{◌≡◌, ◌<◌, length};
+ghost use Rattle.std.specs.Prelude.{◌≡◌};
 ghost use Rattle.pdb_base.specs.Answer.{Answers};
 ghost use Rattle.pdb_handles.specs.File.{section_info, sections_told};
 
-use pdb_base::{Result, Stream};
+use crate::file::stream_in;
+use pdb_base::Result;
 use pdb_file::section_headers::section_headers;
+use pdb_msf::Layout;
 use pdb_space::ImageSectionHeader;
 use std::alloc::Global;
 
@@ -53,15 +55,14 @@ fn section_of(header: &ImageSectionHeader) -> Section
     }
 }
 
-/// Reads the headers of the sections that a stream holds.
+/// Reads the headers of the sections that a stream of a file holds.
 ///
 /// # Errors
-/// Fails as `section_headers` does, and with `OutOfMemory` if an allocation fails.
-pub fn sections_in(alloc: Global, stream: &[u8]) -> Result<Vec<Section>>
-    requires { length stream.now < 0xffffffff }
-    ensures { Answers (λ sections. sections.items) result (sections_told stream.now) }
+/// Fails as `stream_in` and `section_headers` do, and with `OutOfMemory` if an allocation fails.
+pub fn sections_in(alloc: Global, layout: &Layout, file: &[u8], number: u32) -> Result<Vec<Section>>
+    ensures { Answers (λ sections. sections.items) result (sections_told layout.now file.now number) }
 {
-    let read = section_headers(alloc, &Stream::new(stream.to_vec(alloc)?))?;
+    let read = section_headers(alloc, &stream_in(alloc, layout, file, number)?)?;
     let headers = read.as_slice();
     let mut sections = Vec::with_capacity(alloc, headers.len())?;
     for header in headers {

@@ -2,10 +2,11 @@
 
 ghost use Rattle.std.specs.{Prelude.◌≡◌, Option.option_map};
 ghost use Rattle.pdb_base.specs.Refusal.{refusal_of};
-ghost use Rattle.pdb_handles.specs.Copied.{CopiesOrLacks, text_copied};
-ghost use Rattle.pdb_handles.specs.Told.{candidate, kind_numbered, refusal_told, text_if, text_numbered};
+ghost use Rattle.pdb_handles.specs.Copied.{CopiesOrLacks};
+ghost use Rattle.pdb_handles.specs.Told.{candidate, fault_text, kind_numbered, plain_text, refusal_told, text_if};
+ghost use Rattle.pdb_handles.specs.Told.{text_numbered, text_or_none};
 
-use crate::copied::{copy_nothing, copy_out};
+use crate::copied::{copy_nothing, copy_text};
 use crate::fault::{Fault, NO_TEXT};
 use pdb_base::Error;
 use std::alloc::Global;
@@ -91,7 +92,7 @@ fn candidate(status: u32, first: u32, second: u32) -> Option<Error>
 
 /// Returns the error that a fault reports, or None if it reports none.
 #[tactic(auto, unfolding(crate::specs::Told::refusal_told))]
-pub fn error_of_fault(about: &Fault) -> Option<Error>
+fn error_of_fault(about: &Fault) -> Option<Error>
     ensures { option_map refusal_of result ≡ refusal_told about.now }
 {
     let error = candidate(about.status, about.first, about.second)?;
@@ -101,23 +102,54 @@ pub fn error_of_fault(about: &Fault) -> Option<Error>
     None
 }
 
-/// Copies the text of an error into the caller's array, if there is an error. An I/O error has no
+/// Returns the text of a status that needs no number, if it is such a status.
+fn plain_text(status: u32) -> Option<&'static str>
+    ensures { option_map (λ text. text.now) result ≡ plain_text status }
+{
+    match status {
+        0 => Some("success"),
+        1 => Some("not a program database of version 7.00"),
+        5 => Some("no stream has this name"),
+        7 => Some("the file ends too soon"),
+        8 => Some("the bytes end too soon"),
+        14 => Some("a record's length leaves no room for its kind"),
+        21 => Some("the file has no section headers, and so no address map"),
+        28 => Some("an allocation failed"),
+        100 => Some("the handle is open already"),
+        101 => Some("the handle is not open"),
+        102 => Some("the array has no room for the answer"),
+        104 => Some("no text for this fault"),
+        105 => Some("the walk is at its end"),
+        106 => Some("there is no such value"),
+        107 => Some("the table moves the address nowhere"),
+        _ => None,
+    }
+}
+
+/// Copies the text of an error to the caller's array, if there is an error. An I/O error has no
 /// text.
-pub fn copy_text_of(
-    alloc: Global,
-    error: Option<Error>,
-    room: &mut [u8],
-    length: &mut usize,
-) -> Fault
+fn copy_text_of(alloc: Global, error: Option<Error>, room: &mut [u8], length: &mut usize) -> Fault
     ensures { CopiesOrLacks (record { fault = result; length = length.new; room = room.new }) room.old
-        (text_copied room.old (text_if (option_map refusal_of error))) }
+        (text_or_none room.old (text_if (option_map refusal_of error))) }
 {
     let error = match error {
         None | Some(Error::IoError(_)) => return copy_nothing(Fault::status(NO_TEXT), length),
         Some(error) => error,
     };
     match format!(in alloc; "{error}") {
-        Ok(text) => copy_out(text.as_bytes(), room, length),
+        Ok(text) => copy_text(text.as_bytes(), room, length),
         Err(_) => copy_nothing(Fault::of(&Error::OutOfMemory), length),
+    }
+}
+
+/// Copies the text of a fault to the caller's array, or returns a fault of status `NO_TEXT` if there
+/// is none.
+pub fn copy_fault_text(alloc: Global, about: &Fault, room: &mut [u8], length: &mut usize) -> Fault
+    ensures { CopiesOrLacks (record { fault = result; length = length.new; room = room.new }) room.old
+        (text_or_none room.old (fault_text about.now)) }
+{
+    match plain_text(about.status) {
+        Some(text) => copy_text(text.as_bytes(), room, length),
+        None => copy_text_of(alloc, error_of_fault(about), room, length),
     }
 }

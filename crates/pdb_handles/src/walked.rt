@@ -1,42 +1,49 @@
-//! Walks along tables of types, with the numbers in their records.
+//! Walks along tables of types and of ids, with the numbers in their records.
 
-ghost use Rattle.pdb_tpi.specs.{OpenTable.record_bytes, Record.type_of};
-ghost use Rattle.pdb_handles.specs.Walked.{IsTypeRow, WritesNext};
+ghost use Rattle.pdb_tpi.specs.{OpenTable.record_bytes};
+ghost use Rattle.pdb_handles.specs.Walked.{IsTypeRow, WritesNext, record_says};
 
+use crate::content::Records;
 use crate::fault::{END, FINE, Fault};
-use crate::open_table::Located;
-use crate::records::write_type_row;
+use crate::records::{write_id_row, write_type_row};
 use crate::row::{Numbers, Row};
-use pdb_base::TypeIndex;
-use pdb_tpi::{OpenWalk, RecordPlace};
+use crate::tables::Located;
+use pdb_tpi::RecordPlace;
 use std::alloc::Global;
 
-/// A record of a table of types, and what it says.
+/// A record of a table, and what it says.
 #[repr(C)]
 #[derive(Clone, Copy)]
 pub struct TypeRow {
     /// Where the record is in the stream of the table.
-    pub place: Located,
+    pub position: Located,
     /// How parsing the record ended.
     pub fault: Fault,
     /// What the record says, or zeros if parsing it failed.
     pub info: Row,
 }
 
-/// Parses the record at a place of a table, which is that of the type of an index, and writes what
-/// it says, or the fault of its error and a `Row` of zeros.
+/// Parses the record at a place of a table, which is that of an index, and writes what it says, or
+/// the fault of its error and a `Row` of zeros.
 #[inline(always)]
-fn write_type(
+#[tactic(auto, using(crate::proofs::WalkedLemmas::told_row))]
+fn write_record(
     alloc: Global,
-    kept: &OpenWalk<TypeIndex>,
+    records: &Records,
     index: u32,
     place: RecordPlace,
     told: &mut TypeRow,
 )
-    ensures { IsTypeRow index place (type_of index (record_bytes kept.now.table place)) told.new }
+    ensures { IsTypeRow index place
+        (record_says records.now.are_ids index (record_bytes records.now.types.table place)) told.new }
 {
-    told.place = Located::at(index, place);
-    told.fault = write_type_row(alloc, kept.table().bytes_at(place), index, &mut told.info);
+    let bytes = records.types.table().bytes_at(place);
+    told.position = Located::at(index, place);
+    told.fault = if records.are_ids {
+        write_id_row(alloc, bytes, &mut told.info)
+    } else {
+        write_type_row(alloc, bytes, index, &mut told.info)
+    };
     if told.fault.status != FINE {
         told.info = Row::of(0, &Numbers::default());
     }
@@ -46,17 +53,17 @@ fn write_type(
 /// or as are left before the walk stops, and sets `count` to their number.
 pub fn write_next(
     alloc: Global,
-    kept: &mut OpenWalk<TypeIndex>,
+    records: &mut Records,
     rows: &mut [TypeRow],
     count: &mut usize,
 ) -> Fault
-    ensures { WritesNext rows.old kept.old
-        (record { fault = result; length = count.new; room = rows.new }) kept.new }
+    ensures { WritesNext rows.old records.old
+        (record { fault = result; length = count.new; room = rows.new }) records.new }
 {
     for at in 0..rows.len() {
-        let index = kept.index().min(0xffff_ffff) as u32;
-        match kept.step() {
-            Ok(Some(place)) => write_type(alloc, kept, index, place, &mut rows[at]),
+        let index = records.types.index().min(0xffff_ffff) as u32;
+        match records.types.step() {
+            Ok(Some(place)) => write_record(alloc, records, index, place, &mut rows[at]),
             Ok(None) => {
                 *count = at;
                 return Fault::status(END);

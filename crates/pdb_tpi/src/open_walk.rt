@@ -76,6 +76,7 @@ impl<I: ItemIndex> OpenWalk<I> {
     pub fn step(&mut self) -> Result<Option<RecordPlace>>
         ensures place { Gives (λ place. (place, self.new)) result (step_located self.old) }
         ensures kept { OnErr result (self.new ≡ self.old) }
+        ensures table { self.new.table ≡ self.old.table }
     {
         let mut items = ItemIter::at(self.table.items(), self.index, self.position);
         let Some(item) = items.next()? else {

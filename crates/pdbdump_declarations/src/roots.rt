@@ -6,7 +6,7 @@ use crate::memory::AllocResult;
 use crate::table_walk::{Found, Walked};
 use pdb_base::{Error, TypeIndex};
 use pdb_types::Definitions;
-use pdbdump_types::{index_named, is_pattern, matches};
+use pdbdump_types::{index_named, matches};
 use std::alloc::{AllocError, Global};
 
 /// Returns whether the name of a type matches a pattern, if there is one.
@@ -82,8 +82,5 @@ pub(crate) fn types_named(
     if let Some(index) = index_named(name) {
         return Ok(definition_at(alloc, definitions, index)?);
     }
-    if is_pattern(name.as_bytes()) {
-        return Ok(matching(alloc, walked, Some(name.as_bytes()))?);
-    }
-    definitions.all_definitions(alloc, name.as_bytes())
+    Ok(matching(alloc, walked, Some(name.as_bytes()))?)
 }

@@ -6,8 +6,7 @@ use crate::member_path::{Path, PathEnd, follow};
 use pdb_base::{Result, TypeIndex};
 use pdb_types::Definitions;
 use pdbdump_types::{
-    Allowance, LetterCase, Wanted, class_of, classes_in, index_named, is_pattern, steps_behind,
-    type_at,
+    Allowance, LetterCase, Wanted, class_of, classes_in, index_named, steps_behind, type_at,
 };
 use std::alloc::Global;
 
@@ -27,11 +26,8 @@ pub(crate) fn types_named(
     if let Some(index) = index_named(name) {
         return Ok(vec![in alloc; index]?);
     }
-    let name = name.as_bytes();
-    match case {
-        LetterCase::Exact if !is_pattern(name) => definitions.all_definitions(alloc, name),
-        _ => Ok(classes_in(alloc, definitions.types(), Wanted::Meant(name, case))?),
-    }
+    let wanted = Wanted::Meant(name.as_bytes(), case);
+    Ok(classes_in(alloc, definitions.types(), wanted)?)
 }
 
 /// Returns the paths that begin with the name of a class and a point, those with the longest names

@@ -6,6 +6,10 @@ use crate::pattern::{matches, matches_ignoring_case};
 use pdb_base::{Error, RawString, TypeIndex};
 use pdb_tpi::{OpenTable, Type};
 use pdb_types::{Definitions, Layout};
+use pdb_values::constants::{
+    LF_ARGLIST, LF_BITFIELD, LF_FIELDLIST, LF_METHODLIST, LF_MFUNCTION, LF_MODIFIER, LF_POINTER,
+    LF_PROCEDURE,
+};
 use pdb_values::{ClassKind, TypeData};
 use std::alloc::{AllocError, Global};
 
@@ -97,8 +101,20 @@ fn is_name_wanted(
     }
 }
 
+/// Returns whether records of a kind define nothing, as most records of a table do.
+fn defines_nothing(kind: u16) -> bool {
+    match kind {
+        LF_ARGLIST | LF_BITFIELD | LF_FIELDLIST | LF_METHODLIST => true,
+        LF_MFUNCTION | LF_MODIFIER | LF_POINTER | LF_PROCEDURE => true,
+        _ => false,
+    }
+}
+
 /// Returns whether a record defines a type that is wanted. A record that can't be read defines none.
 fn is_defined(alloc: Global, item: &Type<'_>, wanted: Wanted<'_>) -> Result<bool, AllocError> {
+    if defines_nothing(item.raw_kind()) {
+        return Ok(false);
+    }
     match item.parse(alloc) {
         Ok(value) => match name_defined(&value, wanted) {
             Some(name) => is_name_wanted(alloc, wanted, name),

@@ -5,9 +5,10 @@ use pdb_base::Error;
 use pdb_fixtures::roles::{INFORMATION, NONE, debug_of};
 use pdb_fixtures::{file_of, with_bytes};
 use pdb_handles::Fault;
-use pdb_handles::file::{addresses_in, frames_in, layout_in, named_stream_in};
-use pdb_handles::information::{information_in, stream_names_in};
+use pdb_handles::file::{addresses_in, frames_in, layout_in, named_stream_in, names_in};
+use pdb_handles::identity::identity_in;
 use pdb_handles::roles::roles_in;
+use pdb_handles::stream_names::stream_names_in;
 use std::alloc::Global;
 use std::process::Abort;
 
@@ -31,7 +32,8 @@ fn file(rt: &impl Abort, alloc: Global) -> Vec<u8> {
 #[derive(Clone, Copy, Debug)]
 enum Call {
     Layout,
-    Information,
+    Identity,
+    StreamNames,
     Names,
     Stream(&'static [u8]),
     Roles,
@@ -43,8 +45,9 @@ enum Call {
 fn error_of(alloc: Global, file: &[u8], call: Call) -> Option<Error> {
     match call {
         Call::Layout => layout_in(alloc, file).err(),
-        Call::Information => information_in(alloc, file).err(),
-        Call::Names => stream_names_in(alloc, file).err(),
+        Call::Identity => identity_in(alloc, file).err(),
+        Call::StreamNames => stream_names_in(alloc, file).err(),
+        Call::Names => names_in(alloc, file).err(),
         Call::Stream(name) => named_stream_in(alloc, file, name).err(),
         Call::Roles => roles_in(alloc, file).err(),
         Call::Map => addresses_in(alloc, file).err(),
@@ -91,22 +94,24 @@ const ROWS: &[Row] = &[
     (MAGIC, b'm', Call::Layout, UNRECOGNIZED, 0),
     (MAGIC, b'm', Call::Roles, UNRECOGNIZED, 0),
     (PAGES_OF, 3, Call::Layout, PAGE_SIZE_INVALID, 768),
-    (PAGES_OF, 3, Call::Information, PAGE_SIZE_INVALID, 768),
+    (PAGES_OF, 3, Call::Identity, PAGE_SIZE_INVALID, 768),
     (PAGE_OF_DIRECTORY, 9, Call::Layout, OUT_OF_RANGE, 9),
-    (PAGE_OF_DIRECTORY, 9, Call::Information, OUT_OF_RANGE, 9),
-    (PAGE_OF_DIRECTORY, 9, Call::Names, OUT_OF_RANGE, 9),
+    (PAGE_OF_DIRECTORY, 9, Call::Identity, OUT_OF_RANGE, 9),
+    (PAGE_OF_DIRECTORY, 9, Call::StreamNames, OUT_OF_RANGE, 9),
     (PAGE_OF_DIRECTORY, 9, Call::Stream(b"/a"), OUT_OF_RANGE, 9),
     (PAGE_OF_DIRECTORY, 9, Call::Roles, OUT_OF_RANGE, 9),
     (PAGE_OF_DIRECTORY, 9, Call::Map, OUT_OF_RANGE, 9),
     (PAGE_OF_DIRECTORY, 9, Call::Frames, OUT_OF_RANGE, 9),
-    (SIZE_OF_1, 27, Call::Information, ENDED, 0),
-    (SIZE_OF_1, 27, Call::Names, ENDED, 0),
+    (SIZE_OF_1, 27, Call::Identity, ENDED, 0),
+    (SIZE_OF_1, 27, Call::StreamNames, ENDED, 0),
     (SIZE_OF_1, 27, Call::Stream(b"/a"), ENDED, 0),
-    (SIZE_OF_1, 73, Call::Names, ENDED, 0),
+    (SIZE_OF_1, 73, Call::StreamNames, ENDED, 0),
     (SIZE_OF_1, 73, Call::Stream(b"/a"), ENDED, 0),
     (SIZE_OF_1, 74, Call::Stream(b"a"), NAME_NOT_FOUND, 0),
     (SIZE_OF_1, 74, Call::Stream(b"/a"), NOT_FOUND, 2),
     (SIZE_OF_1, 74, Call::Stream(b"/names"), NOT_FOUND, 4),
+    (SIZE_OF_1, 73, Call::Names, ENDED, 0),
+    (SIZE_OF_1, 74, Call::Names, NOT_FOUND, 4),
     (SIZE_OF_3, 63, Call::Roles, ENDED, 0),
     (SIZE_OF_3, 63, Call::Map, ENDED, 0),
     (SIZE_OF_3, 63, Call::Frames, ENDED, 0),

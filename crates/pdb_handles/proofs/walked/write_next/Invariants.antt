@@ -3,4 +3,4 @@ use Rattle.pdb_handles.proofs.WalkedLemmas.{IsWrittenTo}
 use Rattle.pdb_handles.proofs.walked.write_next.Given as goal
 
 abbrev pub invariant-loop-at : goal.invariant-loop-at
-invariant-loop-at l = IsWrittenTo l.fn.rows l.rows l.fn.kept l.at l.kept
+invariant-loop-at l = IsWrittenTo l.fn.rows l.rows l.fn.records l.at l.records

@@ -1,4 +1,0 @@
-pub mod Definitions
-pub mod Findings
-pub mod Identity
-pub mod LayoutRow
