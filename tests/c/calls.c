@@ -357,7 +357,7 @@ static void print_layout(pdb_types *types, uint32_t index) {
         printf("layout 0x%" PRIx32 " %" PRIu32 " %" PRIu64 " %" PRIu64 " %" PRIu32, index, rows[i].kind, rows[i].offset, rows[i].size, rows[i].extent);
         printf(" %" PRIu32 " %" PRIu32 " 0x%" PRIx32 " 0x%" PRIx32 " %" PRIu32 " %" PRIu32, rows[i].bit, rows[i].bits, rows[i].type_index, rows[i].base_class,
                rows[i].base_position, rows[i].is_direct);
-        printf(" %s\n", whole(text + rows[i].name_offset, rows[i].name_length));
+        printf(" %s\n", rows[i].kind == PDB_LAYOUT_MEMBER ? whole(text + rows[i].name_offset, rows[i].name_length) : "");
     }
 }
 
