@@ -38,8 +38,8 @@ int main(int count, char **words) {
     uint32_t index = 0;
     uint64_t class_size = 0;
     size_t found = 0, rows = 0, size = 0;
-    uint32_t status = pdb_types_named(&types, words[2], strlen(words[2]), &index, 1, &found);
-    if (status != PDB_OK || !found) return fputs("no such class, or several\n", stderr), 1;
+    if (pdb_types_named(&types, words[2], strlen(words[2]), &index, 1, &found) != PDB_TOO_SMALL) check(&types.handle);
+    if (found != 1) fputs("no such class, or several\n", stderr), exit(1);
     pdb_type_size(&types, index, &class_size);
     check(&types.handle);
     if (pdb_type_layout(&types, index, NULL, 0, &rows, NULL, 0, &size) != PDB_TOO_SMALL) check(&types.handle);
