@@ -278,17 +278,27 @@ static void check_closed(pdb_types *closed) {
     EXPECT(had(&closed->handle, pdb_type_fields(closed, 0x1000, none, 1, &length, (char *)record, MOST, &size)) == PDB_NOT_OPEN && !length && !size);
 }
 
-// A handle that was moved is as it was.
+// Handles that were moved are as they were, also when the table keeps its definitions; where they were is nothing.
 static void check_moved(void) {
-    pdb_types *moved = room_for(1, sizeof *moved);
+    struct {
+        pdb_file file;
+        pdb_types table;
+    } *moved = room_for(1, sizeof *moved);
     pdb_index_range range = {7, 7};
-    memcpy(moved, &table, sizeof table);
+    uint64_t size = 7, size_then = 7;
+    uint32_t length = 7, status = had(&table.handle, pdb_type_size(&table, 0x74, &size));
+    memcpy(&moved->file, &file, sizeof file);
+    memcpy(&moved->table, &table, sizeof table);
+    memset(&file, 0, sizeof file);
     memset(&table, 0, sizeof table);
-    EXPECT(had(&table.handle, pdb_types_range(&table, &range)) == PDB_NOT_OPEN);
-    uint32_t status = pdb_types_range(moved, &range);
-    memcpy(&table, moved, sizeof table);
+    int is_well = pdb_types_range(&table, &range) == PDB_NOT_OPEN && pdb_file_stream_size(&file, PDB_TYPES, &length) == PDB_NOT_OPEN;
+    is_well = is_well && pdb_types_range(&moved->table, &range) == PDB_OK && range.end == maximum_index;
+    is_well = is_well && pdb_type_size(&moved->table, 0x74, &size_then) == status && size_then == size;
+    is_well = is_well && pdb_file_stream_size(&moved->file, PDB_TYPES, &length) == PDB_OK && length == stream_length;
+    memcpy(&file, &moved->file, sizeof file);
+    memcpy(&table, &moved->table, sizeof table);
     free(moved);
-    EXPECT(had(&table.handle, status) == PDB_OK && range.end == maximum_index);
+    EXPECT(is_well);
 }
 
 static void check_misuse(void) {
