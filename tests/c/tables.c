@@ -298,6 +298,7 @@ static void check_moved(void) {
     memcpy(&file, &moved->file, sizeof file);
     memcpy(&table, &moved->table, sizeof table);
     free(moved);
+    had(&table.handle, table.handle.fault.status);
     EXPECT(is_well);
 }
 

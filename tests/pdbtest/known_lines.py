@@ -220,7 +220,7 @@ CLOSED = [
     "sizes", "stream size", "stream", "named stream", "stream names", "roles", "identity", "sections", "names", "omap",
     "addresses", "frames", "types",
 ]  # fmt: skip
-NOT_OPEN, NO_TEXT = 101, 104
+NOT_OPEN = 101
 
 
 def refused_file(what, status, number):
