@@ -88,15 +88,12 @@ static void add_border(std::deque<Row> &rows, const std::string &work, const std
 }
 
 static void add_borders(std::deque<Row> &rows, File &file, const Numbers &indexes, std::shared_ptr<llvm::codeview::LazyRandomTypeCollection> finder) {
-  const Bytes &types = file.types;
+  const Bytes &bytes = file.bytes, &types = file.types;
   const TypeTable &table = file.table;
-  add_border(rows, "walk", file.name, table.count, [&types](uint32_t turns) { return border_walk(types, turns); },
-             repeated([&table] { return llvm_walk(table); }),
-             [&types](uint32_t turns) { return bench_walk(types.data(), types.size(), turns); });
-  add_border(rows, "rows", file.name, table.count, [&types](uint32_t turns) { return border_rows(types, turns); },
+  add_border(rows, "rows", file.name, table.count, [&bytes](uint32_t turns) { return border_rows(bytes, turns); },
              repeated([&table] { return llvm_rows(table); }),
              [&types](uint32_t turns) { return bench_rows(types.data(), types.size(), turns); });
-  add_border(rows, "find", file.name, table.count, [&types, indexes](uint32_t turns) { return border_find(types, indexes, turns); },
+  add_border(rows, "find", file.name, table.count, [&bytes, indexes](uint32_t turns) { return border_find(bytes, indexes, turns); },
              repeated([finder, indexes] { return llvm_find(*finder, indexes); }),
              [&types, indexes](uint32_t turns) { return bench_find(types.data(), types.size(), indexes.data(), indexes.size(), turns); });
 }
@@ -176,11 +173,12 @@ static void add_names(std::deque<Row> &rows, uint32_t count) {
   for (uint32_t &number : chosen)
     number = starts[number];
   const Numbers &offsets = kept(std::move(chosen));
+  const Bytes &file = kept(file_around(bytes));
   auto names = std::make_shared<NameTable>(bytes);
   Work ours = [&](uint32_t turns) { return bench_names(bytes.data(), bytes.size(), offsets.data(), offsets.size(), turns); };
   Work theirs = repeated([names, &offsets] { return llvm_names(*names, offsets); });
   rows.push_back({"names", "made", count, ours, theirs});
-  add_border(rows, "names", "made", count, [&](uint32_t turns) { return border_names(bytes, offsets, turns); }, theirs, ours);
+  add_border(rows, "names", "made", count, [&](uint32_t turns) { return border_names(file, offsets, turns); }, theirs, ours);
 }
 
 // Rows over what is made, at sizes ten times as large from one to the next, up to a greatest.

@@ -1,4 +1,5 @@
 #include "made_files.h"
+#include "made.h"
 #include "plain_searches.h"
 #include "llvm/DebugInfo/CodeView/DebugStringTableSubsection.h"
 #include "llvm/DebugInfo/MSF/MSFCommon.h"
@@ -100,6 +101,13 @@ Bytes made_file(uint32_t streams) {
   for (uint32_t stream = 0; stream < streams; stream++)
     for (uint32_t part = 0; part < pages_each; part++)
       put_number(file, place += 4, stream_pages[size_t(part) * streams + stream]);
+  return file;
+}
+
+Bytes file_around(const Bytes &stream) {
+  Bytes file(MADE_FRONT);
+  make_front(file.data(), stream.size());
+  file.insert(file.end(), stream.begin(), stream.end());
   return file;
 }
 

@@ -22,5 +22,8 @@ Bytes made_names(uint32_t names, Numbers &offsets);
 // A file of so many streams of three pages each, which lie among the pages of others.
 Bytes made_file(uint32_t streams);
 
+// A file of a stream, which is its string table.
+Bytes file_around(const Bytes &stream);
+
 // The first records of a table of types.
 Bytes first_records(const Bytes &stream, uint32_t count);

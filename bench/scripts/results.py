@@ -19,8 +19,6 @@ WORKS = {
     "ranges": ("100,000 OMAP ranges of 256", "records", "C"),
     "frames": ("100,000 frames at an address", "frames", "C"),
     "names": ("100,000 names", "names", "LLVM"),
-    "border_walk": ("walk along the types, through C", "types", "LLVM"),
-    "border_walk_beside_ours": ("walk through C, against our own", "types", "ours"),
     "border_rows": ("walk, and parse each type as a row, through C", "types", "LLVM"),
     "border_rows_beside_ours": ("walk and parse through C, against our own", "types", "ours"),
     "border_find": ("100,000 finds, through C", "types", "LLVM"),

@@ -3,35 +3,36 @@
 #include <stdio.h>
 #include <stdlib.h>
 
-/* Bytes, and how many there are. */
-typedef struct bytes { uint8_t *at; size_t length; } bytes;
-
-static pdb_fault fault;
-
-/* Ends the program with the text of an error. */
-static void check(uint32_t status) {
-    if (status == PDB_OK) return;
-    fprintf(stderr, "%s\n", pdb_status_text(status));
+/* Ends the program with the text of a fault. */
+static void fail(pdb_fault fault) {
+    char text[200] = "an allocation failed";
+    size_t length = 0;
+    pdb_fault_text(&fault, text, sizeof text, &length);
+    fprintf(stderr, "%s\n", text);
     exit(1);
 }
+
+/* Ends it if the last call on a handle failed. */
+static void check(const pdb_handle *handle) { if (handle->fault.status) fail(handle->fault); }
 
 /* Memory for so many items, one at least. */
 static void *room_for(size_t count, size_t size) {
     void *room = calloc(count ? count : 1, size);
-    if (!room) check(PDB_OUT_OF_MEMORY);
+    if (!room) fail((pdb_fault){PDB_OUT_OF_MEMORY, 0, 0});
     return room;
 }
 
 /* Opens the file of a path, whose bytes stay until it is closed. */
 static inline void open_file(const char *path, pdb_file *file) {
     FILE *in = fopen(path, "rb");
-    if (!in || fseek(in, 0, SEEK_END)) check(PDB_IO_ERROR);
-    bytes data = {NULL, (size_t)ftell(in)};
+    if (!in || fseek(in, 0, SEEK_END)) fail((pdb_fault){PDB_IO_ERROR, 1, 0});
+    size_t length = (size_t)ftell(in);
     rewind(in);
-    data.at = room_for(data.length, 1);
-    if (fread(data.at, 1, data.length, in) != data.length) check(PDB_IO_ERROR);
+    uint8_t *bytes = room_for(length, 1);
+    if (fread(bytes, 1, length, in) != length) fail((pdb_fault){PDB_IO_ERROR, 1, 0});
     fclose(in);
-    check(pdb_file_open(data.at, data.length, file, &fault));
+    pdb_file_open(bytes, length, file);
+    check(&file->handle);
 }
 
 static inline void close_file(pdb_file *file) {
@@ -40,13 +41,12 @@ static inline void close_file(pdb_file *file) {
     free(bytes);
 }
 
-/* Copies a stream. */
-static inline bytes stream_of(pdb_file *file, uint32_t number) {
-    bytes stream = {0};
-    uint32_t status = pdb_file_stream(file, number, SIZE_MAX, NULL, 0, &stream.length, &fault);
-    if (status != PDB_TOO_SMALL) check(status);
-    stream.at = room_for(stream.length, 1);
-    check(pdb_file_stream(file, number, SIZE_MAX, stream.at, stream.length, &stream.length, &fault));
+/* Copies a stream, and sets its length. */
+static inline uint8_t *stream_of(pdb_file *file, uint32_t number, size_t *length) {
+    if (pdb_file_stream(file, number, SIZE_MAX, NULL, 0, length) != PDB_TOO_SMALL) check(&file->handle);
+    uint8_t *stream = room_for(*length, 1);
+    pdb_file_stream(file, number, SIZE_MAX, stream, *length, length);
+    check(&file->handle);
     return stream;
 }
 

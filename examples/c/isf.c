@@ -16,12 +16,12 @@ static int is_signed(uint32_t index) {
     return (index >= 0x10 && index <= 0x14) || (index >= 0x40 && index <= 0x46) || (index >= 0x70 && index <= 0x78 && !(index & 1));
 }
 
-static void print_base_types(table *table, unsigned address_size) {
+static void print_base_types(pdb_types *types, unsigned address_size) {
     const char *form = ",\n\"%s\":{\"kind\":\"%s\",\"size\":%" PRIu64 ",\"signed\":%s,\"endian\":\"little\"}";
     printf(form + 2, "pointer", "int", (uint64_t)address_size, "false");
     for (uint32_t index = 0; index < sizeof is_met; index++) {
-        uint64_t size = size_of(table, index);
-        if (is_met[index]) printf(form, base_name(table, index), kind_of(index, size), size, is_signed(index) ? "true" : "false");
+        uint64_t size = size_of(types, index);
+        if (is_met[index]) printf(form, base_name(types, index), kind_of(index, size), size, is_signed(index) ? "true" : "false");
     }
 }
 
@@ -40,21 +40,20 @@ int main(int count, char **words) {
     pdb_file file = {0};
     open_file(words[1], &file);
     pdb_identity identity = {0};
-    check(pdb_identity_of(file.bytes, file.length, &identity, &fault));
-    table table = {.stream = stream_of(&file, PDB_TYPES_STREAM)};
-    check(pdb_types_open(table.stream.at, table.stream.length, &table.types, &fault));
-    check(pdb_definitions_open(table.stream.at, table.stream.length, &table.definitions, &fault));
+    pdb_file_identity(&file, &identity);
+    check(&file.handle);
+    pdb_types types = {0};
+    pdb_types_open(&file, PDB_TYPES, &types);
+    check(&types.handle);
     unsigned version = pdb_version();
     printf("{\"metadata\":{\"format\":\"6.2.0\",\"producer\":{\"name\":\"pdb_container\",\"version\":\"%u.%u.%u\"}},\n",
            version / 10000, version / 100 % 100, version % 100);
-    printf("\"user_types\":{"), print_definitions(&table, 0);
-    printf("},\n\"enums\":{"), print_definitions(&table, 1);
-    printf("},\n\"base_types\":{"), print_base_types(&table, identity.machine == 0x8664 || identity.machine == 0xaa64 ? 8 : 4);
+    printf("\"user_types\":{"), print_definitions(&types, 0);
+    printf("},\n\"enums\":{"), print_definitions(&types, 1);
+    printf("},\n\"base_types\":{"), print_base_types(&types, identity.machine == 0x8664 || identity.machine == 0xaa64 ? 8 : 4);
     printf("},\n\"symbols\":{"), each_public(&file, print_symbol);
     puts("}}");
-    pdb_definitions_close(&table.definitions);
-    pdb_types_close(&table.types);
-    free(table.stream.at);
+    pdb_close(&types.handle);
     close_file(&file);
     return 0;
 }

@@ -4,57 +4,55 @@
 
 #include "publics.h"
 
-typedef struct table { bytes stream; pdb_types types; pdb_definitions definitions; } table;
 static uint8_t is_met[256]; /* the base types that were met */
 
 /* The size of a type in bytes, 0 if nothing says it. */
-static uint64_t size_of(table *table, uint32_t index) {
+static uint64_t size_of(pdb_types *types, uint32_t index) {
     uint64_t size = 0;
-    return pdb_type_size(&table->definitions, index, &size, &fault) ? 0 : size;
+    return pdb_type_size(types, index, &size) ? 0 : size;
 }
 
 /* The text of a base type. */
-static const char *base_name(table *table, uint32_t index) {
+static const char *base_name(pdb_types *types, uint32_t index) {
     static char text[64];
     size_t length = 0;
-    check(pdb_type_text(&table->definitions, index, NULL, 0, (uint8_t *)text, sizeof text - 1, &length, &fault));
-    return text[length] = 0, text;
+    pdb_type_text(types, index, NULL, 0, text, sizeof text, &length);
+    check(&types->handle);
+    return text;
 }
 
 /* Prints what a type is called: by its index if it has no name in the source. */
-static void print_key(table *table, pdb_record place) {
+static void print_key(pdb_types *types, uint32_t index) {
     static char name[1 << 16];
     size_t length = 0;
-    const uint8_t *record = table->stream.at + place.offset;
-    check(pdb_type_name(record, place.length, place.index, (uint8_t *)name, sizeof name - 1, &length, &fault));
-    name[length] = 0;
-    if (strstr(name, "<unnamed-")) printf("\"__unnamed_%x\"", (unsigned)place.index);
+    pdb_type_name(types, index, name, sizeof name, &length);
+    check(&types->handle);
+    if (strstr(name, "<unnamed-")) printf("\"__unnamed_%x\"", (unsigned)index);
     else print_quoted(name, length);
 }
 
-static void print_reference(table *table, uint32_t index) {
-    pdb_record place = {0};
+static void print_reference(pdb_types *types, uint32_t index) {
     pdb_type_info it = {{0}};
-    uint32_t status = pdb_types_find(&table->types, index, &place, &fault);
-    if (status != PDB_NONE) check(status);
-    check(pdb_type_parse(table->stream.at + place.offset, place.length, index, &it, &fault));
-    uint32_t shape = it.any.shape, inner = shape == PDB_PRIMITIVE ? index & 0xff : it.row.type_index;
+    pdb_type_parse(types, index, &it);
+    check(&types->handle);
+    uint32_t shape = it.row.shape, inner = shape == PDB_PRIMITIVE ? index & 0xff : it.row.type_index;
     if (shape == PDB_PRIMITIVE && index == inner) {
         is_met[index] = 1;
-        printf("{\"kind\":\"base\",\"name\":\"%s\"}", base_name(table, index));
+        printf("{\"kind\":\"base\",\"name\":\"%s\"}", base_name(types, index));
     } else if (shape == PDB_CLASS || shape == PDB_UNION || shape == PDB_ENUMERATION) {
         printf("{\"kind\":\"%s\",\"name\":", shape == PDB_CLASS ? "struct" : shape == PDB_UNION ? "union" : "enum");
-        print_key(table, place);
+        print_key(types, index);
         putchar('}');
     } else if (shape == PDB_PROCEDURE || shape == PDB_MEMBER_FUNCTION) printf("{\"kind\":\"function\"}");
     else {
-        if (inner >= index) check(PDB_TYPE_NOT_FOUND); /* a damaged table, whose types are made of later ones */
-        uint64_t element = size_of(table, inner), count = size_of(table, index) / (element ? element : 1);
+        /* in a damaged table, types are made of later ones */
+        if (inner >= index) fail((pdb_fault){PDB_TYPE_NOT_FOUND, inner, 0});
+        uint64_t element = size_of(types, inner), count = size_of(types, index) / (element ? element : 1);
         unsigned at = it.bitfield.position, bits = it.bitfield.length;
         if (shape == PDB_ARRAY) printf("{\"kind\":\"array\",\"count\":%" PRIu64 ",\"subtype\":", count);
         if (shape == PDB_POINTER || shape == PDB_PRIMITIVE) printf("{\"kind\":\"pointer\",\"subtype\":");
         if (shape == PDB_BITFIELD) printf("{\"kind\":\"bitfield\",\"bit_position\":%u,\"bit_length\":%u,\"type\":", at, bits);
-        print_reference(table, inner);
+        print_reference(types, inner);
         if (shape != PDB_MODIFIER) putchar('}');
     }
 }

@@ -1,9 +1,8 @@
 // Asks each call that is asked twice, first for a length and then for the answer, with arrays of 0, n - 1, n and n + 1
 // items, each of which ends where memory ends: the length is exact, exactly enough room is enough, nothing is written
-// without it, and nothing past the answer.
+// without it, and nothing past the answer. A text takes one byte more than its length, for the NUL.
 //
 // usage: rooms FILE    FILE is examples/sample.pdb. Prints how many answers were asked for.
-#include <inttypes.h>
 #include <pdb_container.h>
 #include <stdio.h>
 #include <stdlib.h>
@@ -13,65 +12,58 @@
 
 enum { FILLED = 0xa5 };
 
-static uint8_t *bytes, *stream, *record;
-static size_t bytes_length, stream_length, record_length;
+static uint8_t *bytes;
+static size_t bytes_length;
 static pdb_file file;
+static pdb_roles roles;
 static pdb_omap omap;
 static pdb_address_map map;
 static pdb_frames frames;
 static pdb_types types;
 static pdb_names string_table;
-static pdb_definitions definitions;
 static pdb_identity identity;
-static uint32_t record_index;
+static uint32_t asked_index;
 static const uint32_t offsets[] = {0, UINT32_MAX, 1}, indexes[] = {0x1000, 0x74, UINT32_MAX, 0x1001};
-static pdb_fault fault;
 
-// A call into one array, or into two: of rows, and of the bytes of their names. `room` has a size of its items.
-typedef uint32_t call(void *room, size_t room_length, size_t *length, uint8_t *names, size_t names_length, size_t *size);
+// A call into one array, or into two: of rows, and of their names. `room` has a size of its items.
+typedef uint32_t call(void *room, size_t room_length, size_t *length, char *names, size_t names_length, size_t *size);
 
-#define ONE(name, kind, words)                                                                                                                                \
-    static uint32_t name(void *room, size_t room_length, size_t *length, uint8_t *names, size_t names_length, size_t *size) {                                 \
+#define CALL(name, kind, words)                                                                                                                               \
+    static uint32_t name(void *room, size_t room_length, size_t *length, char *names, size_t names_length, size_t *size) {                                    \
         (void)names, (void)names_length, (void)size;                                                                                                          \
         kind *items = room;                                                                                                                                   \
         return words;                                                                                                                                         \
     }
-#define TWO(name, kind, words)                                                                                                                                \
-    static uint32_t name(void *room, size_t room_length, size_t *length, uint8_t *names, size_t names_length, size_t *size) {                                 \
-        kind *items = room;                                                                                                                                   \
-        return words;                                                                                                                                         \
-    }
 
-ONE(error_text, uint8_t, pdb_error_text(&(pdb_fault){PDB_TYPE_NOT_FOUND, 7, 0}, items, room_length, length, &fault))
-ONE(key, uint8_t, pdb_key(&identity, PDB_KEY_GUID, items, room_length, length, &fault))
-ONE(validate, pdb_finding, pdb_validate(bytes, bytes_length - 1024, 0, items, room_length, length, &fault))
-ONE(file_stream, uint8_t, pdb_file_stream(&file, PDB_TYPES_STREAM, SIZE_MAX, items, room_length, length, &fault))
-ONE(limited_stream, uint8_t, pdb_file_stream(&file, PDB_TYPES_STREAM, 100, items, room_length, length, &fault))
-ONE(named_stream, uint8_t, pdb_file_named_stream(&file, (const uint8_t *)"/names", 6, items, room_length, length, &fault))
-TWO(stream_names, pdb_named_stream, pdb_file_stream_names(&file, items, room_length, length, names, names_length, size, &fault))
-ONE(omap_records, pdb_omap_record, pdb_omap_records(&omap, items, room_length, length, &fault))
-ONE(omap_ranges, pdb_span, pdb_omap_ranges(&omap, 0x1000, 0x1190, items, room_length, length, &fault))
-ONE(sections, pdb_section, pdb_sections(stream, stream_length, items, room_length, length, &fault))
-ONE(rva_ranges, pdb_span, pdb_rva_ranges(&map, 0x1000, 0x1190, items, room_length, length, &fault))
-ONE(internal_rva_ranges, pdb_span, pdb_internal_rva_ranges(&map, 0x1000, 0x1190, items, room_length, length, &fault))
-ONE(frames_list, pdb_frame, pdb_frames_list(&frames, items, room_length, length, &fault))
-ONE(names_places, pdb_name, pdb_names_places(&string_table, offsets, 3, items, room_length, length, &fault))
-ONE(types_find_all, pdb_found_record, pdb_types_find_all(&types, indexes, 4, items, room_length, length, &fault))
-ONE(type_name, uint8_t, pdb_type_name(record, record_length, record_index, items, room_length, length, &fault))
-ONE(unique_name, uint8_t, pdb_type_unique_name(record, record_length, record_index, items, room_length, length, &fault))
-ONE(arguments, uint32_t, pdb_type_arguments(record, record_length, record_index, items, room_length, length, &fault))
-ONE(dimensions, uint32_t, pdb_type_dimensions(record, record_length, record_index, items, room_length, length, &fault))
-ONE(methods, pdb_type_info, pdb_type_methods(record, record_length, record_index, items, room_length, length, &fault))
-TWO(type_fields, pdb_field, pdb_type_fields(record, record_length, record_index, items, room_length, length, names, names_length, size, &fault))
-TWO(types_fields, pdb_field, pdb_types_fields(&types, record_index, items, room_length, length, names, names_length, size, &fault))
-ONE(id_name, uint8_t, pdb_id_name(record, record_length, items, room_length, length, &fault))
-ONE(id_list, uint32_t, pdb_id_list(record, record_length, items, room_length, length, &fault))
-ONE(definitions_named, uint32_t, pdb_definitions_named(&definitions, (const uint8_t *)"Point", 5, items, room_length, length, &fault))
-ONE(type_text, uint8_t, pdb_type_text(&definitions, record_index, (const uint8_t *)"it", 2, items, room_length, length, &fault))
-TWO(layout, pdb_layout_row, pdb_layout(&definitions, record_index, items, room_length, length, names, names_length, size, &fault))
+CALL(fault_text, char, pdb_fault_text(&(pdb_fault){PDB_TYPE_NOT_FOUND, 7, 0}, items, room_length, length))
+CALL(key, char, pdb_key(&identity, PDB_KEY_GUID, items, room_length, length))
+CALL(validate, pdb_finding, pdb_validate(bytes, bytes_length - 1024, 0, items, room_length, length))
+CALL(file_stream, uint8_t, pdb_file_stream(&file, PDB_TYPES, SIZE_MAX, items, room_length, length))
+CALL(limited_stream, uint8_t, pdb_file_stream(&file, PDB_TYPES, 100, items, room_length, length))
+CALL(named_stream, uint8_t, pdb_file_named_stream(&file, "/names", 6, items, room_length, length))
+CALL(stream_names, pdb_named_stream, pdb_file_stream_names(&file, items, room_length, length, names, names_length, size))
+CALL(omap_records, pdb_omap_record, pdb_omap_records(&omap, items, room_length, length))
+CALL(omap_ranges, pdb_span, pdb_omap_ranges(&omap, 0x1000, 0x1190, items, room_length, length))
+CALL(sections, pdb_section, pdb_file_sections(&file, roles.section_headers, items, room_length, length))
+CALL(loaded_ranges, pdb_span, pdb_address_ranges(&map, PDB_INTERNAL_RVA, 0x1000, 0x1190, items, room_length, length))
+CALL(internal_ranges, pdb_span, pdb_address_ranges(&map, PDB_RVA, 0x1000, 0x1190, items, room_length, length))
+CALL(frames_list, pdb_frame, pdb_frames_list(&frames, items, room_length, length))
+CALL(names_get, char, pdb_names_get(&string_table, 1, items, room_length, length))
+CALL(empty_name, char, pdb_names_get(&string_table, 0, items, room_length, length))
+CALL(names_places, pdb_name, pdb_names_places(&string_table, offsets, 3, items, room_length, length))
+CALL(types_find, pdb_found_record, pdb_types_find(&types, indexes, 4, items, room_length, length))
+CALL(types_named, uint32_t, pdb_types_named(&types, "Point", 5, items, room_length, length))
+CALL(type_record, uint8_t, pdb_type_record(&types, asked_index, items, room_length, length))
+CALL(type_name, char, pdb_type_name(&types, asked_index, items, room_length, length))
+CALL(unique_name, char, pdb_type_unique_name(&types, asked_index, items, room_length, length))
+CALL(numbers, uint32_t, pdb_type_numbers(&types, asked_index, items, room_length, length))
+CALL(methods, pdb_type_info, pdb_type_methods(&types, asked_index, items, room_length, length))
+CALL(type_fields, pdb_field, pdb_type_fields(&types, asked_index, items, room_length, length, names, names_length, size))
+CALL(type_text, char, pdb_type_text(&types, asked_index, "it", 2, items, room_length, length))
+CALL(layout, pdb_layout_row, pdb_type_layout(&types, asked_index, items, room_length, length, names, names_length, size))
 
 static void fail(const char *name, const char *what) {
-    fprintf(stderr, "%s: %s: status %" PRIu32 "\n", name, what, fault.status);
+    fprintf(stderr, "%s: %s\n", name, what);
     exit(1);
 }
 
@@ -81,126 +73,103 @@ static int is_filled(const uint8_t *room, size_t size) {
     return 1;
 }
 
-// Asks with arrays of so many items and bytes of an answer that has `length` and `size`.
-static void ask(const char *name, call *asked, size_t item, size_t room_length, size_t length, size_t names_length, size_t size, const uint8_t *wanted) {
-    uint8_t *room = guarded(room_length * item, FILLED), *names = guarded(names_length, FILLED);
-    size_t got = 7777, got_size = size ? 7777 : 0;
-    uint32_t status = asked(room, room_length, &got, names, names_length, &got_size);
-    int is_enough = room_length >= length && names_length >= size;
-    if (got != length || got_size != size) fail(name, "a length that is not exact");
-    if (status != (is_enough ? PDB_OK : PDB_TOO_SMALL)) fail(name, "a status that is not that of the room");
-    size_t written = is_enough ? length * item : 0, written_names = is_enough ? size : 0;
-    if (room && !is_filled(room + written, room_length * item - written)) fail(name, "more is written than the answer");
-    if (names && !is_filled(names + written_names, names_length - written_names)) fail(name, "more is written than the names");
-    if (is_enough && wanted && length && memcmp(room, wanted, item)) fail(name, "another answer");
-    unguarded(room, room_length * item);
+// A call by its name, the size of an item, and whether these are the bytes of a text.
+typedef struct question {
+    const char *name;
+    call *asked;
+    size_t item;
+    int is_text;
+} question;
+
+// An answer: how many items it has, how many bytes its names have, and its first item.
+typedef struct answer {
+    size_t length, size;
+    const uint8_t *first;
+} answer;
+
+// Asks with arrays of so many items and bytes of an answer that is known.
+static void ask(const question *it, size_t room_length, size_t names_length, answer wanted) {
+    uint8_t *room = guarded(room_length * it->item, FILLED), *names = guarded(names_length, FILLED);
+    size_t length = 7777, size = wanted.size ? 7777 : 0, items = wanted.length + (size_t)it->is_text;
+    uint32_t status = it->asked(room, room_length, &length, (char *)names, names_length, &size);
+    int is_enough = room_length >= items && names_length >= wanted.size;
+    if (length != wanted.length || size != wanted.size) fail(it->name, "a length that is not exact");
+    if (status != (is_enough ? PDB_OK : PDB_TOO_SMALL)) fail(it->name, "a status that is not that of the room");
+    size_t written = is_enough ? items * it->item : 0, written_names = is_enough ? size : 0;
+    if (room && !is_filled(room + written, room_length * it->item - written)) fail(it->name, "more is written than the answer");
+    if (names && !is_filled(names + written_names, names_length - written_names)) fail(it->name, "more is written than the names");
+    if (is_enough && length && memcmp(room, wanted.first, it->item)) fail(it->name, "another answer");
+    if (is_enough && it->is_text && strlen((char *)room) != length) fail(it->name, "no NUL at the end");
+    if (written_names && names[size - 1]) fail(it->name, "no NUL at the end of the names");
+    unguarded(room, room_length * it->item);
     unguarded(names, names_length);
 }
 
 static size_t asked_for;
 
-static void ask_all(const char *name, call *asked, size_t item) {
-    size_t length = 0, size = 0;
-    uint32_t status = asked(NULL, 0, &length, NULL, 0, &size);
-    if (status != PDB_TOO_SMALL) return;
-    uint8_t *wanted = guarded(length * item, 0), *names = guarded(size, 0);
-    if (asked(wanted, length, &length, names, size, &size) != PDB_OK) fail(name, "exactly enough room");
-    size_t rooms[] = {0, length ? length - 1 : 0, length, length + 1}, sizes[] = {0, size ? size - 1 : 0, size, size + 1};
+// Asks for an answer, if there is one, and returns whether there is.
+static int is_answered(const question *it) {
+    answer wanted = {0};
+    if (it->asked(NULL, 0, &wanted.length, NULL, 0, &wanted.size) != PDB_TOO_SMALL) return 0;
+    size_t items = wanted.length + (size_t)it->is_text, least = items ? items - 1 : 0, least_size = wanted.size ? wanted.size - 1 : 0;
+    uint8_t *first = guarded(items * it->item, 0), *names = guarded(wanted.size, 0);
+    if (it->asked(first, items, &wanted.length, (char *)names, wanted.size, &wanted.size) != PDB_OK) fail(it->name, "exactly enough room");
+    wanted.first = first;
+    size_t rooms[] = {0, least, items, items + 1}, sizes[] = {0, least_size, wanted.size, wanted.size + 1};
     for (size_t i = 0; i < 4; i++)
-        for (size_t n = 0; n < (size ? 4 : 1); n++) ask(name, asked, item, rooms[i], length, sizes[n], size, wanted);
-    unguarded(wanted, length * item);
-    unguarded(names, size);
+        for (size_t n = 0; n < (wanted.size ? 4 : 1); n++) ask(it, rooms[i], sizes[n], wanted);
+    unguarded(first, items * it->item);
+    unguarded(names, wanted.size);
     asked_for++;
+    return 1;
 }
 
-// Where it was asked for before, so that each call is seen to have an answer.
-static void seen(const char *name, call *asked, size_t item) {
-    size_t before = asked_for;
-    ask_all(name, asked, item);
-    if (asked_for == before) fail(name, "no answer");
-}
+static const question of_file[] = {
+    {"pdb_fault_text", fault_text, 1, 1},
+    {"pdb_key", key, 1, 1},
+    {"pdb_validate", validate, sizeof(pdb_finding), 0},
+    {"pdb_file_stream", file_stream, 1, 0},
+    {"pdb_file_stream with a limit", limited_stream, 1, 0},
+    {"pdb_file_named_stream", named_stream, 1, 0},
+    {"pdb_file_stream_names", stream_names, sizeof(pdb_named_stream), 0},
+    {"pdb_omap_records", omap_records, sizeof(pdb_omap_record), 0},
+    {"pdb_omap_ranges", omap_ranges, sizeof(pdb_span), 0},
+    {"pdb_file_sections", sections, sizeof(pdb_section), 0},
+    {"pdb_address_ranges in the loaded image", loaded_ranges, sizeof(pdb_span), 0},
+    {"pdb_address_ranges in the original image", internal_ranges, sizeof(pdb_span), 0},
+    {"pdb_frames_list", frames_list, sizeof(pdb_frame), 0},
+    {"pdb_names_get", names_get, 1, 1},
+    {"pdb_names_get of an empty name", empty_name, 1, 1},
+    {"pdb_names_places", names_places, sizeof(pdb_name), 0},
+};
+// Of a record, and first those that ids have too.
+static const question of_record[] = {
+    {"pdb_types_find", types_find, sizeof(pdb_found_record), 0},
+    {"pdb_type_record", type_record, 1, 0},
+    {"pdb_type_name", type_name, 1, 1},
+    {"pdb_type_numbers", numbers, sizeof(uint32_t), 0},
+    {"pdb_types_named", types_named, sizeof(uint32_t), 0},
+    {"pdb_type_unique_name", unique_name, 1, 1},
+    {"pdb_type_methods", methods, sizeof(pdb_type_info), 0},
+    {"pdb_type_fields", type_fields, sizeof(pdb_field), 0},
+    {"pdb_type_text", type_text, 1, 1},
+    {"pdb_type_layout", layout, sizeof(pdb_layout_row), 0},
+};
+enum { OF_FILE = sizeof of_file / sizeof *of_file, OF_RECORD = sizeof of_record / sizeof *of_record, OF_ID = 4 };
 
-static void read_stream(uint32_t number) {
-    unguarded(stream, stream_length);
-    stream = NULL;
-    uint32_t status = pdb_file_stream(&file, number, SIZE_MAX, NULL, 0, &stream_length, &fault);
-    if (status == PDB_TOO_SMALL) {
-        stream = guarded(stream_length, 0);
-        status = pdb_file_stream(&file, number, SIZE_MAX, stream, stream_length, &stream_length, &fault);
-    }
-    if (status != PDB_OK) fail("stream", "not read");
-}
-
-// The number of the stream of the string table.
-static uint32_t names_number(void) {
-    pdb_named_stream rows[16];
-    uint8_t names[400];
-    size_t count, size;
-    if (pdb_file_stream_names(&file, rows, 16, &count, names, sizeof names, &size, &fault)) fail("stream names", "not read");
-    for (size_t n = 0, at = 0; n < count; at += rows[n++].name_length)
-        if (rows[n].name_length == 6 && !memcmp(names + at, "/names", 6)) return rows[n].number;
-    fail("stream names", "no string table");
-    return 0;
-}
-
-static void ask_file(void) {
-    pdb_roles roles;
-    seen("pdb_error_text", error_text, 1);
-    seen("pdb_key", key, 1);
-    seen("pdb_validate", validate, sizeof(pdb_finding));
-    seen("pdb_file_stream", file_stream, 1);
-    seen("pdb_file_stream with a limit", limited_stream, 1);
-    seen("pdb_file_named_stream", named_stream, 1);
-    seen("pdb_file_stream_names", stream_names, sizeof(pdb_named_stream));
-    if (pdb_file_roles(&file, &roles, &fault) || pdb_file_addresses(&file, &map, &fault) || pdb_file_frames(&file, &frames, &fault)) fail("file", "not read");
-    read_stream(roles.omap_to_src);
-    if (pdb_omap_open(stream, stream_length, &omap, &fault)) fail("omap", "not opened");
-    seen("pdb_omap_records", omap_records, sizeof(pdb_omap_record));
-    seen("pdb_omap_ranges", omap_ranges, sizeof(pdb_span));
-    read_stream(roles.section_headers);
-    seen("pdb_sections", sections, sizeof(pdb_section));
-    seen("pdb_rva_ranges", rva_ranges, sizeof(pdb_span));
-    seen("pdb_internal_rva_ranges", internal_rva_ranges, sizeof(pdb_span));
-    seen("pdb_frames_list", frames_list, sizeof(pdb_frame));
-    read_stream(names_number());
-    if (pdb_names_open(stream, stream_length, &string_table, &fault)) fail("names", "not opened");
-    seen("pdb_names_places", names_places, sizeof(pdb_name));
-}
-
-// Each call on each record of a table that has an answer, and whether each had one.
-static void ask_records(int is_of_ids) {
-    static const struct {
-        const char *name;
-        call *asked;
-        size_t item;
-    } of_types[] = {
-        {"pdb_type_name", type_name, 1}, {"pdb_type_unique_name", unique_name, 1}, {"pdb_type_arguments", arguments, 4},
-        {"pdb_type_dimensions", dimensions, 4}, {"pdb_type_methods", methods, sizeof(pdb_type_info)}, {"pdb_type_fields", type_fields, sizeof(pdb_field)},
-        {"pdb_types_fields", types_fields, sizeof(pdb_field)}, {"pdb_type_text", type_text, 1}, {"pdb_layout", layout, sizeof(pdb_layout_row)},
-    }, of_ids[] = {{"pdb_id_name", id_name, 1}, {"pdb_id_list", id_list, 4}};
-    size_t count = is_of_ids ? sizeof of_ids / sizeof *of_ids : sizeof of_types / sizeof *of_types, answered[9] = {0};
-    pdb_record place;
-    read_stream(is_of_ids ? PDB_IDS_STREAM : PDB_TYPES_STREAM);
-    if (pdb_types_open(stream, stream_length, &types, &fault)) fail("table", "not opened");
-    if (!is_of_ids && pdb_definitions_open(stream, stream_length, &definitions, &fault)) fail("definitions", "not opened");
-    while (pdb_types_next(&types, &place, &fault) == PDB_OK) {
-        record_length = place.length;
-        record_index = place.index;
-        record = guarded(record_length, 0);
-        memcpy(record, stream + place.offset, record_length);
-        for (size_t i = 0; i < count; i++) {
-            size_t before = asked_for;
-            ask_all((is_of_ids ? of_ids : of_types)[i].name, (is_of_ids ? of_ids : of_types)[i].asked, (is_of_ids ? of_ids : of_types)[i].item);
-            answered[i] += asked_for - before;
-        }
-        unguarded(record, record_length);
+// The first calls on each record of a table that have an answer, and whether each had one.
+static void ask_records(uint32_t number, size_t count) {
+    int answered[OF_RECORD] = {0};
+    pdb_type it;
+    size_t got;
+    if (pdb_types_open(&file, number, &types)) fail("table", "not opened");
+    while (pdb_types_read(&types, &it, 1, &got) == PDB_OK) {
+        asked_index = it.position.index;
+        for (size_t i = 0; i < count; i++) answered[i] |= is_answered(&of_record[i]);
     }
     for (size_t i = 0; i < count; i++)
-        if (!answered[i]) fail((is_of_ids ? of_ids : of_types)[i].name, "no answer");
-    seen("pdb_types_find_all", types_find_all, sizeof(pdb_found_record));
-    if (!is_of_ids) seen("pdb_definitions_named", definitions_named, 4);
-    pdb_types_close(&types);
-    pdb_definitions_close(&definitions);
+        if (!answered[i]) fail(of_record[i].name, "no answer");
+    pdb_close(&types.handle);
 }
 
 int main(int count, char **words) {
@@ -211,17 +180,19 @@ int main(int count, char **words) {
     bytes = guarded(bytes_length, 0);
     if (fread(bytes, 1, bytes_length, in) != bytes_length) return 2;
     fclose(in);
-    if (pdb_file_open(bytes, bytes_length, &file, &fault) || pdb_identity_of(bytes, bytes_length, &identity, &fault)) fail("file", "not opened");
-    ask_file();
-    ask_records(0);
-    ask_records(1);
+    if (pdb_file_open(bytes, bytes_length, &file) || pdb_file_identity(&file, &identity) || pdb_file_roles(&file, &roles)) fail("file", "not opened");
+    if (pdb_omap_open(&file, roles.omap_to_src, &omap) || pdb_address_map_open(&file, &map)) fail("addresses", "not opened");
+    if (pdb_frames_open(&file, &frames) || pdb_names_open(&file, &string_table)) fail("frames or names", "not opened");
+    for (size_t i = 0; i < OF_FILE; i++)
+        if (!is_answered(&of_file[i])) fail(of_file[i].name, "no answer");
+    ask_records(PDB_TYPES, OF_RECORD);
+    ask_records(PDB_IDS, OF_ID);
     printf("%zu answers\n", asked_for);
-    pdb_omap_close(&omap);
-    pdb_address_map_close(&map);
-    pdb_frames_close(&frames);
-    pdb_names_close(&string_table);
+    pdb_close(&omap.handle);
+    pdb_close(&map.handle);
+    pdb_close(&frames.handle);
+    pdb_close(&string_table.handle);
     pdb_file_close(&file);
-    unguarded(stream, stream_length);
     unguarded(bytes, bytes_length);
     return 0;
 }

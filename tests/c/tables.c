@@ -1,7 +1,7 @@
-// Checks what the library says of an open table of types against a reading of its stream by the rules of the format, and
-// the calls on one record against those on the table.
+// Checks what the library says of an open table of types against a reading of its stream by the rules of the format, the
+// calls on one record against the walk along the table, and where handles leave a fault, may be and may be closed.
 //
-// tables FILE    FILE holds the stream of a table of types. Prints how many records and fields were compared.
+// tables FILE    FILE has a table of types. Prints how many records and fields were compared.
 //                Where memory is refused, it says so on standard error and gives 1; where a call answers wrongly,
 //                it tells the line of this file and gives 2.
 #include <pdb_container.h>
@@ -12,22 +12,33 @@
 
 enum { MOST = 0xffff, LIST = 0x1203, ROW_SIZE = offsetof(pdb_row, extra) + sizeof(uint32_t), HEADER = 56 };
 
-static uint8_t *stream, unused[MOST], *names, *joined_names;
+static uint8_t *bytes, *stream, record[MOST];
 static size_t stream_length, count;
 static uint32_t *positions;
-static pdb_field *fields, *joined;
+static pdb_file file;
 static pdb_types table;
 static uint32_t first_index, maximum_index;
 static pdb_fault stop; // why there are no more items
 
+// The fields of a list, and their names.
+typedef struct list {
+    pdb_field *fields;
+    char *names;
+    size_t count, size;
+} list;
+
+static list fields, rest;
+
 static void end(int status) {
-    pdb_types_close(&table);
+    pdb_close(&table.handle);
+    pdb_file_close(&file);
+    free(bytes);
     free(stream);
     free(positions);
-    free(fields);
-    free(joined);
-    free(names);
-    free(joined_names);
+    free(fields.fields);
+    free(fields.names);
+    free(rest.fields);
+    free(rest.names);
     exit(status);
 }
 
@@ -43,8 +54,11 @@ static void lacks(void) {
     end(1);
 }
 
-// The status of a call, which had memory.
-static uint32_t had(uint32_t status) {
+static int same_fault(pdb_fault one, pdb_fault other) { return !memcmp(&one, &other, sizeof one); }
+
+// The status of a call on a handle, which had memory, and left the fault there.
+static uint32_t had(const pdb_handle *handle, uint32_t status) {
+    EXPECT(status == handle->fault.status);
     if (status == PDB_OUT_OF_MEMORY) lacks();
     return status;
 }
@@ -55,22 +69,22 @@ static void *room_for(size_t items, size_t size) {
     return room;
 }
 
-static void read_stream(const char *path) {
+static void open_file(const char *path) {
     FILE *in = fopen(path, "rb");
     EXPECT(in && !fseek(in, 0, SEEK_END));
-    long size = ftell(in);
+    size_t size = (size_t)ftell(in);
     rewind(in);
-    if (size) stream = calloc(size, 1);
-    size_t got = stream ? fread(stream, 1, size, in) : 0;
+    bytes = calloc(size, 1);
+    size_t got = bytes ? fread(bytes, 1, size, in) : 0;
     fclose(in);
-    if (size && !stream) lacks();
-    EXPECT(got == (size_t)size);
-    stream_length = size;
+    if (!bytes) lacks();
+    EXPECT(got == size && had(&file.handle, pdb_file_open(bytes, size, &file)) == PDB_OK);
+    had(&file.handle, pdb_file_stream(&file, PDB_TYPES, SIZE_MAX, NULL, 0, &stream_length));
+    stream = room_for(stream_length, 1);
+    EXPECT(had(&file.handle, pdb_file_stream(&file, PDB_TYPES, SIZE_MAX, stream, stream_length, &stream_length)) == PDB_OK);
 }
 
 static size_t length_at(size_t n) { return stream[positions[n]] | stream[positions[n] + 1] << 8; }
-
-static int same_fault(pdb_fault one, pdb_fault other) { return !memcmp(&one, &other, sizeof one); }
 
 static uint32_t number_at(size_t at) { return stream[at] | stream[at + 1] << 8 | stream[at + 2] << 16 | (uint32_t)stream[at + 3] << 24; }
 
@@ -104,220 +118,225 @@ static void place_items(void) {
 }
 
 static int is_open(void) {
-    pdb_fault fault, wanted = header_fault();
-    EXPECT(had(pdb_types_open(stream, stream_length, &table, &fault)) == fault.status && same_fault(fault, wanted));
-    if (fault.status) EXPECT(!table.handle.held && !table.handle.kind);
+    pdb_fault of_file = file.handle.fault;
+    had(&table.handle, pdb_types_open(&file, PDB_TYPES, &table));
+    EXPECT(same_fault(table.handle.fault, header_fault()) && same_fault(file.handle.fault, of_file));
+    if (table.handle.fault.status) EXPECT(!table.handle.held && !table.handle.kind);
     else place_items();
-    return !fault.status;
+    return !table.handle.fault.status;
 }
 
-static void check_numbers(void) {
-    pdb_fault fault;
-    uint32_t first, indexes;
-    EXPECT(pdb_types_first_index(&table, &first, &fault) == PDB_OK && first == first_index);
-    EXPECT(pdb_types_count(&table, &indexes, &fault) == PDB_OK && indexes == maximum_index - first_index);
+static void check_range(void) {
+    pdb_index_range range = {7, 7};
+    EXPECT(had(&table.handle, pdb_types_range(&table, &range)) == PDB_OK && range.first == first_index && range.end == maximum_index);
 }
 
-// The walk gives the place of each record with its index, and then the fault at which it stops, again and again.
-static void check_walk(size_t most) {
-    pdb_fault fault;
-    pdb_record record;
-    for (size_t n = 0; n < most; n++) {
-        EXPECT(pdb_types_next(&table, &record, &fault) == PDB_OK && record.index == first_index + n);
-        EXPECT(record.offset == positions[n] + 2 && record.length == length_at(n));
-    }
-    for (int again = 0; most == count && again < 2; again++) {
-        uint32_t status = stop.status ? stop.status : PDB_END;
-        EXPECT(pdb_types_next(&table, &record, &fault) == status && !record.offset && !record.length);
-        EXPECT(record.index == first_index + count && fault.first == stop.first && fault.second == stop.second);
-    }
-    EXPECT(pdb_types_rewind(&table, &fault) == PDB_OK);
+// Why the record of an index isn't found, or PDB_OK.
+static pdb_fault wanted_fault(uint32_t index) {
+    if (index < first_index) return (pdb_fault){PDB_NONE, 0, 0};
+    if (index >= maximum_index) return (pdb_fault){PDB_TYPE_NOT_FOUND, index, 0};
+    if (index - first_index >= count) return stop.status ? stop : (pdb_fault){PDB_UNEXPECTED_EOF, 0, 0};
+    return (pdb_fault){PDB_OK, 0, 0};
 }
 
-// The walk with rows gives the same, in runs of any length, and for each record the row or the fault of its bytes.
-static void check_types(size_t room, pdb_type *types) {
-    pdb_fault fault;
-    size_t got = room;
-    for (size_t n = 0; got == room; n += got) {
-        memset(types, 0xa5, (room + 1) * sizeof *types);
-        uint32_t status = had(pdb_types_read(&table, types, room, &got, &fault));
-        EXPECT(got == (count - n < room ? count - n : room) && status == fault.status);
-        for (size_t i = 0; i < got; i++) {
-            pdb_record place = {first_index + (uint32_t)(n + i), positions[n + i] + 2, (uint32_t)length_at(n + i)};
-            pdb_type_info info = {0};
-            pdb_fault refused;
-            had(pdb_type_parse(stream + place.offset, place.length, place.index, &info, &refused));
-            if (types[i].fault.status == PDB_OUT_OF_MEMORY) lacks();
-            EXPECT(!memcmp(&types[i].place, &place, sizeof place) && same_fault(types[i].fault, refused));
-            EXPECT(!memcmp(&types[i].info, &info, ROW_SIZE));
-        }
-        for (size_t i = 0; i < sizeof *types; i++) EXPECT(((uint8_t *)(types + got))[i] == 0xa5);
-        pdb_fault end = stop.status ? stop : (pdb_fault){PDB_END, 0, 0};
-        EXPECT(same_fault(fault, got == room ? (pdb_fault){PDB_OK, 0, 0} : end));
-    }
-    EXPECT(pdb_types_rewind(&table, &fault) == PDB_OK);
+// The place of the record of an index: its bytes, and what it says, or why there is none.
+static void check_found(const pdb_found_record *found, uint32_t index) {
+    pdb_fault wanted = wanted_fault(index);
+    pdb_record position = {index, 0, 0};
+    size_t length = 7;
+    if (found->fault.status == PDB_OUT_OF_MEMORY) lacks();
+    if (!wanted.status) position.offset = positions[index - first_index] + 2, position.length = (uint32_t)length_at(index - first_index);
+    EXPECT(same_fault(found->fault, wanted) && !memcmp(&found->position, &position, sizeof position));
+    if (wanted.status == PDB_NONE) return;
+    had(&table.handle, pdb_type_record(&table, index, record, MOST, &length));
+    EXPECT(same_fault(table.handle.fault, wanted) && length == position.length && !memcmp(record, stream + position.offset, length));
 }
 
-static void check_all_types(void) {
-    static const size_t rooms[] = {1, 3, 64};
-    pdb_type types[65];
-    pdb_fault fault;
+// Finds some indexes in one call, and each in one of its own.
+static void check_finds(const uint32_t *indexes, size_t indexes_length) {
+    pdb_found_record found[2000], one[1];
     size_t got = 7;
-    EXPECT(pdb_types_read(&table, types, 0, &got, &fault) == PDB_OK && !got);
-    for (size_t i = 0; i < sizeof rooms / sizeof *rooms; i++) check_types(rooms[i], types);
-}
-
-static void check_find(uint32_t index) {
-    pdb_fault fault, wanted = {PDB_OK, 0, 0};
-    pdb_record record = {7, 7, 7};
-    size_t n = index - first_index;
-    uint32_t status = pdb_types_find(&table, index, &record, &fault);
-    if (index >= first_index && index < maximum_index && n < count) {
-        EXPECT(status == PDB_OK && record.index == index && record.offset == positions[n] + 2 && record.length == length_at(n));
-        return;
-    }
-    if (index < first_index) wanted = (pdb_fault){PDB_NONE, 0, 0};
-    else if (index >= maximum_index) wanted = (pdb_fault){PDB_TYPE_NOT_FOUND, index, 0};
-    else wanted = stop.status ? stop : (pdb_fault){PDB_UNEXPECTED_EOF, 0, 0};
-    EXPECT(status == wanted.status && same_fault(fault, wanted) && record.index == 7 && record.offset == 7 && record.length == 7);
-}
-
-// One call for all indexes finds what a call for each finds.
-static void check_found(const uint32_t *indexes, size_t indexes_length) {
-    pdb_found_record found[2000];
-    pdb_fault fault;
-    size_t got = 7;
-    EXPECT(pdb_types_find_all(&table, indexes, indexes_length, found, indexes_length - 1, &got, &fault) == PDB_TOO_SMALL && got == indexes_length);
-    EXPECT(pdb_types_find_all(&table, indexes, indexes_length, found, 2000, &got, &fault) == PDB_OK && got == indexes_length);
+    EXPECT(had(&table.handle, pdb_types_find(&table, indexes, indexes_length, found, indexes_length - 1, &got)) == PDB_TOO_SMALL && got == indexes_length);
+    EXPECT(had(&table.handle, pdb_types_find(&table, indexes, indexes_length, found, 2000, &got)) == PDB_OK && got == indexes_length);
     for (size_t n = 0; n < indexes_length; n++) {
-        pdb_record record = {indexes[n], 0, 0};
-        pdb_types_find(&table, indexes[n], &record, &fault);
-        EXPECT(same_fault(found[n].fault, fault) && !memcmp(&found[n].place, &record, sizeof record));
+        check_found(&found[n], indexes[n]);
+        EXPECT(had(&table.handle, pdb_types_find(&table, &indexes[n], 1, one, 1, &got)) == PDB_OK && got == 1);
+        EXPECT(same_fault(one->fault, found[n].fault) && !memcmp(&one->position, &found[n].position, sizeof one->position));
     }
 }
 
-// Finds in an order that jumps to and fro, and the indexes around both ends; and then all of them in one call.
-static void check_finds(void) {
+// Finds in an order that jumps to and fro, and the indexes around both ends.
+static void check_all_finds(void) {
     uint32_t indexes[2000];
     size_t steps = count < 2000 ? count : 2000;
-    for (size_t n = 0; n < steps; n++) check_find(indexes[n] = first_index + (uint32_t)(n * 7919 % count));
+    for (size_t n = 0; n < steps; n++) indexes[n] = first_index + (uint32_t)(n * 7919 % count);
     uint32_t some[] = {0, 0x74, first_index - 1, first_index, first_index + (uint32_t)count, maximum_index - 1, maximum_index, 0xffffffff};
-    for (size_t i = 0; i < sizeof some / sizeof *some; i++) check_find(some[i]);
-    check_found(indexes, steps);
-    check_found(some, sizeof some / sizeof *some);
+    if (steps) check_finds(indexes, steps);
+    check_finds(some, sizeof some / sizeof *some);
 }
 
-// The fields of a list and of those in which it goes on, list by list; the fault, or PDB_OK.
-static pdb_fault join(uint32_t index, size_t *fields_count, size_t *names_size) {
-    *fields_count = *names_size = 0;
-    for (;;) {
-        pdb_fault fault;
-        pdb_type_info info = {0};
-        pdb_record place;
-        size_t some, size;
-        uint32_t status = pdb_types_find(&table, index, &place, &fault);
-        if (status == PDB_NONE) return (pdb_fault){PDB_UNIMPLEMENTED_TYPE_KIND, 0xffff, 0};
-        if (status) return fault;
-        const uint8_t *record = stream + place.offset;
-        uint32_t kind = record[0] | record[1] << 8, length = place.length;
-        if (kind != LIST) return (pdb_fault){PDB_UNIMPLEMENTED_TYPE_KIND, kind, 0};
-        if (had(pdb_type_parse(record, length, index, &info, &fault))) return fault;
-        EXPECT(had(pdb_type_fields(record, length, index, NULL, 0, &some, NULL, 0, &size, &fault)) == (some ? PDB_TOO_SMALL : PDB_OK));
-        pdb_field *more = realloc(joined, (*fields_count + some + 1) * sizeof *joined);
-        if (!more) lacks();
-        joined = more;
-        uint8_t *longer = realloc(joined_names, *names_size + size + 1);
-        if (!longer) lacks();
-        joined_names = longer;
-        EXPECT(had(pdb_type_fields(record, length, index, joined + *fields_count, some, &some, joined_names + *names_size, size, &size, &fault)) == PDB_OK);
-        *fields_count += some;
-        *names_size += size;
-        if (!(info.any.has & PDB_HAS_CONTINUATION)) return (pdb_fault){PDB_OK, 0, 0};
-        if (info.field_list.continuation >= index) return (pdb_fault){PDB_UNIMPLEMENTED_FEATURE, 9, 0};
-        index = info.field_list.continuation;
+// The walk gives the place of each record, and the row or the fault that a call on the record gives; and then, again and
+// again, the fault at which it stops. A search in between does not move it.
+static void check_walk(size_t room, pdb_type *types) {
+    pdb_fault last = stop.status ? stop : (pdb_fault){PDB_END, 0, 0};
+    size_t got = room;
+    for (size_t n = 0, ends = 0; ends < 2; n += got) {
+        memset(types, 0xa5, (room + 1) * sizeof *types);
+        had(&table.handle, pdb_types_read(&table, types, room, &got));
+        EXPECT(got == (count - n < room ? count - n : room));
+        EXPECT(same_fault(table.handle.fault, got == room ? (pdb_fault){PDB_OK, 0, 0} : last));
+        for (size_t i = 0; i < sizeof *types; i++) EXPECT(((uint8_t *)(types + got))[i] == 0xa5);
+        for (size_t i = 0; i < got; i++) {
+            uint32_t index = first_index + (uint32_t)(n + i);
+            pdb_record position = {index, positions[n + i] + 2, (uint32_t)length_at(n + i)};
+            pdb_type_info info = {{0}};
+            EXPECT(!memcmp(&types[i].position, &position, sizeof position));
+            if (types[i].fault.status == PDB_OUT_OF_MEMORY) lacks();
+            had(&table.handle, pdb_type_parse(&table, index, &info));
+            if (index < maximum_index) EXPECT(same_fault(types[i].fault, table.handle.fault) && !memcmp(&types[i].info, &info, ROW_SIZE));
+        }
+        ends += got < room;
     }
+    EXPECT(had(&table.handle, pdb_types_rewind(&table)) == PDB_OK);
 }
 
+static void check_walks(void) {
+    static const size_t rooms[] = {1, 3, 64};
+    pdb_type types[65];
+    size_t got = 7;
+    EXPECT(had(&table.handle, pdb_types_read(&table, types, 0, &got)) == PDB_OK && !got);
+    for (size_t i = 0; i < sizeof rooms / sizeof *rooms; i++) check_walk(rooms[i], types);
+}
+
+// Whether a list of fields goes on in another, whose index is set; and why there is no list of an index, or PDB_OK.
+static int goes_on(uint32_t *index, pdb_fault *fault) {
+    pdb_type_info info = {{0}};
+    *fault = wanted_fault(*index);
+    if (fault->status == PDB_NONE) *fault = (pdb_fault){PDB_UNIMPLEMENTED_TYPE_KIND, 0xffff, 0};
+    if (fault->status) return 0;
+    size_t at = positions[*index - first_index] + 2;
+    uint32_t kind = stream[at] | stream[at + 1] << 8;
+    if (kind != LIST) return *fault = (pdb_fault){PDB_UNIMPLEMENTED_TYPE_KIND, kind, 0}, 0;
+    if (had(&table.handle, pdb_type_parse(&table, *index, &info))) return *fault = table.handle.fault, 0;
+    if (!(info.row.has & PDB_HAS_CONTINUATION)) return 0;
+    if (info.field_list.continuation >= *index) return *fault = (pdb_fault){PDB_UNIMPLEMENTED_FEATURE, 9, 0}, 0;
+    *index = info.field_list.continuation;
+    return 1;
+}
+
+static pdb_fault list_fault(uint32_t index) {
+    pdb_fault fault;
+    while (goes_on(&index, &fault));
+    return fault;
+}
+
+// The fields of a list and of those in which it goes on. Each name stands behind the one before it, with a NUL.
+static int is_list(uint32_t index, list *it) {
+    free(it->fields);
+    free(it->names);
+    *it = (list){0};
+    uint32_t status = had(&table.handle, pdb_type_fields(&table, index, NULL, 0, &it->count, NULL, 0, &it->size));
+    pdb_fault wanted = list_fault(index);
+    if (wanted.status) return EXPECT(status == wanted.status && !it->count && !it->size), 0;
+    EXPECT(status == (it->count ? PDB_TOO_SMALL : PDB_OK));
+    it->fields = room_for(it->count, sizeof *it->fields);
+    it->names = room_for(it->size, 1);
+    size_t fields_count = 7, size = 7, at = 0;
+    EXPECT(had(&table.handle, pdb_type_fields(&table, index, it->fields, it->count, &fields_count, it->names, it->size, &size)) == PDB_OK);
+    for (size_t i = 0; i < it->count; at += it->fields[i++].name_length + 1)
+        EXPECT(it->fields[i].name_offset == at && at < size && strlen(it->names + at) == it->fields[i].name_length);
+    EXPECT(fields_count == it->count && size == it->size && at == size);
+    return 1;
+}
+
+// The last fields of a list are those of the list in which it goes on.
 static size_t check_fields(uint32_t index) {
     pdb_fault fault;
-    size_t wanted, wanted_size, some, size;
-    pdb_fault answer = join(index, &wanted, &wanted_size);
-    uint32_t status = had(pdb_types_fields(&table, index, NULL, 0, &some, NULL, 0, &size, &fault));
-    if (answer.status) {
-        EXPECT(same_fault(answer, fault) && !some && !size);
-        return 0;
+    if (!is_list(index, &fields)) return 0;
+    if (!goes_on(&index, &fault)) return fields.count;
+    EXPECT(is_list(index, &rest) && rest.count <= fields.count && rest.size <= fields.size);
+    for (size_t i = 0; i < rest.count; i++) {
+        pdb_field *it = &fields.fields[fields.count - rest.count + i], *other = &rest.fields[i];
+        EXPECT(!memcmp(&it->info, &other->info, ROW_SIZE) && it->has_name == other->has_name);
     }
-    EXPECT(status == (wanted ? PDB_TOO_SMALL : PDB_OK) && some == wanted && size == wanted_size);
-    free(fields);
-    fields = NULL;
-    free(names);
-    names = NULL;
-    fields = room_for(some, sizeof *fields);
-    names = room_for(size, 1);
-    EXPECT(had(pdb_types_fields(&table, index, fields, some, &some, names, size, &size, &fault)) == PDB_OK && some == wanted && size == wanted_size);
-    for (size_t i = 0; i < some; i++) {
-        EXPECT(!memcmp(&fields[i].info, &joined[i].info, ROW_SIZE));
-        EXPECT(fields[i].name_length == joined[i].name_length && fields[i].has_name == joined[i].has_name);
-    }
-    EXPECT(!size || !memcmp(names, joined_names, size));
-    return some;
+    EXPECT(!memcmp(fields.names + fields.size - rest.size, rest.names, rest.size));
+    return fields.count;
 }
 
 static void check_closed(pdb_types *closed) {
-    pdb_fault fault;
-    uint32_t number = 7;
+    pdb_index_range range = {7, 7};
     size_t length = 7, size = 7;
     pdb_field none[1];
-    pdb_record record = {7, 7, 7};
-    EXPECT(pdb_types_first_index(closed, &number, &fault) == PDB_NOT_OPEN && number == 7);
-    EXPECT(pdb_types_count(closed, &number, &fault) == PDB_NOT_OPEN && number == 7);
-    EXPECT(pdb_types_find(closed, 0x1000, &record, &fault) == PDB_NOT_OPEN && record.index == 7);
-    pdb_found_record found = {.place = {7, 7, 7}};
-    EXPECT(pdb_types_find_all(closed, &(uint32_t){0x1000}, 1, &found, 1, &length, &fault) == PDB_NOT_OPEN && !length && found.place.index == 7);
-    EXPECT(pdb_types_next(closed, &record, &fault) == PDB_NOT_OPEN && record.index == 7 && record.length == 7);
-    EXPECT(pdb_types_rewind(closed, &fault) == PDB_NOT_OPEN);
-    pdb_type type = {.place = {7, 7, 7}};
-    EXPECT(pdb_types_read(closed, &type, 1, &length, &fault) == PDB_NOT_OPEN && !length && type.place.length == 7);
+    pdb_found_record found = {.position = {7, 7, 7}};
+    pdb_type type = {.position = {7, 7, 7}};
+    EXPECT(had(&closed->handle, pdb_types_range(closed, &range)) == PDB_NOT_OPEN && range.end == 7);
+    EXPECT(had(&closed->handle, pdb_types_find(closed, &first_index, 1, &found, 1, &length)) == PDB_NOT_OPEN && !length && found.position.index == 7);
+    EXPECT(had(&closed->handle, pdb_types_rewind(closed)) == PDB_NOT_OPEN);
     length = 7;
-    EXPECT(pdb_types_fields(closed, 0x1000, none, 1, &length, unused, MOST, &size, &fault) == PDB_NOT_OPEN && !length && !size);
+    EXPECT(had(&closed->handle, pdb_types_read(closed, &type, 1, &length)) == PDB_NOT_OPEN && !length && type.position.length == 7);
+    length = 7;
+    EXPECT(had(&closed->handle, pdb_type_fields(closed, 0x1000, none, 1, &length, (char *)record, MOST, &size)) == PDB_NOT_OPEN && !length && !size);
+}
+
+// Handles that were moved are as they were, also when the table keeps its definitions; where they were is nothing.
+static void check_moved(void) {
+    struct {
+        pdb_file file;
+        pdb_types table;
+    } *moved = room_for(1, sizeof *moved);
+    pdb_index_range range = {7, 7};
+    uint64_t size = 7, size_then = 7;
+    uint32_t length = 7, status = had(&table.handle, pdb_type_size(&table, 0x74, &size));
+    memcpy(&moved->file, &file, sizeof file);
+    memcpy(&moved->table, &table, sizeof table);
+    memset(&file, 0, sizeof file);
+    memset(&table, 0, sizeof table);
+    int is_well = pdb_types_range(&table, &range) == PDB_NOT_OPEN && pdb_file_stream_size(&file, PDB_TYPES, &length) == PDB_NOT_OPEN;
+    is_well = is_well && pdb_types_range(&moved->table, &range) == PDB_OK && range.end == maximum_index;
+    is_well = is_well && pdb_type_size(&moved->table, 0x74, &size_then) == status && size_then == size;
+    is_well = is_well && pdb_file_stream_size(&moved->file, PDB_TYPES, &length) == PDB_OK && length == stream_length;
+    memcpy(&file, &moved->file, sizeof file);
+    memcpy(&table, &moved->table, sizeof table);
+    free(moved);
+    had(&table.handle, table.handle.fault.status);
+    EXPECT(is_well);
 }
 
 static void check_misuse(void) {
-    pdb_fault fault;
     pdb_types closed = {0};
-    EXPECT(had(pdb_types_open(stream, stream_length, &table, &fault)) == PDB_ALREADY_OPEN);
+    EXPECT(had(&table.handle, pdb_types_open(&file, PDB_TYPES, &table)) == PDB_ALREADY_OPEN && table.handle.held);
+    EXPECT(had(&file.handle, pdb_file_open(bytes, 0, &file)) == PDB_ALREADY_OPEN && file.handle.held);
     // The compiler refuses a handle of another kind; so does the call.
     pdb_names names = {table.handle};
-    pdb_name place = {7, 7};
-    EXPECT(pdb_names_place(&names, 0, &place, &fault) == PDB_NOT_OPEN && place.offset == 7);
+    size_t length = 7;
+    EXPECT(had(&names.handle, pdb_names_get(&names, 0, (char *)record, MOST, &length)) == PDB_NOT_OPEN && !length);
     table.handle = names.handle;
     names.handle = closed.handle;
-    EXPECT(pdb_names_place(&names, 0, &place, &fault) == PDB_NOT_OPEN && place.length == 7);
-    pdb_name found = {7, 7};
-    size_t length = 7;
-    EXPECT(pdb_names_places(&names, &(uint32_t){0}, 1, &found, 1, &length, &fault) == PDB_NOT_OPEN && !length && found.length == 7);
+    pdb_name place = {7, 7};
+    length = 7;
+    EXPECT(had(&names.handle, pdb_names_places(&names, &(uint32_t){0}, 1, &place, 1, &length)) == PDB_NOT_OPEN && !length && place.length == 7);
     check_closed(&closed);
-    pdb_types_close(&table);
+    // What was opened from a file stays when that is closed.
+    pdb_file_close(&file);
+    EXPECT(!file.handle.held && !file.bytes && !file.length);
+    EXPECT(had(&closed.handle, pdb_types_open(&file, PDB_TYPES, &closed)) == PDB_NOT_OPEN);
+    check_range();
+    pdb_close(&table.handle);
+    pdb_close(&table.handle);
     check_closed(&table);
+    pdb_close(NULL);
     pdb_file_close(NULL);
-    pdb_names_close(NULL);
-    pdb_omap_close(NULL);
-    pdb_address_map_close(NULL);
-    pdb_frames_close(NULL);
-    pdb_types_close(NULL);
-    pdb_definitions_close(NULL);
 }
 
 int main(int words, char **word) {
     EXPECT(words == 2);
-    read_stream(word[1]);
+    open_file(word[1]);
     size_t listed = 0;
     if (is_open()) {
-        check_numbers();
-        check_walk(count / 2);
-        if (count) check_finds();
-        check_walk(count);
-        check_all_types();
+        check_range();
+        check_all_finds();
+        check_walks();
+        check_moved();
         for (size_t n = 0; n < count; n++) listed += check_fields(first_index + (uint32_t)n);
         check_misuse();
     }

@@ -11,12 +11,11 @@ HEADER = ROOT / "include/pdb_container.h"
 
 # What the header calls the structures that it shares with the crates, and the kinds of numbers.
 STRUCTURES = {
-    "Fault": "pdb_fault", "Roles": "pdb_roles", "Span": "pdb_span", "Section": "pdb_section", "Place": "pdb_place",
-    "Information": "pdb_information", "NamedStream": "pdb_named_stream", "Frame": "pdb_frame", "Located": "pdb_record",
-    "Row": "pdb_row", "TypeRow": "pdb_type", "FieldRow": "pdb_field", "OmapRow": "pdb_omap_record",
-    "Translation": "pdb_translation", "FileIdentity": "pdb_identity", "LayoutRow": "pdb_layout_row",
-    "FoundFault": "pdb_finding", "NamePlace": "pdb_name",
-    "FoundRecord": "pdb_found_record",
+    "Fault": "pdb_fault", "Sizes": "pdb_sizes", "Roles": "pdb_roles", "NamedStream": "pdb_named_stream", "Span": "pdb_span",
+    "FileIdentity": "pdb_identity", "FoundFault": "pdb_finding", "NamePlace": "pdb_name", "OmapRow": "pdb_omap_record",
+    "Section": "pdb_section", "Place": "pdb_section_offset", "Translation": "pdb_translation", "Frame": "pdb_frame",
+    "IndexRange": "pdb_index_range", "Located": "pdb_record", "FoundRecord": "pdb_found_record", "Row": "pdb_row",
+    "TypeRow": "pdb_type", "FieldRow": "pdb_field", "LayoutRow": "pdb_layout_row",
 }  # fmt: skip
 # Errors of what this library doesn't read, or looks up otherwise: no call returns their statuses.
 UNRETURNED = {
@@ -30,10 +29,11 @@ SIZES = {"u64": 8, "u32": 4, "u16": 2, "u8": 1, "usize": 8}
 KINDS = {**STRUCTURES, **NUMBERS, "Row": "pdb_type_info", "OpenFile": "pdb_file"}
 # The header has a structure for each kind of handle, by the name of the parameter.
 HANDLES = {
-    "names": "pdb_names", "omap": "pdb_omap", "addresses": "pdb_address_map",
-    "frames": "pdb_frames", "table": "pdb_types", "definitions": "pdb_definitions", "handle": "pdb_handle",
+    "names": "pdb_names", "omap": "pdb_omap", "map": "pdb_address_map", "frames": "pdb_frames", "types": "pdb_types",
+    "handle": "pdb_handle",
 }  # fmt: skip
 
+PLACE = re.compile(r"(?<![a-z])place$")  # what a field of a crate is named by, which is a section offset in C
 EXPORT = re.compile(r"no_mangle\)\]\s*pub extern \"C\" fn (\w+)(?:<'\w+>)?\(([^)]*)\)( -> u32)?")
 STRUCTURE = re.compile(r"#\[repr\(C\)\].*?pub struct (\w+)(?:<[^>]*>)? \{(.*?)^\}", re.DOTALL | re.MULTILINE)
 
@@ -70,12 +70,12 @@ def exported():
 
 
 def declared(text):
-    """The result and the parameters of each function that the header declares."""
+    """The result and the parameters of each function that the header declares. A text is of bytes to the crate."""
     found = {}
     for result, name, parameters in re.findall(r"^(\w+) (pdb_\w+)\(([^)]*)\);", text, re.MULTILINE):
         words = [it for it in re.split(r",\s+", parameters) if it != "void"]
         kinds = (it.rpartition(" ")[0] + ("*" if "*" in it else "") for it in words)
-        found[name] = (result, list(kinds))
+        found[name] = (result, [it.replace("char", "uint8_t") for it in kinds])
     return found
 
 
@@ -88,6 +88,7 @@ def fields_of_header(text):
 
 def field_of(name, kind):
     """A field of a crate's structure, as C has it."""
+    name = PLACE.sub("section_offset", name)
     array = re.fullmatch(r"\[u8; (\d+)\]", kind)
     return ("uint8_t", f"{name}[{array[1]}]") if array else (KINDS.get(kind, kind), name)
 
@@ -95,7 +96,7 @@ def field_of(name, kind):
 def fields_of_crates():
     """The fields of each structure of the crates, as C has them."""
     found = {}
-    for text in sources_of("pdb_handles", "pdb_reports"):
+    for text in sources_of("pdb_handles"):
         for name, body in STRUCTURE.findall(text):
             rows = re.findall(r"^ +(?:pub )?(\w+): ([^,]+),", body, re.MULTILINE)
             found[name] = [field_of(*row) for row in rows]
@@ -105,7 +106,7 @@ def fields_of_crates():
 def layouts():
     """The size and the alignment of each structure of the crates, and the offset of each field, as `repr(C)` has them."""
     found, bodies = {}, {}
-    for text in sources_of("pdb_handles", "pdb_reports"):
+    for text in sources_of("pdb_handles"):
         bodies.update(STRUCTURE.findall(text))
 
     def size_and_alignment(kind):
@@ -137,32 +138,43 @@ ENUMERATE = {"kind": "is_signed", "count": "width", "number": "value"}
 SHARED = {"typed": ("attributes", "type_index"), "counted": ("properties", "count")}
 # The numbers of the source of a type, which is one of two records.
 SOURCE = {"udt": "type_index", "file_id": "second_index", "module": "third_index", "file_name": "number", "line": "extra"}
-SAID = re.compile(r"^\w+ \((values|ids)\.(\w+) [^=]*\) =\s+zeroed_row \d+(.*?)(?=^\S)(?!^\})", re.MULTILINE | re.DOTALL)
+SAID = re.compile(r"^\w+ \((values|ids)\.(\w+) [^=]*\) =\s+zeroed_row (\d+)(.*?)(?=^\S)(?!^\})", re.MULTILINE | re.DOTALL)
+
+
+def definitions_of_shapes():
+    """The definition of each shape's row: the shape by its name there, whether it is of ids, its number, and its text."""
+    for path in sorted((ROOT / "crates/pdb_handles/specs").glob("*.antt")):
+        for module, shape, number, body in SAID.findall(path.read_text()):
+            yield shape, module == "ids", number, body
 
 
 def words_of_union():
     """The numbers of each shape by the definitions that say which number of a row is which: of the union's member, the
     name there, the name in a row, and whether some records lack it."""
-    for path in sorted((ROOT / "crates/pdb_handles/specs").glob("*.antt")):
-        for module, shape, body in SAID.findall(path.read_text()):
-            member = f"{shape}_id" if module == "ids" else MEMBERS.get(shape, shape)
-            for shared, *words in re.findall(r"\((\w+) v\.(\w+) v\.(\w+)\)", body):
-                yield from ((member, word, slot, False) for word, slot in zip(words, SHARED[shared]))
-            for slot, said in re.findall(r"(\w+) = ([^;}]+)", body):
-                word = re.findall(r"[ .]([a-z]\w+)\b", said)[-1]
-                word = ENUMERATE.get(slot, word) if shape == "enumerate" else WORDS.get((shape, word), word)
-                yield member, word, slot, "Some" not in said
+    for shape, is_of_ids, _, body in definitions_of_shapes():
+        member = f"{shape}_id" if is_of_ids else MEMBERS.get(shape, shape)
+        for shared, *words in re.findall(r"\((\w+) v\.(\w+) v\.(\w+)\)", body):
+            yield from ((member, word, slot, False) for word, slot in zip(words, SHARED[shared]))
+        for slot, said in re.findall(r"(\w+) = ([^;}]+)", body):
+            word = re.findall(r"[ .]([a-z]\w+)\b", said)[-1]
+            word = ENUMERATE.get(slot, word) if shape == "enumerate" else WORDS.get((shape, word), word)
+            yield member, word, slot, "Some" not in said
     for word, slot in SOURCE.items():
         yield "type_source_id", word, slot, False
 
 
+def members_of(text):
+    """The names of the members of the union, each with its structure."""
+    union = re.search(r"^typedef union pdb_type_info \{(.*?)^\} pdb_type_info;", text, re.DOTALL | re.MULTILINE)[1]
+    return {member: structure for structure, member in re.findall(r"(\w+) (\w+);", union) if member != "row"}
+
+
 def words_of_header(text):
     """The names of the numbers of each member of the union."""
-    bare = re.sub(r"/\*.*?\*/", "", text, flags=re.DOTALL)
-    union = re.search(r"^typedef union pdb_type_info \{(.*?)^\} pdb_type_info;", bare, re.DOTALL | re.MULTILINE)[1]
-    for body, member in re.findall(r"^    struct \{(.*?)^    \} (\w+);", union, re.DOTALL | re.MULTILINE):
-        for word in re.findall(r"\w+(?=[,;])", re.sub(r"union \{.*?\} ", "", body, flags=re.DOTALL)):
-            if word not in ("shape", "has") and not word.startswith("unused"):
+    for member, structure in members_of(text).items():
+        body = re.search(rf"^typedef struct {structure} \{{(.*?)^\}}", text, re.DOTALL | re.MULTILINE)[1]
+        for word in re.findall(r"\w+(?=[,;])", body):
+            if word not in ("shape", "has") and not word.startswith("reserved"):
                 yield member, word
 
 
@@ -172,6 +184,7 @@ def asserted(text):
     for name, (size, _, offsets) in layouts().items():
         yield f"_Static_assert(sizeof({STRUCTURES[name]}) == {size}, \"size of {name}\");"
         for field, offset in offsets.items():
+            field = field_of(field, "")[1]
             yield f"_Static_assert(offsetof({STRUCTURES[name]}, {field}) == {offset}, \"{name}.{field}\");"
     yield '_Static_assert(sizeof(pdb_type_info) == sizeof(pdb_row), "size of pdb_type_info");'
     for member, word, slot, is_optional in words_of_union():
@@ -179,13 +192,18 @@ def asserted(text):
         yield f"_Static_assert({place} == offsetof(pdb_row, {slot}), \"{member}.{word}\");"
         if is_optional:
             yield f"_Static_assert(PDB_HAS_{word.upper()} == PDB_HAS_{slot.upper()}, \"{word}\");"
-    for member in re.findall(r"^    \} (\w+);", text, re.MULTILINE):
+    for member in members_of(text):
         yield f'_Static_assert(offsetof(pdb_type_info, {member}.has) == 4, "{member}");'
     for handle in HANDLES.values():
-        yield f"_Static_assert(sizeof({handle}) == 16 && offsetof(pdb_handle, kind) == 8, \"{handle}\");"
+        yield f"_Static_assert(sizeof({handle}) == 24 && offsetof(pdb_handle, kind) == 8, \"{handle}\");"
+    yield '_Static_assert(offsetof(pdb_handle, fault) == 12, "pdb_handle.fault");'
     # A slice in a structure is a pointer and a length.
-    for field, offset in (("handle", 0), ("bytes", 16), ("length", 24)):
-        yield f'_Static_assert(sizeof(pdb_file) == 32 && offsetof(pdb_file, {field}) == {offset}, "pdb_file.{field}");'
+    for field, offset in (("handle", 0), ("bytes", 24), ("length", 32)):
+        yield f'_Static_assert(sizeof(pdb_file) == 40 && offsetof(pdb_file, {field}) == {offset}, "pdb_file.{field}");'
+    names = {"user_defined_type_source": "type_source"}
+    for shape, is_of_ids, number, _ in definitions_of_shapes():
+        name = f"PDB_{names.get(shape, shape).upper()}{'_ID' if is_of_ids else ''}"
+        yield f'_Static_assert({name} == {number}, "{name}");'
 
 
 def constant_of(error):

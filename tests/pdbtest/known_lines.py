@@ -61,6 +61,7 @@ def from_source(address):
 def address_lines():
     """Addresses and places, each in all its forms, and ranges of addresses."""
     yield "address of no form 106"
+    yield from (f"ranges of form {form} 106" for form in (1, 3, 4))
     for asked in range(FIRST, LAST, STEP):
         number = asked // STEP % 4
         yield f"own0 {asked:#x} {asked:#x}"
@@ -133,7 +134,7 @@ def type_lines():
     yield "unique 0x1007 .?AUT@@"
     yield "unique 0x1008 .?AUT@@"
     yield from ("primitive 0x74 int 0", "primitive 0x674 int 6", "primitive 0x103 void 1")
-    yield from ("primitive 0x874 status 15", "primitive 0x80 status 15", "primitive 0x1000 status 106")
+    yield from ("primitive 0x874 status 15", "primitive 0x80 status 15")
     # of each prefix of a number, its width and the number
     yield "enumerate 2 12345"
     yield from ("enumerate 2 -2", "enumerate 2 65534", "enumerate 4 -2", "enumerate 4 4294967294")
@@ -141,6 +142,17 @@ def type_lines():
     # 0x80 of one byte, as numbers of types
     yield from ("enumerator of 0x68 -128", "enumerator of 0x69 128", "enumerator of 0x23 18446744073709551488")
     yield "enumerator of 0x1000 128"
+
+
+def id_lines():
+    """An id of each shape: its shape, which numbers it has, these, its name and its list."""
+    yield "id 32 16 0x1002 0x0 0x0 0x0 0 0 named f"
+    yield "id 33 80 0x1006 0x0 0x1005 0x0 0 0 named g"
+    yield "id 34 0 0x0 0x0 0x0 0x0 0 0 0x1001 0x1002"
+    yield "id 35 0 0x0 0x0 0x0 0x0 0 0 0x1007"
+    yield "id 36 128 0x0 0x0 0x0 0x1008 0 0 named text"
+    yield "id 37 304 0x1009 0x100a 0x0 0x0 0 11"
+    yield "id 37 848 0x1009 0x0 0xc 0x0 10 11"
 
 
 def identity_lines():
@@ -201,33 +213,101 @@ def definition_lines():
         if rows is None:
             yield f"layout {index:#x} {NOWHERE}"
     yield from ("text 0x74 int it", "text 0x1001 int it[100][10]", "text 0x1007 T it", "text 0x1009 T *it")
-    yield "closed definitions 101"
 
 
-# What is told of calls that are refused, with plenty of memory: the status, and the numbers that go with it.
-WHOLE = ["open", "information", "identity", "stream names", "named stream", "roles", "addresses", "frames"]
-NOT_OPEN, NO_TEXT = 101, 104
+# What is told of calls that are refused, with plenty of memory: the status, and the number that goes with it.
+CLOSED = [
+    "sizes", "stream size", "stream", "named stream", "stream names", "roles", "identity", "sections", "names", "omap",
+    "addresses", "frames", "types",
+]  # fmt: skip
+NOT_OPEN = 101
 
 
 def refused_file(what, status, number):
     """The calls on a file that can't be opened: the others take an open one."""
-    for call in WHOLE:
-        yield (f"{what} {call}", status, number) if call in ("open", "identity") else (f"{what} {call}", NOT_OPEN, 0)
+    return [(f"{what} open", status, number), *((f"{what} {call}", NOT_OPEN, 0) for call in CLOSED)]
 
 
 REFUSED = [
     *refused_file("cut", 1, 0), *refused_file("empty", 1, 0), *refused_file("page size", 3, 768),
-    ("no named stream", 5, 0), ("name of no stream", 5, 0), ("no stream", 4, 99), ("no size", 4, 99),
-    ("names", 8, 0), ("signature", 9, 6), ("omap", 6, 1), ("table", 8, 0), ("header", 13, 10), ("definitions", 8, 0),
-    ("header of definitions", 13, 10), ("sections", 8, 0), ("no name", 8, 0), ("no place", 8, 0), ("cut row", 8, 0),
+    ("no named stream", 5, 0), ("no names", 5, 0), ("name of no stream", 5, 0), ("no stream", 4, 99), ("no size", 4, 99),
+    ("no sections", 4, 99), ("no omap", 4, 99), ("no types", 4, 99), ("names", 8, 0), ("signature", 9, 6), ("omap", 6, 1),
+    ("table", 8, 0), ("header", 13, 10), ("sections", 8, 0), ("no name", 8, 0), ("no place", 8, 0), ("short record", 14, 0),
     ("kind of row", 17, 0x151D), ("pointer", 17, 0x1002), ("prefix", 20, 0x8005), ("primitive", 15, 0x874),
     ("cut name", 8, 0), ("false count", 8, 0), ("array", 8, 0), ("cut method", 8, 0), ("cut unique name", 8, 0),
-    ("cut field", 8, 0), ("list in a list", 17, 0x1203), ("cut id", 8, 0), ("kind of id", 17, 0x1608),
-    ("cut name of an id", 8, 0), ("false count of ids", 8, 0), ("no type", 15, 0xFFFFFFFF),
+    ("cut field", 8, 0), ("list in a list", 17, 0x1203), ("continuation", 9, 9), ("cut id", 8, 0), ("kind of id", 17, 0x1608),
+    ("cut name of an id", 8, 0), ("false count of ids", 8, 0), ("definitions of a cut table", 14, 0),
+    ("size in a cut table", 14, 0), ("size in a cut table", 14, 0),
+]  # fmt: skip
+REFUSED_OF_TABLE = [
+    ("no type", 15, 0xFFFFFFFF), ("no record", 15, 0xFFFFFFFF), ("record of an integer", 106, 0),
     ("fields of an integer", 17, 0xFFFF), ("fields of an array", 17, 0x1503), ("fields of no type", 15, 0x2000),
     ("no definition", 15, 0x2000), ("size of no type", 15, 0x2000), ("text of no type", 15, 0x2000),
-    ("layout of no type", 15, 0x2000), ("no text", NO_TEXT, 0),
+    ("layout of no type", 15, 0x2000), ("closed types", NOT_OPEN, 0),
 ]  # fmt: skip
+
+# The texts of faults by their statuses, with the number that goes with each.
+TEXTS = {
+    0: "success",
+    1: "UnrecognizedFileFormat",
+    2: "MSF referred to page number ({}) out of range",
+    3: "The MSF header specifies an invalid page size ({} bytes)",
+    4: "The requested stream ({}) is not stored in this file",
+    5: "StreamNameNotFound",
+    6: "{} stream has an invalid length or alignment for its records",
+    7: "the file ends too soon",
+    8: "UnexpectedEof",
+    9: "Unimplemented PDB feature: {}",
+    13: "The type information header was invalid: {}",
+    14: "TypeTooShort",
+    15: "Type {} not found",
+    17: "Support for types of kind 0x{:04x} is not implemented",
+    20: "Variable-length numeric parsing encountered an unexpected prefix (0x{:04x})",
+    21: "AddressMapNotFound",
+    28: "OutOfMemory",
+    100: "the handle is open already",
+    101: "the handle is not open",
+    102: "the array has no room for the answer",
+    104: "no text for this fault",
+    105: "the walk is at its end",
+    106: "there is no such value",
+    107: "the table moves the address nowhere",
+}
+NUMBERS = {2: 7, 3: 7, 4: 7, 7: 1, 15: 7, 17: 7, 20: 7}  # what goes with these where texts are asked for
+# What is named by a number in the faults of these statuses.
+NAMED_BY_NUMBER = {
+    6: {1: "OMAP", 2: "FPO", 3: "FrameData"},
+    9: {
+        4: "small MSF file format", 5: "ancient DBI header", 6: "invalid string table signature",
+        7: "unknown string table hash version", 8: "u64 array sizes", 9: "field list continuation not below its list",
+        14: "OMAP table that is not sorted", 15: "frames that are not sorted",
+        16: "directory that is larger than its file", 17: "streams that are larger than their file",
+        18: "stream names that share bytes",
+    },
+    13: {
+        10: "header size is impossibly small", 11: "header size is unreasonably large",
+        12: "minimum type index is < 4096", 13: "maximum type index is < minimum type index",
+    },
+}  # fmt: skip
+
+
+def text_of(status, number):
+    """The text of a fault."""
+    return TEXTS[status].format(NAMED_BY_NUMBER.get(status, {}).get(number, number))
+
+
+def told_lines(refused):
+    """What is told of refused calls."""
+    return (f"told {what} {status} {number} 0 {text_of(status, number)}" for what, status, number in refused)
+
+
+def text_lines():
+    """The text of each fault that a call can leave, and none of others."""
+    for status in TEXTS:
+        for number in NAMED_BY_NUMBER.get(status, [NUMBERS.get(status, 0)]):
+            yield f"text of {status} {number} is {text_of(status, number)}"
+    for status, number in ((5, 1), (6, 0), (7, 0), (17, 0x10000), (29, 0), (103, 0), (108, 0)):
+        yield f"text of {status} {number} is none"
 
 
 def finding_lines(data):
@@ -248,8 +328,7 @@ def lines(page_size, data):
     """All that is printed, of the file, which is these bytes, over pages of a size."""
     all_streams = streams()
     yield from stream_lines(all_streams, page_size)
-    yield f"version 20000404 signature 1700000000 age 3 guid {GUID.hex()}"
-    yield f"named {len(NAMED)} {sum(len(name) for name, _ in NAMED)}"
+    yield f"named {len(NAMED)} {sum(len(name) + 1 for name, _ in NAMED)}"
     yield from (f"named {number} {name}" for name, number in NAMED)
     yield "roles 6 7 8 9 10"
     yield from identity_lines()
@@ -261,12 +340,16 @@ def lines(page_size, data):
     offset, found = 0, []
     for name in NAMES:
         yield f"name {offset} {name}"
-        yield f"place {offset} {12 + offset} {len(name)}"
         found.append(f"found {offset} {12 + offset} {len(name)}")
         offset += len(name) + 1
     yield from found
     yield f"found {offset} 0 0"
+    yield f"names of {len(all_streams[4])} bytes"
     yield from type_lines()
+    yield from id_lines()
     yield from definition_lines()
     yield from finding_lines(data)
-    yield from (f"told {what} {status} {number} 0" for what, status, number in REFUSED)
+    yield from told_lines(REFUSED)
+    yield f"not found 15 {0xFFFFFFFF}"
+    yield from told_lines(REFUSED_OF_TABLE)
+    yield from text_lines()
