@@ -65,8 +65,8 @@ impl<'f> Pdb<'f> {
     pub fn stream_prefix(&self, number: u32, limit: usize) -> Result<Vec<u8>> {
         let bytes = self
             .file
-            .items(0, |file, to, size, count| unsafe { sys::pdb_file_stream(file, number, limit, to, size, count) });
-        Ok(bytes.map_err(|error| error.at(Some(number), None))?.unwrap_or_default())
+            .stream(|file, to, size, count| unsafe { sys::pdb_file_stream(file, number, limit, to, size, count) });
+        bytes.map_err(|error| error.at(Some(number), None))
     }
 
     /// The numbers that identify the file.
@@ -97,10 +97,9 @@ impl<'f> Pdb<'f> {
     /// The bytes of the first stream with this name, such as `/names`.
     pub fn named_stream(&self, name: impl AsRef<[u8]>) -> Result<Vec<u8>> {
         let name = name.as_ref();
-        let bytes = self.file.items(0, |file, to, size, count| unsafe {
+        self.file.stream(|file, to, size, count| unsafe {
             sys::pdb_file_named_stream(file, name.as_ptr(), name.len(), to, size, count)
-        })?;
-        Ok(bytes.unwrap_or_default())
+        })
     }
 
     /// The numbers of the streams in eleven roles.

@@ -77,6 +77,20 @@ impl<H: Opens> Handle<H> {
 }
 
 impl Handle<sys::File> {
+    /// The bytes of a stream that a call copies. A damaged file may say that there are far more than it has: so memory is
+    /// taken for them, and left to the call to touch.
+    pub fn stream(&self, call: impl Fn(*mut sys::File, *mut u8, usize, *mut usize) -> u32) -> Result<Vec<u8>> {
+        let (mut bytes, mut length) = (Vec::new(), 0);
+        let mut fault = self.call(|file| call(file, bytes.as_mut_ptr(), 0, &mut length));
+        if fault.status == sys::PDB_TOO_SMALL {
+            bytes.try_reserve_exact(length).map_err(|_| ErrorKind::OutOfMemory)?;
+            fault = self.call(|file| call(file, bytes.as_mut_ptr(), bytes.capacity(), &mut length));
+        }
+        // SAFETY: the call wrote so many bytes, none if it failed.
+        unsafe { bytes.set_len(length) };
+        Ok(answer(fault, bytes)?.unwrap_or_default())
+    }
+
     /// Opens a table of the file by a call.
     pub fn table(&self, call: impl FnOnce(*mut sys::File, *mut sys::Handle) -> u32) -> Result<Handle> {
         Handle::open(|table| self.call(|file| call(file, table)).status)

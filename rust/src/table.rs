@@ -1,5 +1,5 @@
 use std::fmt;
-use std::sync::{Mutex, PoisonError};
+use std::sync::{Mutex, OnceLock, PoisonError};
 
 use crate::error::{Error, Result};
 use crate::file::Pdb;
@@ -20,6 +20,8 @@ pub(crate) struct Table {
     number: u32,
     /// The index of the record that the walk of the handle gives next.
     walked: Mutex<u32>,
+    /// What a whole walk gave, and how it ended, once two walks went beside one another.
+    all: OnceLock<(Vec<sys::Type>, sys::Fault)>,
 }
 
 impl fmt::Debug for Table {
@@ -47,7 +49,7 @@ impl Table {
         let handle = pdb.file.table(|file, table| unsafe { sys::pdb_types_open(file, number, table) });
         let handle = handle.map_err(|error| error.at(Some(number), None))?;
         let range = handle.value(|table, range| unsafe { sys::pdb_types_range(table, range) })?.unwrap_or_default();
-        Ok(Table { handle, range, stream, number, walked: Mutex::new(range.first) })
+        Ok(Table { handle, range, stream, number, walked: Mutex::new(range.first), all: OnceLock::new() })
     }
 
     /// What a call about the table gives, whose error is in its stream.
@@ -63,17 +65,14 @@ impl Table {
 
     /// The record of an index, which is empty if no record of the table can have the index.
     pub fn find(&self, index: u32) -> Result<Record<'_>> {
-        let found = self.found(index);
-        match found.fault.status {
-            sys::PDB_OK | sys::PDB_NONE => Ok(self.record(&sys::Record { index, ..found.position })),
-            _ => self.located(Err(Error::of(&found.fault))),
-        }
-    }
-
-    fn found(&self, index: u32) -> sys::FoundRecord {
         let mut found = sys::FoundRecord::default();
         let fault = self.handle.call(|table| unsafe { sys::pdb_types_find(table, &index, 1, &mut found, 1, &mut 0) });
-        if fault.status == sys::PDB_OK { found } else { sys::FoundRecord { fault, ..found } }
+        match if fault.status == sys::PDB_OK { found.fault } else { fault } {
+            sys::Fault { status: sys::PDB_OK | sys::PDB_NONE, .. } => {
+                Ok(self.record(&sys::Record { index, ..found.position }))
+            }
+            fault => self.located(Err(Error::of(&fault))),
+        }
     }
 
     /// The fields of the list of an index, and of the lists in which it continues.
@@ -94,33 +93,43 @@ impl Table {
     /// Reads the records from an index on: how many there are, and how that ended. The index is the first one, or follows
     /// those that were read.
     fn read(&self, from: u32, rows: &mut [sys::Type; BATCH]) -> (usize, sys::Fault) {
-        let mut count = 0;
         let mut walked = self.walked.lock().unwrap_or_else(PoisonError::into_inner);
         if from == self.range.first {
-            self.handle.call(|table| unsafe { sys::pdb_types_rewind(table) });
-            *walked = from;
+            *walked = self.rewind();
         }
         if from == *walked {
-            let to = rows.as_mut_ptr();
-            let fault = self.handle.call(|table| unsafe { sys::pdb_types_read(table, to, BATCH, &mut count) });
+            let (count, fault) = self.read_on(rows);
             *walked = from.wrapping_add(count as u32);
             return (count, fault);
         }
-        // The handle walks for someone else.
-        drop(walked);
-        for (index, row) in (from..=u32::MAX).zip(rows) {
-            let sys::FoundRecord { position, fault } = self.found(index);
-            match fault.status {
-                sys::PDB_OK => {}
-                sys::PDB_TYPE_NOT_FOUND => return (count, sys::Fault { status: sys::PDB_END, ..fault }),
-                _ => return (count, fault),
+        let (all, end) = self.all.get_or_init(|| {
+            *walked = self.rewind();
+            let (mut all, mut end) = (Vec::new(), sys::Fault::default());
+            while end.status == sys::PDB_OK {
+                let (count, fault) = self.read_on(rows);
+                all.extend_from_slice(&rows[..count]);
+                *walked = walked.wrapping_add(count as u32);
+                end = fault;
             }
-            let mut info = sys::Row::default();
-            let fault = self.handle.call(|table| unsafe { sys::pdb_type_parse(table, index, &mut info) });
-            *row = sys::Type { position, fault, info };
-            count += 1;
-        }
-        (count, sys::Fault::default())
+            (all, end)
+        });
+        let rest = &all[from.wrapping_sub(self.range.first) as usize..];
+        let count = rest.len().min(BATCH);
+        rows[..count].copy_from_slice(&rest[..count]);
+        (count, if count < BATCH { *end } else { sys::Fault::default() })
+    }
+
+    /// Moves the walk of the handle back, to the index that it returns.
+    fn rewind(&self) -> u32 {
+        self.handle.call(|table| unsafe { sys::pdb_types_rewind(table) });
+        self.range.first
+    }
+
+    /// The next records of the walk of the handle.
+    fn read_on(&self, rows: &mut [sys::Type; BATCH]) -> (usize, sys::Fault) {
+        let (to, mut count) = (rows.as_mut_ptr(), 0);
+        let fault = self.handle.call(|table| unsafe { sys::pdb_types_read(table, to, BATCH, &mut count) });
+        (count, fault)
     }
 }
 
