@@ -1,13 +1,16 @@
 use std::fmt;
 use std::sync::{Mutex, OnceLock, PoisonError};
 
-use crate::error::{Error, Result};
+use crate::error::{Error, ErrorKind, Result};
 use crate::file::Pdb;
 use crate::handle::Handle;
 use crate::names::Name;
 use crate::row::Row;
 use crate::sys;
 use crate::types::{Field, Fields};
+
+/// The indexes below this one are those of primitive types, which have no record.
+const FIRST_RECORD: u32 = 0x1000;
 
 /// How many records a walk takes from the library at a time.
 const BATCH: usize = 64;
@@ -63,16 +66,16 @@ impl Table {
         Record { table: self, index: position.index, bytes, offset: position.offset }
     }
 
-    /// The record of an index, which is empty if no record of the table can have the index.
+    /// The record of an index. A primitive type has an empty one.
     pub fn find(&self, index: u32) -> Result<Record<'_>> {
         let mut found = sys::FoundRecord::default();
         let fault = self.handle.call(|table| unsafe { sys::pdb_types_find(table, &index, 1, &mut found, 1, &mut 0) });
-        match if fault.status == sys::PDB_OK { found.fault } else { fault } {
-            sys::Fault { status: sys::PDB_OK | sys::PDB_NONE, .. } => {
-                Ok(self.record(&sys::Record { index, ..found.position }))
-            }
-            fault => self.located(Err(Error::of(&fault))),
-        }
+        let fault = if fault.status == sys::PDB_OK { found.fault } else { fault };
+        self.located(match fault.status {
+            sys::PDB_NONE if index >= FIRST_RECORD => Err(ErrorKind::TypeNotFound { index }.into()),
+            sys::PDB_OK | sys::PDB_NONE => Ok(self.record(&sys::Record { index, ..found.position })),
+            _ => Err(Error::of(&fault)),
+        })
     }
 
     /// The fields of the list of an index, and of the lists in which it continues.
@@ -102,6 +105,7 @@ impl Table {
             *walked = from.wrapping_add(count as u32);
             return (count, fault);
         }
+        // Another walk has moved the handle's.
         let (all, end) = self.all.get_or_init(|| {
             *walked = self.rewind();
             let (mut all, mut end) = (Vec::new(), sys::Fault::default());
@@ -203,7 +207,7 @@ fn failed(fault: &sys::Fault, stream: u32, offset: u32) -> Error {
 /// A call that copies items of the record of an index.
 type Copies<T> = unsafe extern "C" fn(*mut sys::Handle, u32, *mut T, usize, *mut usize) -> u32;
 
-/// A record of a table, or the lack of one, which a primitive type has.
+/// A record of a table, or the empty one of a primitive type.
 #[derive(Debug, Clone, Copy, PartialEq, Eq)]
 pub(crate) struct Record<'t> {
     pub table: &'t Table,
@@ -215,8 +219,7 @@ pub(crate) struct Record<'t> {
 impl<'t> Record<'t> {
     /// What a call about the record gives, whose error is in it.
     fn located<T>(&self, result: Result<T>) -> Result<T> {
-        let offset = (!self.bytes.is_empty()).then_some(self.offset);
-        result.map_err(|error| error.at(Some(self.table.number), offset))
+        result.map_err(|error| error.at(Some(self.table.number), Some(self.offset)))
     }
 
     /// The numbers in it.

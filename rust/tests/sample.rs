@@ -43,6 +43,17 @@ fn header_and_streams() {
 }
 
 #[test]
+fn a_stream_that_is_said_to_be_large() {
+    let file = sample();
+    let pdb = Pdb::parse(&file).unwrap();
+    let sizes: Vec<_> = (16..20).flat_map(|number| pdb.stream_size(number).unwrap().to_le_bytes()).collect();
+    let large = [&sizes[..12], &0xffff_fff0_u32.to_le_bytes()].concat();
+    let damaged = replaced(&file, &sizes, &large);
+    let pdb = Pdb::parse(&damaged).unwrap();
+    assert_eq!((pdb.stream_size(19), kind(pdb.stream(19))), (Ok(0xffff_fff0), Err(ErrorKind::UnexpectedEof)));
+}
+
+#[test]
 fn identity_and_format() {
     let file = sample();
     let about = Pdb::parse(&file).unwrap().identity().unwrap();
