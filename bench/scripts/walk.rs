@@ -28,19 +28,19 @@ fn by_iterator(types: &Types) -> (u64, u64) {
 fn by_calls(table: &mut sys::Handle) -> (u64, u64) {
     let (mut count, mut sum) = (0, 0_u64);
     let mut batch = [sys::Type::default(); 64];
-    let (mut filled, mut fault) = (0, sys::Fault::default());
+    let mut filled = 0;
     // SAFETY: the table is open, and the array is as long as it says.
-    unsafe { sys::pdb_types_rewind(table, &mut fault) };
+    unsafe { sys::pdb_types_rewind(table) };
     loop {
         // SAFETY: the same.
-        let status = unsafe { sys::pdb_types_read(table, batch.as_mut_ptr(), batch.len(), &mut filled, &mut fault) };
+        let status = unsafe { sys::pdb_types_read(table, batch.as_mut_ptr(), batch.len(), &mut filled) };
         for it in &batch[..filled] {
             count += 1;
             if it.fault.status == sys::PDB_OK {
                 sum = sum
                     .wrapping_add(it.info.number)
-                    .wrapping_add(it.place.index.into())
-                    .wrapping_add(it.place.length.into());
+                    .wrapping_add(it.position.index.into())
+                    .wrapping_add(it.position.length.into());
             }
         }
         if status != sys::PDB_OK {
@@ -58,12 +58,14 @@ fn main() -> Result<(), Box<dyn Error>> {
     let path = std::env::args_os().nth(1).ok_or("usage: walk FILE [TURNS]")?;
     let turns: usize = std::env::args().nth(2).map_or(Ok(15), |it| it.parse())?;
     let bytes = std::fs::read(path)?;
-    let pdb = Pdb::parse(&bytes)?;
-    let types = pdb.types()?;
-    let stream = pdb.stream(2)?;
-    let mut table = sys::Handle { held: std::ptr::null_mut(), kind: 0 };
-    // SAFETY: the handle is all zero, and the stream is as long as it says.
-    unsafe { sys::pdb_types_open(stream.as_ptr(), stream.len(), &mut table, &mut sys::Fault::default()) };
+    let types = Pdb::parse(&bytes)?.types()?;
+    // SAFETY: handles may be all zero.
+    let (mut file, mut table): (sys::File, sys::Handle) = unsafe { std::mem::zeroed() };
+    // SAFETY: the handles are all zero, and the file is as long as it says.
+    unsafe {
+        sys::pdb_file_open(bytes.as_ptr(), bytes.len(), &mut file);
+        sys::pdb_types_open(&mut file, sys::PDB_TYPES, &mut table);
+    }
     let (mut ours, mut theirs, mut ratios) = (Vec::new(), Vec::new(), Vec::new());
     for _ in 0..turns {
         let start = Instant::now();
@@ -78,8 +80,11 @@ fn main() -> Result<(), Box<dyn Error>> {
         theirs.push((end - middle).as_secs_f64() * 1e3);
         ratios.push((middle - start).as_secs_f64() / (end - middle).as_secs_f64());
     }
-    // SAFETY: the table is open, and this is its last call.
-    unsafe { sys::pdb_close(&mut table) };
+    // SAFETY: the handles are open, and these are their last calls.
+    unsafe {
+        sys::pdb_handle_close(&mut table);
+        sys::pdb_handle_close(&mut file.handle);
+    }
     let count = types.iter().count();
     println!(
         "{count} types: {:.1} ms by the iterator, {:.1} ms by the calls, ratio {:.3}",

@@ -1,7 +1,7 @@
 use std::ops::Range;
 
 use crate::error::Result;
-use crate::handle::{Handle, Shared, items, value};
+use crate::handle::Handle;
 use crate::names::Name;
 use crate::sys;
 
@@ -25,55 +25,53 @@ impl std::ops::Deref for Section {
     }
 }
 
-/// The section headers in a stream.
-pub(crate) fn sections(stream: &[u8]) -> Result<Vec<Section>> {
-    // SAFETY: the slices are as long as they say, and handles are borrowed by one call; so in all of this file.
-    let found = items(|room, size, count, fault| unsafe {
-        sys::pdb_sections(stream.as_ptr(), stream.len(), room, size, count, fault)
-    })?;
+// SAFETY, in all of this file: slices are as long as they say, and places that the library writes stay in one call.
+
+/// The section headers in the stream of a number.
+pub(crate) fn sections(file: &Handle<sys::File>, number: u32) -> Result<Vec<Section>> {
+    let found =
+        file.items(0, |file, to, size, count| unsafe { sys::pdb_file_sections(file, number, to, size, count) })?;
     Ok(found.unwrap_or_default().into_iter().map(Section).collect())
 }
 
-fn ranges(call: impl FnMut(*mut sys::Span, usize, *mut usize, *mut sys::Fault) -> u32) -> Result<Vec<Range<u32>>> {
-    Ok(items(call)?.unwrap_or_default().into_iter().map(|it| it.start..it.end).collect())
+fn ranges(found: Result<Option<Vec<sys::Span>>>) -> Result<Vec<Range<u32>>> {
+    Ok(found?.unwrap_or_default().into_iter().map(|it| it.start..it.end).collect())
 }
 
 /// A table of moved addresses.
 #[derive(Debug)]
-pub struct Omap(Shared);
+pub struct Omap(Handle);
 
 impl Omap {
-    /// Reads the OMAP table in a stream.
-    pub fn parse(stream: &[u8]) -> Result<Omap> {
-        Shared::open(|omap, fault| unsafe { sys::pdb_omap_open(stream.as_ptr(), stream.len(), omap, fault) }).map(Omap)
+    /// Opens the OMAP table in the stream of a number.
+    pub(crate) fn open(file: &Handle<sys::File>, number: u32) -> Result<Omap> {
+        file.table(|file, omap| unsafe { sys::pdb_omap_open(file, number, omap) }).map(Omap)
     }
 
     /// The address to which the table moves an address, or None if it moves it nowhere.
     pub fn lookup(&self, address: u32) -> Result<Option<u32>> {
-        value(|target, fault| unsafe { sys::pdb_omap_lookup(self.0.lock().get(), address, target, fault) })
+        self.0.value(|omap, target| unsafe { sys::pdb_omap_lookup(omap, address, target) })
     }
 
     /// The records of the table, in their order: the first address that each moves, and where it moves that one, 0 if
     /// nowhere.
     pub fn records(&self) -> Result<Vec<(u32, u32)>> {
-        let found = items(|room: *mut sys::OmapRecord, size, count, fault| unsafe {
-            sys::pdb_omap_records(self.0.lock().get(), room, size, count, fault)
+        let found = self.0.items(0, |omap, to: *mut sys::OmapRecord, size, count| unsafe {
+            sys::pdb_omap_records(omap, to, size, count)
         })?;
         Ok(found.unwrap_or_default().iter().map(|it| (it.source, it.target)).collect())
     }
 
     /// Whether no record has a source below that of the record before it.
     pub fn is_sorted(&self) -> Result<bool> {
-        let found =
-            value(|is_sorted, fault| unsafe { sys::pdb_omap_is_sorted(self.0.lock().get(), is_sorted, fault) })?;
-        Ok(found == Some(1))
+        Ok(self.0.value(|omap, is_sorted| unsafe { sys::pdb_omap_is_sorted(omap, is_sorted) })? == Some(1))
     }
 
     /// The ranges to which the table moves the addresses of a range: one for each record that moves some of them.
     pub fn ranges(&self, range: Range<u32>) -> Result<Vec<Range<u32>>> {
-        ranges(|room, size, count, fault| unsafe {
-            sys::pdb_omap_ranges(self.0.lock().get(), range.start, range.end, room, size, count, fault)
-        })
+        ranges(self.0.items(4, |omap, to, size, count| unsafe {
+            sys::pdb_omap_ranges(omap, range.start, range.end, to, size, count)
+        }))
     }
 }
 
@@ -82,7 +80,7 @@ impl Omap {
 /// An RVA is an address in the image as it is loaded, and an internal RVA is one in the original image, which the
 /// parts of a program database refer to.
 #[derive(Debug)]
-pub struct AddressMap(Shared);
+pub struct AddressMap(Handle);
 
 /// A place in a section: the section, counted from 1, and an offset.
 pub type Place = (u16, u32);
@@ -115,7 +113,7 @@ pub enum Address {
 
 impl AddressMap {
     pub(crate) fn open(file: &Handle<sys::File>) -> Result<AddressMap> {
-        Shared::open(|map, fault| unsafe { sys::pdb_file_addresses(file.get(), map, fault) }).map(AddressMap)
+        file.table(|file, map| unsafe { sys::pdb_address_map_open(file, map) }).map(AddressMap)
     }
 
     /// The four forms of an address or a place.
@@ -126,30 +124,30 @@ impl AddressMap {
             Address::InternalRva(address) => (sys::PDB_INTERNAL_RVA, (0, address)),
             Address::InternalPlace(place) => (sys::PDB_INTERNAL_SECTION_OFFSET, place),
         };
-        let call = |to: *mut sys::Translation, fault| unsafe {
-            sys::pdb_translate(self.0.lock().get(), form, section, offset, to, fault)
-        };
-        let to = value(call)?.unwrap_or_default();
-        let place = |it: sys::Place| (it.section as u16, it.offset);
+        let to = self.0.value(|map, to| unsafe { sys::pdb_translate(map, form, section, offset, to) })?;
+        let to: sys::Translation = to.unwrap_or_default();
+        let place = |it: sys::SectionOffset| (it.section as u16, it.offset);
         Ok(Translation {
             rva: (to.has_rva != 0).then_some(to.rva),
-            place: (to.has_place != 0).then(|| place(to.place)),
+            place: (to.has_section_offset != 0).then(|| place(to.section_offset)),
             internal_rva: (to.has_internal_rva != 0).then_some(to.internal_rva),
-            internal_place: (to.has_internal_place != 0).then(|| place(to.internal_place)),
+            internal_place: (to.has_internal_section_offset != 0).then(|| place(to.internal_section_offset)),
         })
     }
 
     /// Where the addresses of a range of the original image lie in the image as it is loaded.
     pub fn rva_ranges(&self, range: Range<u32>) -> Result<Vec<Range<u32>>> {
-        ranges(|room, size, count, fault| unsafe {
-            sys::pdb_rva_ranges(self.0.lock().get(), range.start, range.end, room, size, count, fault)
-        })
+        self.ranges(sys::PDB_INTERNAL_RVA, range)
     }
 
     /// Where the addresses of a range of the image as it is loaded lie in the original image.
     pub fn internal_rva_ranges(&self, range: Range<u32>) -> Result<Vec<Range<u32>>> {
-        ranges(|room, size, count, fault| unsafe {
-            sys::pdb_internal_rva_ranges(self.0.lock().get(), range.start, range.end, room, size, count, fault)
-        })
+        self.ranges(sys::PDB_RVA, range)
+    }
+
+    fn ranges(&self, form: u32, range: Range<u32>) -> Result<Vec<Range<u32>>> {
+        ranges(self.0.items(4, |map, to, size, count| unsafe {
+            sys::pdb_address_ranges(map, form, range.start, range.end, to, size, count)
+        }))
     }
 }

@@ -1,5 +1,6 @@
 use std::fmt;
 
+use crate::handle::items;
 use crate::sys;
 
 /// The result of a call that reads a file. With a second parameter it is the standard library's, so that a glob import
@@ -160,25 +161,19 @@ errors! {
     PDB_ADDRESS_MAP_NOT_FOUND AddressMapNotFound
     /// An allocation failed.
     PDB_OUT_OF_MEMORY OutOfMemory
-    /// The stream has 4,294,967,295 bytes or more.
-    PDB_TOO_LONG StreamTooLong
 }
 
 impl fmt::Display for ErrorKind {
     fn fmt(&self, f: &mut fmt::Formatter<'_>) -> fmt::Result {
-        let about = self.fault();
-        let (mut room, mut length, mut fault) = ([0; 256], 0, sys::Fault::default());
+        if let ErrorKind::LibraryVersion { version } = self {
+            return write!(f, "the library is of version {}.{}", version / 10_000, version / 100 % 100);
+        }
+        let fault = self.fault();
         // SAFETY: each pointer is to a value of its own, and the length is the array's.
-        let status = unsafe { sys::pdb_error_text(&about, room.as_mut_ptr(), room.len(), &mut length, &mut fault) };
-        match (status, self) {
-            (sys::PDB_OK, _) => f.write_str(&String::from_utf8_lossy(&room[..length])),
-            (_, ErrorKind::Io { .. }) => f.write_str("IO error while reading PDB"),
-            (_, ErrorKind::OutOfMemory) => f.write_str("OutOfMemory"),
-            (_, ErrorKind::LibraryVersion { version }) => {
-                write!(f, "the library is of version {}.{}", version / 10_000, version / 100 % 100)
-            }
-            (_, ErrorKind::StreamTooLong) => f.write_str("a stream has 4,294,967,295 bytes or more"),
-            _ => write!(f, "status {} of the library", about.status),
+        let text = items(256, |to, size, count| unsafe { sys::pdb_fault_text(&fault, to, size, count) });
+        match text {
+            Ok(Some(text)) => f.write_str(&String::from_utf8_lossy(&text)),
+            _ => write!(f, "status {} of the library", fault.status),
         }
     }
 }

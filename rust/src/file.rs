@@ -3,47 +3,36 @@ use std::fmt;
 use crate::addresses::{AddressMap, Omap, Section, sections};
 use crate::error::{ErrorKind, Result};
 use crate::frames::Frames;
-use crate::handle::{Handle, items, named_items, value};
+use crate::handle::Handle;
 use crate::identity::Identity;
 use crate::ids::Ids;
+use crate::layouts::Definitions;
 use crate::names::{Name, Names};
 use crate::sys;
+use crate::table::Table;
 use crate::types::Types;
-
-const TYPES: u32 = 2;
-const IDS: u32 = 4;
-const NO_STREAM: u32 = 0xffff;
 
 /// A program database over bytes that it borrows: its header and its directory are kept.
 pub struct Pdb<'f> {
     bytes: &'f [u8],
-    file: Handle<sys::File>,
-    page_size: u32,
-    stream_count: u32,
+    pub(crate) file: Handle<sys::File>,
+    sizes: sys::Sizes,
 }
 
 impl fmt::Debug for Pdb<'_> {
     fn fmt(&self, f: &mut fmt::Formatter<'_>) -> fmt::Result {
-        let (bytes, page_size, streams) = (self.bytes.len(), self.page_size, self.stream_count);
-        let mut shown = f.debug_struct("Pdb");
-        shown.field("bytes", &bytes).field("page_size", &page_size).field("streams", &streams).finish_non_exhaustive()
+        f.debug_struct("Pdb").field("bytes", &self.bytes.len()).field("sizes", &self.sizes).finish_non_exhaustive()
     }
 }
+
+// SAFETY, in all of this file: slices are as long as they say, and places that the library writes stay in one call.
 
 impl<'f> Pdb<'f> {
     /// Reads the header and the directory of a file.
     pub fn parse(bytes: &'f [u8]) -> Result<Pdb<'f>> {
-        // SAFETY: the slice is as long as it says, and the handle is all zero; so in all of this file.
-        let file =
-            Handle::open(|file, fault| unsafe { sys::pdb_file_open(bytes.as_ptr(), bytes.len(), file, fault) })?;
-        let page_size = value(|size, fault| unsafe { sys::pdb_file_page_size(file.get(), size, fault) })?;
-        let stream_count = value(|count, fault| unsafe { sys::pdb_file_stream_count(file.get(), count, fault) })?;
-        Ok(Pdb {
-            bytes,
-            file,
-            page_size: page_size.unwrap_or_default(),
-            stream_count: stream_count.unwrap_or_default(),
-        })
+        let file = Handle::open(|file| unsafe { sys::pdb_file_open(bytes.as_ptr(), bytes.len(), file) })?;
+        let sizes = file.value(|file, sizes| unsafe { sys::pdb_file_sizes(file, sizes) })?.unwrap_or_default();
+        Ok(Pdb { bytes, file, sizes })
     }
 
     /// The bytes of the file.
@@ -53,17 +42,17 @@ impl<'f> Pdb<'f> {
 
     /// The size of the file's pages in bytes.
     pub fn page_size(&self) -> u32 {
-        self.page_size
+        self.sizes.page_size
     }
 
     /// How many streams the directory has, including absent ones. Their numbers are those below this count.
     pub fn stream_count(&self) -> u32 {
-        self.stream_count
+        self.sizes.stream_count
     }
 
     /// The size of a stream in bytes, as the directory gives it.
     pub fn stream_size(&self, number: u32) -> Result<u32> {
-        let size = value(|size, fault| unsafe { sys::pdb_file_stream_size(self.file.get(), number, size, fault) })?;
+        let size = self.file.value(|file, size| unsafe { sys::pdb_file_stream_size(file, number, size) })?;
         Ok(size.ok_or(ErrorKind::StreamNotFound { number })?)
     }
 
@@ -74,35 +63,33 @@ impl<'f> Pdb<'f> {
 
     /// The bytes of a stream, at most `limit` of them.
     pub fn stream_prefix(&self, number: u32, limit: usize) -> Result<Vec<u8>> {
-        let bytes = items(|room, size, count, fault| unsafe {
-            sys::pdb_file_stream(self.file.get(), number, limit, room, size, count, fault)
-        });
-        Ok(bytes.map_err(|error| error.at(Some(number), None))?.unwrap_or_default())
+        let bytes = self
+            .file
+            .stream(|file, to, size, count| unsafe { sys::pdb_file_stream(file, number, limit, to, size, count) });
+        bytes.map_err(|error| error.at(Some(number), None))
     }
 
     /// The numbers that identify the file.
     pub fn information(&self) -> Result<Information> {
-        let found = value(|to, fault| unsafe { sys::pdb_file_information(self.file.get(), to, fault) })?;
-        let sys::Information { version, signature, age, guid } = found.unwrap_or_default();
-        Ok(Information { version, signature, age, guid: Guid(guid) })
+        let Identity { version, signature, information_age: age, guid, .. } = self.identity()?;
+        Ok(Information { version, signature, age, guid })
     }
 
     /// What identifies the file, and its key.
     pub fn identity(&self) -> Result<Identity> {
-        Identity::of(self.bytes)
+        Identity::of(&self.file)
     }
 
     /// The streams that have names, in the order in which the file lists them.
     pub fn named_streams(&self) -> Result<Vec<NamedStream>> {
-        let found = named_items(|rows: *mut sys::NamedStream, length, count, names, room, size, fault| unsafe {
-            sys::pdb_file_stream_names(self.file.get(), rows, length, count, names, room, size, fault)
-        })?;
+        let found =
+            self.file.named_items(|file, to: *mut sys::NamedStream, size, count, names, room, length| unsafe {
+                sys::pdb_file_stream_names(file, to, size, count, names, room, length)
+            })?;
         let (rows, names) = found.unwrap_or_default();
-        let mut from = 0;
-        let streams = rows.iter().map(|row| {
-            let name = names[from..from + row.name_length].to_vec();
-            from += row.name_length;
-            NamedStream { name, number: Some(row.number).filter(|it| *it != NO_STREAM) }
+        let streams = rows.iter().map(|row| NamedStream {
+            name: names[row.name_offset..][..row.name_length].to_vec(),
+            number: Some(row.number).filter(|it| *it != sys::PDB_NO_STREAM),
         });
         Ok(streams.collect())
     }
@@ -110,64 +97,50 @@ impl<'f> Pdb<'f> {
     /// The bytes of the first stream with this name, such as `/names`.
     pub fn named_stream(&self, name: impl AsRef<[u8]>) -> Result<Vec<u8>> {
         let name = name.as_ref();
-        let bytes = items(|room, size, count, fault| unsafe {
-            sys::pdb_file_named_stream(self.file.get(), name.as_ptr(), name.len(), room, size, count, fault)
-        })?;
-        Ok(bytes.unwrap_or_default())
+        self.file.stream(|file, to, size, count| unsafe {
+            sys::pdb_file_named_stream(file, name.as_ptr(), name.len(), to, size, count)
+        })
     }
 
     /// The numbers of the streams in eleven roles.
     pub fn roles(&self) -> Result<Roles> {
-        let found = value(|to, fault| unsafe { sys::pdb_file_roles(self.file.get(), to, fault) })?;
+        let found = self.file.value(|file, to| unsafe { sys::pdb_file_roles(file, to) })?;
         Ok(Roles::of(&found.unwrap_or_default()))
     }
 
     /// The table of types.
     pub fn types(&self) -> Result<Types> {
-        Types::numbered(self.stream(TYPES)?, Some(TYPES))
+        Ok(Types(Definitions(Table::open(self, sys::PDB_TYPES)?)))
     }
 
     /// The table of ids.
     pub fn ids(&self) -> Result<Ids> {
-        Ids::numbered(self.stream(IDS)?, Some(IDS))
-    }
-
-    /// The places of the items in the table of types, or in that of ids.
-    pub(crate) fn items(&self, is_of_ids: bool) -> Result<Ids> {
-        let number = if is_of_ids { IDS } else { TYPES };
-        Ids::numbered(self.stream(number)?, Some(number))
+        Ids::open(self, sys::PDB_IDS)
     }
 
     /// The string table, which is the stream `/names`.
     pub fn names(&self) -> Result<Names> {
-        Names::parse(self.named_stream("/names")?)
+        Names::open(self)
     }
 
     /// The headers of the sections of the image, none if the file has no such stream.
     pub fn sections(&self) -> Result<Vec<Section>> {
-        self.in_role(self.roles()?.section_headers, sections)
+        in_role(self.roles()?.section_headers, |number| sections(&self.file, number))
     }
 
     /// The headers of the sections that the image had before a tool rearranged it, none if the file has no such stream.
     pub fn original_sections(&self) -> Result<Vec<Section>> {
-        self.in_role(self.roles()?.original_section_headers, sections)
+        in_role(self.roles()?.original_section_headers, |number| sections(&self.file, number))
     }
 
     /// The OMAP table by which addresses of the image as it is loaded go to the original image, if the file has one.
     pub fn omap_to_src(&self) -> Result<Option<Omap>> {
-        self.in_role(self.roles()?.omap_to_src, |stream| Omap::parse(stream).map(Some))
+        in_role(self.roles()?.omap_to_src, |number| Omap::open(&self.file, number).map(Some))
     }
 
     /// The OMAP table by which addresses of the original image go to the image as it is loaded, if the file has one.
     pub fn omap_from_src(&self) -> Result<Option<Omap>> {
-        self.in_role(self.roles()?.omap_from_src, |stream| Omap::parse(stream).map(Some))
-    }
-
-    fn in_role<T: Default>(&self, number: Option<u16>, read: impl FnOnce(&[u8]) -> Result<T>) -> Result<T> {
-        match number {
-            Some(number) => read(&self.stream(number.into())?).map_err(|error| error.at(Some(number.into()), None)),
-            None => Ok(T::default()),
-        }
+        in_role(self.roles()?.omap_from_src, |number| Omap::open(&self.file, number).map(Some))
     }
 
     /// The address map: the sections, and the OMAP tables of a tool that rearranged the image.
@@ -179,6 +152,12 @@ impl<'f> Pdb<'f> {
     pub fn frames(&self) -> Result<Frames> {
         Frames::open(&self.file)
     }
+}
+
+/// What is read of the stream in a role, nothing if the file has no such stream.
+fn in_role<T: Default>(number: Option<u16>, read: impl FnOnce(u32) -> Result<T>) -> Result<T> {
+    let Some(number) = number.map(u32::from) else { return Ok(T::default()) };
+    read(number).map_err(|error| error.at(Some(number), None))
 }
 
 /// The numbers that identify a file.
@@ -234,7 +213,7 @@ macro_rules! roles {
 
         impl Roles {
             fn of(roles: &sys::Roles) -> Roles {
-                Roles { $($role: Some(roles.$role).filter(|it| u32::from(*it) != NO_STREAM),)* }
+                Roles { $($role: Some(roles.$role).filter(|it| u32::from(*it) != sys::PDB_NO_STREAM),)* }
             }
         }
     };

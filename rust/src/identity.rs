@@ -1,6 +1,6 @@
 use crate::error::Result;
 use crate::file::Guid;
-use crate::handle::{items, value};
+use crate::handle::{Handle, items};
 use crate::sys;
 
 /// What identifies a file.
@@ -71,9 +71,8 @@ pub enum KeyForm {
 // SAFETY, in all of this file: slices are as long as they say, and places that the library writes stay in one call.
 
 impl Identity {
-    pub(crate) fn of(file: &[u8]) -> Result<Identity> {
-        let found = value(|to, fault| unsafe { sys::pdb_identity_of(file.as_ptr(), file.len(), to, fault) })?
-            .unwrap_or_default();
+    pub(crate) fn of(file: &Handle<sys::File>) -> Result<Identity> {
+        let found = file.value(|file, to| unsafe { sys::pdb_file_identity(file, to) })?.unwrap_or_default();
         let sys::Identity { version, signature, information_age, guid, debug_age, machine, flags, .. } = found;
         let debug = DebugIdentity { age: debug_age, machine, flags };
         let debug = (found.has_debug_header != 0).then_some(debug);
@@ -89,8 +88,7 @@ impl Identity {
     /// The key under which a symbol server stores the file.
     pub fn key(&self, form: KeyForm) -> Result<String> {
         let about = sys::Identity { age: self.age(), guid: self.guid.0, ..sys::Identity::default() };
-        let text =
-            items(|room, size, count, fault| unsafe { sys::pdb_key(&about, form as u32, room, size, count, fault) })?;
+        let text = items(64, |to, size, count| unsafe { sys::pdb_key(&about, form as u32, to, size, count) })?;
         Ok(String::from_utf8_lossy(&text.unwrap_or_default()).into_owned())
     }
 }

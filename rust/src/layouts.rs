@@ -1,76 +1,56 @@
 use crate::error::Result;
-use crate::handle::{Handle, items, named_items, value};
 use crate::names::Name;
 use crate::sys;
+use crate::table::Table;
 
 /// The definitions of a table of types: by name, with sizes, layouts and texts.
 ///
 /// A definition is a class, a union or an enumeration that is not only declared. The definition of a type that is only
 /// declared is the first one in the table of its unique name, or of its name if it has no unique name.
 #[derive(Debug)]
-pub struct Definitions {
-    table: Handle,
-    number: Option<u32>,
-}
+pub struct Definitions(pub(crate) Table);
 
-// SAFETY, in all of this file: slices are as long as they say, places that the library writes stay in one call, and a
-// handle is in one call at a time, since it is not `Sync` and no call calls back.
+// SAFETY, in all of this file: slices are as long as they say, and places that the library writes stay in one call.
 
 impl Definitions {
-    /// Finds the definitions of the table of types in a stream, in one walk along it.
-    pub fn open(stream: &[u8]) -> Result<Definitions> {
-        Definitions::numbered(stream, None)
-    }
-
-    /// Finds the definitions of the table in the stream of a number, which errors tell.
-    pub(crate) fn numbered(stream: &[u8], number: Option<u32>) -> Result<Definitions> {
-        let open = |to, fault| unsafe { sys::pdb_definitions_open(stream.as_ptr(), stream.len(), to, fault) };
-        Ok(Definitions { table: Handle::open(open).map_err(|error| error.at(number, None))?, number })
-    }
-
-    fn located<T>(&self, result: Result<T>) -> Result<T> {
-        result.map_err(|error| error.at(self.number, None))
-    }
-
     /// The indexes of all definitions of a name, in increasing order.
     pub fn named(&self, name: impl AsRef<[u8]>) -> Result<Vec<u32>> {
         let name = name.as_ref();
-        let found = self.located(items(|room, size, count, fault| unsafe {
-            sys::pdb_definitions_named(self.table.get(), name.as_ptr(), name.len(), room, size, count, fault)
-        }))?;
-        Ok(found.unwrap_or_default())
+        let found = self.0.handle.items(4, |table, to, size, count| unsafe {
+            sys::pdb_types_named(table, name.as_ptr(), name.len(), to, size, count)
+        });
+        Ok(self.0.located(found)?.unwrap_or_default())
     }
 
     /// The index of the definition of a type, which is its own index if it is a definition. None if the table doesn't
     /// define it, and for any other type.
     pub fn definition_of(&self, index: u32) -> Result<Option<u32>> {
-        self.located(value(|to, fault| unsafe { sys::pdb_definition_of(self.table.get(), index, to, fault) }))
+        self.0.located(self.0.handle.value(|table, to| unsafe { sys::pdb_type_definition(table, index, to) }))
     }
 
     /// The size of a type in bytes, that of its definition if it is only declared. None if nothing says it, as of
     /// `void`, of a function or of a list.
     pub fn size_of(&self, index: u32) -> Result<Option<u64>> {
-        self.located(value(|to, fault| unsafe { sys::pdb_type_size(self.table.get(), index, to, fault) }))
+        self.0.located(self.0.handle.value(|table, to| unsafe { sys::pdb_type_size(table, index, to) }))
     }
 
     /// The declaration of a name that has a type, in C++, or the text of the type alone if the name is empty. What the
     /// text says is tested, and not proved.
     pub fn text_of(&self, index: u32, name: impl AsRef<[u8]>) -> Result<String> {
         let name = name.as_ref();
-        let text = self.located(items(|room, size, count, fault| unsafe {
-            sys::pdb_type_text(self.table.get(), index, name.as_ptr(), name.len(), room, size, count, fault)
-        }))?;
-        Ok(String::from_utf8_lossy(&text.unwrap_or_default()).into_owned())
+        let text = self.0.handle.items(256, |table, to, size, count| unsafe {
+            sys::pdb_type_text(table, index, name.as_ptr(), name.len(), to, size, count)
+        });
+        Ok(String::from_utf8_lossy(&self.0.located(text)?.unwrap_or_default()).into_owned())
     }
 
     /// The layout of a class, a structure, an interface or a union. None if the type has no definition, or its
     /// definition is an enumeration.
     pub fn layout_of(&self, index: u32) -> Result<Option<Layout>> {
-        let found =
-            self.located(named_items(|rows: *mut sys::LayoutRow, length, count, names, room, size, fault| unsafe {
-                sys::pdb_layout(self.table.get(), index, rows, length, count, names, room, size, fault)
-            }))?;
-        let Some((rows, names)) = found else { return Ok(None) };
+        let found = self.0.handle.named_items(|table, to, size, count, names, room, length| unsafe {
+            sys::pdb_type_layout(table, index, to, size, count, names, room, length)
+        });
+        let Some((rows, names)) = self.0.located(found)? else { return Ok(None) };
         let size = self.size_of(index)?.unwrap_or_default();
         Ok(Some(Layout { size, rows, names }))
     }
@@ -102,12 +82,8 @@ impl Layout {
 
     /// Each row: the fields in the order of their records, and then the bits that no field takes.
     pub fn iter(&self) -> impl Iterator<Item = LayoutRow<'_>> {
-        let mut from = 0;
-        self.rows.iter().map(move |row| {
-            let name = &self.names[from..][..row.name_length];
-            from += row.name_length;
-            LayoutRow::of(row, Name::new(name))
-        })
+        let name = |row: &sys::LayoutRow| Name::new(&self.names[row.name_offset..][..row.name_length]);
+        self.rows.iter().map(move |row| LayoutRow::of(row, name(row)))
     }
 }
 

@@ -21,9 +21,8 @@
 //! The calls of the library are proved: for any bytes they end, read within the bytes, and give the answer that a
 //! written grammar of the format gives, or its first error. This crate calls them, and is not proved.
 //!
-//! Values that keep something open in the library may move to another thread. [`Names`], [`Omap`], [`AddressMap`] and
-//! [`Frames`] are `Sync` too, and their calls wait for one another. The others are not: threads that read one table at
-//! once each open it for themselves, over the same bytes.
+//! Values that keep something open in the library are `Send` and `Sync`: threads share them, and their calls wait for one
+//! another. Threads that are not to wait each parse the file, over the same bytes.
 #![warn(missing_docs)]
 
 mod addresses;
@@ -39,6 +38,7 @@ pub mod pdb;
 mod row;
 #[rustfmt::skip]
 pub mod sys;
+mod table;
 mod types;
 mod validation;
 

@@ -2,7 +2,8 @@ use std::borrow::Cow;
 use std::fmt;
 
 use crate::error::{ErrorKind, Result};
-use crate::handle::{Shared, value};
+use crate::file::Pdb;
+use crate::handle::Handle;
 use crate::sys;
 
 /// A name, borrowed from the stream that has it. It is most often UTF-8, which nothing ensures, and is printed with
@@ -65,7 +66,7 @@ impl AsRef<[u8]> for Name<'_> {
 /// A string table, and the stream that has it.
 pub struct Names {
     stream: Vec<u8>,
-    table: Shared,
+    table: Handle,
 }
 
 impl fmt::Debug for Names {
@@ -101,20 +102,22 @@ impl<'n> Iterator for NameIter<'n> {
 impl std::iter::FusedIterator for NameIter<'_> {}
 
 impl Names {
-    /// Reads the string table in a stream.
-    pub fn parse(stream: Vec<u8>) -> Result<Names> {
-        // SAFETY: the slice is as long as it says, and the handle is all zero; so in all of this file.
-        let open = |names, fault: *mut _| unsafe { sys::pdb_names_open(stream.as_ptr(), stream.len(), names, fault) };
-        let table = Shared::open(open)?;
+    pub(crate) fn open(pdb: &Pdb<'_>) -> Result<Names> {
+        let stream = pdb.named_stream("/names")?;
+        // SAFETY: the file is open, and the handle is all zero.
+        let table = pdb.file.table(|file, names| unsafe { sys::pdb_names_open(file, names) })?;
         Ok(Names { stream, table })
     }
 
     /// The name at an offset of the table.
     pub fn get(&self, offset: u32) -> Result<Name<'_>> {
+        // SAFETY: the arrays are of one item, and the places stay in one call.
         let place =
-            value(|place, fault| unsafe { sys::pdb_names_place(self.table.lock().get(), offset, place, fault) })?;
-        let place: sys::Name = place.ok_or(ErrorKind::UnexpectedEof)?;
-        Ok(Name(&self.stream[place.offset..][..place.length]))
+            self.table.value(|names, place| unsafe { sys::pdb_names_places(names, &offset, 1, place, 1, &mut 0) });
+        match place? {
+            Some(sys::Name { offset: 0, .. }) | None => Err(ErrorKind::UnexpectedEof.into()),
+            Some(place) => Ok(Name(&self.stream[place.offset..][..place.length])),
+        }
     }
 
     /// The offset of each name, and the name, in their order.

@@ -70,17 +70,17 @@ shapes! { Shape "The shapes of types, and of the fields in a list."
 
 shapes! { IdShape "The shapes of ids."
     /// A function.
-    Function = PDB_ID_FUNCTION
+    Function = PDB_FUNCTION_ID
     /// A method.
-    MemberFunction = PDB_ID_MEMBER_FUNCTION
+    MemberFunction = PDB_MEMBER_FUNCTION_ID
     /// How a module was built.
-    BuildInfo = PDB_ID_BUILD_INFO
+    BuildInfo = PDB_BUILD_INFO_ID
     /// The parts of a text.
-    StringList = PDB_ID_STRING_LIST
+    StringList = PDB_STRING_LIST_ID
     /// A text.
-    String = PDB_ID_STRING
+    String = PDB_STRING_ID
     /// Where a type is declared.
-    TypeSource = PDB_ID_TYPE_SOURCE
+    TypeSource = PDB_TYPE_SOURCE_ID
 }
 
 /// The numbers in a record: what it says besides names and lists. Those that a record of its shape doesn't have are

@@ -1,110 +1,38 @@
-use std::cell::{Cell, OnceCell};
-use std::fmt;
-
-use crate::error::{Error, ErrorKind, Result};
-use crate::handle::{Handle, items, named_items, value};
+use crate::error::Result;
 use crate::layouts::{Definitions, Layout};
 use crate::names::Name;
 use crate::row::{Row, Shape};
 use crate::sys;
-
-/// The indexes below this one are those of primitive types, which have no record.
-const FIRST_RECORD: u32 = 0x1000;
-
-/// How many records an iterator takes from the library at a time.
-const BATCH: usize = 64;
+use crate::table::{Record, Table, Walk};
 
 /// A table of types, and the stream that has it.
-///
-/// It may move to another thread, but one thread at a time has it:
-///
-/// ```
-/// fn is_send<T: Send>() {}
-/// is_send::<pdb_container::Types>();
-/// ```
-///
-/// ```compile_fail,E0277
-/// fn is_sync<T: Sync>() {}
-/// is_sync::<pdb_container::Types>();
-/// ```
-pub struct Types {
-    stream: Vec<u8>,
-    number: Option<u32>,
-    table: Handle,
-    /// Whether an iterator has the walk of `table`; another one opens a table of its own.
-    is_walked: Cell<bool>,
-    first_index: u32,
-    definitions: OnceCell<Definitions>,
-}
-
-impl fmt::Debug for Types {
-    fn fmt(&self, f: &mut fmt::Formatter<'_>) -> fmt::Result {
-        let (bytes, first_index) = (self.stream.len(), self.first_index);
-        f.debug_struct("Types").field("bytes", &bytes).field("first_index", &first_index).finish_non_exhaustive()
-    }
-}
-
-// SAFETY, in all of this file: slices are as long as they say, places that the library writes stay in one call, and a
-// handle is in one call at a time, since it is not `Sync` and no call calls back.
-
-fn open(stream: &[u8]) -> Result<Handle> {
-    Handle::open(|table, fault| unsafe { sys::pdb_types_open(stream.as_ptr(), stream.len(), table, fault) })
-}
+#[derive(Debug)]
+pub struct Types(pub(crate) Definitions);
 
 impl Types {
-    /// Reads the table of types in a stream.
-    pub fn open(stream: Vec<u8>) -> Result<Types> {
-        Types::numbered(stream, None)
-    }
-
-    /// Reads the table of types in the stream of a number, which errors tell.
-    pub(crate) fn numbered(stream: Vec<u8>, number: Option<u32>) -> Result<Types> {
-        let table = open(&stream).map_err(|error| error.at(number, None))?;
-        let first_index = value(|index, fault| unsafe { sys::pdb_types_first_index(table.get(), index, fault) })?;
-        let first_index = first_index.unwrap_or_default();
-        Ok(Types { stream, number, table, is_walked: Cell::new(false), first_index, definitions: OnceCell::new() })
+    fn table(&self) -> &Table {
+        &self.0.0
     }
 
     /// The index of the first type that has a record.
     pub fn first_index(&self) -> u32 {
-        self.first_index
+        self.table().range.first
     }
 
     /// The number of indexes that the header counts. The table may have fewer types, or more.
     pub fn count(&self) -> u32 {
-        let count = value(|count, fault| unsafe { sys::pdb_types_count(self.table.get(), count, fault) });
-        count.ok().flatten().unwrap_or_default()
+        self.table().range.end - self.first_index()
     }
 
     /// Each type of the table, from the first on.
     pub fn iter(&self) -> TypeIter<'_> {
-        let mut stop = None;
-        let walk = if !self.is_walked.replace(true) {
-            // The status can only be that the table is not open.
-            unsafe { sys::pdb_types_rewind(self.table.get(), &mut sys::Fault::default()) };
-            Walk::Shared
-        } else {
-            open(&self.stream).map(Walk::Own).unwrap_or_else(|error| {
-                stop = Some(error.at(self.number, None));
-                Walk::Ended
-            })
-        };
-        let batch = Box::new([sys::Type::default(); BATCH]);
-        TypeIter { types: self, walk, batch, at: 0, filled: 0, index: self.first_index, stop }
+        TypeIter(self.table().walk())
     }
 
     /// The type of an index, which may be that of a primitive type.
     pub fn get(&self, index: u32) -> Result<Type<'_>> {
-        let place = value(|place, fault| unsafe { sys::pdb_types_find(self.table.get(), index, place, fault) });
-        let place: Option<sys::Record> = place.map_err(|error| error.at(self.number, None))?;
-        if place.is_none() && index >= FIRST_RECORD {
-            return Err(Error::from(ErrorKind::TypeNotFound { index }).at(self.number, None));
-        }
-        let mut found = self.typed(&sys::Record { index, ..place.unwrap_or_default() }, sys::Row::default());
-        let (at, length) = (found.record.as_ptr(), found.record.len());
-        let row = found.located(value(|row, fault| unsafe { sys::pdb_type_parse(at, length, index, row, fault) }))?;
-        found.row = Row(row.unwrap_or_default());
-        Ok(found)
+        let found = self.table().find(index)?;
+        Ok(Type::of(found, found.parse()?))
     }
 
     /// The definition of the first class, union or enumeration of a name, if there is one.
@@ -112,7 +40,7 @@ impl Types {
     /// # Errors
     /// Fails as `definitions` does: in a table whose walk stops early, a name that was not met may be behind.
     pub fn find(&self, name: impl AsRef<[u8]>) -> Result<Option<Type<'_>>> {
-        match self.definitions()?.named(name)?.first() {
+        match self.0.named(name)?.first() {
             Some(index) => self.get(*index).map(Some),
             None => Ok(None),
         }
@@ -120,11 +48,7 @@ impl Types {
 
     /// The fields of the list of an index, and of the lists in which it continues.
     pub fn fields(&self, list: u32) -> Result<Fields> {
-        let found = named_items(|rows: *mut sys::Field, length, count, names, room, size, fault| unsafe {
-            sys::pdb_types_fields(self.table.get(), list, rows, length, count, names, room, size, fault)
-        });
-        let (rows, names) = found.map_err(|error| error.at(self.number, None))?.unwrap_or_default();
-        Ok(Fields { rows, names })
+        self.table().fields(list)
     }
 
     /// The values of an enumeration, given the list of its fields and the type under it, of which they are numbers. In
@@ -132,6 +56,7 @@ impl Types {
     pub fn enumerators(&self, list: u32, underlying_type: u32) -> Result<Fields> {
         let mut found = self.fields(list)?;
         for row in &mut found.rows {
+            // SAFETY: the row is borrowed by this call alone.
             unsafe { sys::pdb_enumerator_typed(&mut row.info, underlying_type) };
         }
         Ok(found)
@@ -139,29 +64,20 @@ impl Types {
 
     /// The definitions of the table, which are found once, and the sizes, layouts and texts of its types.
     pub fn definitions(&self) -> Result<&Definitions> {
-        if let Some(found) = self.definitions.get() {
-            return Ok(found);
-        }
-        let found = Definitions::numbered(&self.stream, self.number)?;
-        Ok(self.definitions.get_or_init(|| found))
+        // Any call about them finds them, also that for `void`.
+        self.0.definition_of(3)?;
+        Ok(&self.0)
     }
 
     /// The layout of the first class, structure, interface or union of a name, if there is one.
     pub fn layout(&self, name: impl AsRef<[u8]>) -> Result<Option<Layout>> {
-        let definitions = self.definitions()?;
-        for index in definitions.named(name)? {
-            let layout = definitions.layout_of(index)?;
+        for index in self.0.named(name)? {
+            let layout = self.0.layout_of(index)?;
             if layout.is_some() {
                 return Ok(layout);
             }
         }
         Ok(None)
-    }
-
-    /// The type whose record is at a place, and says this.
-    fn typed(&self, place: &sys::Record, row: sys::Row) -> Type<'_> {
-        let record = &self.stream[place.offset as usize..][..place.length as usize];
-        Type { index: place.index, record, row: Row(row), stream: self.number, offset: place.offset }
     }
 }
 
@@ -176,57 +92,13 @@ impl<'t> IntoIterator for &'t Types {
 
 /// Each type of a table. A record that can't be read is an error, and the iterator goes on; after an error of the
 /// table itself it ends.
-#[derive(Debug)]
-pub struct TypeIter<'t> {
-    types: &'t Types,
-    walk: Walk,
-    batch: Box<[sys::Type; BATCH]>,
-    at: usize,
-    filled: usize,
-    index: u32,
-    stop: Option<Error>,
-}
-
-/// Whose walk along the table an iterator has.
-#[derive(Debug)]
-enum Walk {
-    /// That of the table which all share, of which one iterator at a time has the walk.
-    Shared,
-    /// That of a table of its own.
-    Own(Handle),
-    /// None any more.
-    Ended,
-}
+#[derive(Debug, Clone)]
+pub struct TypeIter<'t>(Walk<'t>);
 
 impl TypeIter<'_> {
     /// The index of the record that `next` returned last, also if that was an error.
     pub fn index(&self) -> u32 {
-        self.index
-    }
-
-    /// Takes the next records from the library, and says whether there are any.
-    #[inline(never)]
-    fn fill(&mut self) -> bool {
-        let table = match &self.walk {
-            Walk::Shared => self.types.table.get(),
-            Walk::Own(table) => table.get(),
-            Walk::Ended => return false,
-        };
-        let (mut count, mut fault) = (0, sys::Fault::default());
-        let status = unsafe { sys::pdb_types_read(table, self.batch.as_mut_ptr(), BATCH, &mut count, &mut fault) };
-        (self.at, self.filled) = (0, count);
-        if status != sys::PDB_OK {
-            self.stop = (status != sys::PDB_END).then(|| Error::of(&fault).at(self.types.number, None));
-            self.end();
-        }
-        count > 0
-    }
-
-    /// Gives the walk back.
-    fn end(&mut self) {
-        if let Walk::Shared = std::mem::replace(&mut self.walk, Walk::Ended) {
-            self.types.is_walked.set(false);
-        }
+        self.0.index
     }
 }
 
@@ -235,33 +107,11 @@ impl<'t> Iterator for TypeIter<'t> {
 
     #[inline]
     fn next(&mut self) -> Option<Result<Type<'t>>> {
-        if self.at == self.filled && !self.fill() {
-            return self.stop.take().map(Err);
-        }
-        let it = &self.batch[self.at];
-        self.at += 1;
-        self.index = it.place.index;
-        if it.fault.status != sys::PDB_OK {
-            return Some(Err(failed(&it.fault, self.types.number, it.place.offset)));
-        }
-        Some(Ok(self.types.typed(&it.place, it.info)))
+        Some(self.0.next()?.map(|(at, row)| Type::of(at, row)))
     }
-}
-
-/// The error of a record, out of the way of the others.
-#[cold]
-#[inline(never)]
-fn failed(fault: &sys::Fault, stream: Option<u32>, offset: u32) -> Error {
-    Error::of(fault).at(stream, Some(offset))
 }
 
 impl std::iter::FusedIterator for TypeIter<'_> {}
-
-impl Drop for TypeIter<'_> {
-    fn drop(&mut self) {
-        self.end();
-    }
-}
 
 /// A type: its index, and the numbers in its record.
 #[derive(Debug, Clone, Copy, PartialEq, Eq)]
@@ -272,40 +122,12 @@ pub struct Type<'t> {
     pub record: &'t [u8],
     /// The numbers in its record.
     pub row: Row,
-    stream: Option<u32>,
-    offset: u32,
+    at: Record<'t>,
 }
 
 impl<'t> Type<'t> {
-    /// Reads the record of an index.
-    pub(crate) fn read(index: u32, record: &'t [u8]) -> Result<Type<'t>> {
-        let (at, length) = (record.as_ptr(), record.len());
-        let row = value(|row, fault| unsafe { sys::pdb_type_parse(at, length, index, row, fault) })?;
-        Ok(Type { index, record, row: Row(row.unwrap_or_default()), stream: None, offset: 0 })
-    }
-
-    /// The fields in the record of a list of fields, without those of lists in which it continues.
-    pub(crate) fn own_fields(&self) -> Result<Vec<(Row, Name<'t>)>> {
-        let found = named_items(|rows: *mut sys::Field, length, count, names, room, size, fault| unsafe {
-            let (at, bytes) = (self.record.as_ptr(), self.record.len());
-            sys::pdb_type_fields(at, bytes, self.index, rows, length, count, names, room, size, fault)
-        })?;
-        let (rows, names) = found.unwrap_or_default();
-        let (fields, mut from) = (Fields { rows, names }, 0);
-        let field = |it: Field<'_>| {
-            // Names stand in the record in their order.
-            let name = borrowed(&self.record[from..], it.name.unwrap_or_default().as_bytes());
-            if !name.as_bytes().is_empty() {
-                from = name.as_bytes().as_ptr() as usize - self.record.as_ptr() as usize + name.as_bytes().len();
-            }
-            (it.row, name)
-        };
-        Ok(fields.iter().map(field).collect())
-    }
-
-    /// What a call about the record gives, whose error is in this record.
-    fn located<T>(&self, result: Result<T>) -> Result<T> {
-        result.map_err(|error| error.at(self.stream, Some(self.offset)))
+    fn of(at: Record<'t>, row: Row) -> Type<'t> {
+        Type { index: at.index, record: at.bytes, row, at }
     }
 
     /// What shape it has.
@@ -320,55 +142,40 @@ impl<'t> Type<'t> {
 
     /// Its name, if it has one.
     pub fn name(&self) -> Result<Option<Name<'t>>> {
-        let name = self.located(items(|room, size, count, fault| unsafe {
-            sys::pdb_type_name(self.record.as_ptr(), self.record.len(), self.index, room, size, count, fault)
-        }))?;
-        Ok(name.map(|it| borrowed(self.record, &it)))
+        self.at.name()
     }
 
     /// The unique name of a class, a union or an enumeration, if it has one.
     pub fn unique_name(&self) -> Result<Option<Name<'t>>> {
-        let name = self.located(items(|room, size, count, fault| unsafe {
-            sys::pdb_type_unique_name(self.record.as_ptr(), self.record.len(), self.index, room, size, count, fault)
-        }))?;
-        Ok(name.map(|it| borrowed(self.record, &it)))
+        self.at.unique_name()
     }
 
     /// The types of the arguments in a list of arguments; None for any other type.
     pub fn arguments(&self) -> Result<Option<Vec<u32>>> {
-        self.located(items(|room, size, count, fault| unsafe {
-            sys::pdb_type_arguments(self.record.as_ptr(), self.record.len(), self.index, room, size, count, fault)
-        }))
+        self.numbers(Shape::ArgumentList)
     }
 
     /// The size of an array in bytes up to each dimension, the innermost first: each size includes those before it.
     /// None for any other type.
     pub fn dimensions(&self) -> Result<Option<Vec<u32>>> {
-        self.located(items(|room, size, count, fault| unsafe {
-            sys::pdb_type_dimensions(self.record.as_ptr(), self.record.len(), self.index, room, size, count, fault)
-        }))
+        self.numbers(Shape::Array)
+    }
+
+    fn numbers(&self, of: Shape) -> Result<Option<Vec<u32>>> {
+        if self.shape() == of { self.at.numbers() } else { Ok(None) }
     }
 
     /// The methods in a list of methods; None for any other type.
     pub fn methods(&self) -> Result<Option<Vec<Row>>> {
-        let found = self.located(items(|room, size, count, fault| unsafe {
-            sys::pdb_type_methods(self.record.as_ptr(), self.record.len(), self.index, room, size, count, fault)
-        }))?;
-        Ok(found.map(|rows| rows.into_iter().map(Row).collect()))
+        self.at.methods()
     }
-}
-
-/// The bytes of a record that are those of a name, which was copied out of it.
-pub(crate) fn borrowed<'t>(record: &'t [u8], name: &[u8]) -> Name<'t> {
-    let place = if name.is_empty() { Some(0) } else { record.windows(name.len()).position(|it| it == name) };
-    Name::new(place.map_or(&[], |at| &record[at..][..name.len()]))
 }
 
 /// The fields of a list, and of the lists in which it continues.
 #[derive(Debug, Clone, Default, PartialEq, Eq)]
 pub struct Fields {
-    rows: Vec<sys::Field>,
-    names: Vec<u8>,
+    pub(crate) rows: Vec<sys::Field>,
+    pub(crate) names: Vec<u8>,
 }
 
 impl Fields {
@@ -409,9 +216,8 @@ impl<'f> Iterator for FieldIter<'f> {
 
     fn next(&mut self) -> Option<Field<'f>> {
         let field = self.rows.next()?;
-        let (name, names) = self.names.split_at(field.name_length);
-        self.names = names;
-        Some(Field { row: Row(field.info), name: (field.has_name != 0).then_some(Name::new(name)) })
+        let name = Name::new(&self.names[field.name_offset..][..field.name_length]);
+        Some(Field { row: Row(field.info), name: (field.has_name != 0).then_some(name) })
     }
 
     fn size_hint(&self) -> (usize, Option<usize>) {

@@ -178,9 +178,8 @@ impl Finding {
 fn findings(file: &[u8], every: u32) -> Result<Vec<Finding>> {
     check_version()?;
     // SAFETY: the slices are as long as they say, and places that the library writes stay in the call.
-    let found = items(|room, size, count, fault| unsafe {
-        sys::pdb_validate(file.as_ptr(), file.len(), every, room, size, count, fault)
-    })?;
+    let found =
+        items(64, |to, size, count| unsafe { sys::pdb_validate(file.as_ptr(), file.len(), every, to, size, count) })?;
     Ok(found.unwrap_or_default().iter().map(Finding::of).collect())
 }
 

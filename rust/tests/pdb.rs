@@ -26,7 +26,7 @@ fn types() -> Result<(), Box<dyn Error>> {
         assert_eq!(u16::from_le_bytes([it.record[0], it.record[1]]), item.raw_kind());
         assert_eq!(data.name().map(|name| name.as_bytes()), it.name()?.map(|name| name.as_bytes()));
         assert_eq!(finder.find(item.index())?.parse()?, data);
-        check(&ours, &it, &data)?;
+        check(&ours, &finder, &it, &data)?;
         count += 1;
     }
     assert_eq!(count, table.len());
@@ -38,7 +38,12 @@ fn types() -> Result<(), Box<dyn Error>> {
 }
 
 /// Compares what a record says under both names.
-fn check(types: &pdb_container::Types, it: &pdb_container::Type, data: &pdb::TypeData) -> Result<(), Box<dyn Error>> {
+fn check(
+    types: &pdb_container::Types,
+    finder: &pdb::TypeFinder,
+    it: &pdb_container::Type,
+    data: &pdb::TypeData,
+) -> Result<(), Box<dyn Error>> {
     let index = |it: Option<pdb::TypeIndex>| it.map(|it| it.0);
     match data {
         pdb::TypeData::Class(class) => {
@@ -51,8 +56,8 @@ fn check(types: &pdb_container::Types, it: &pdb_container::Type, data: &pdb::Typ
             let mut fields = list.fields.clone();
             let mut next = list.continuation;
             while let Some(more) = next {
-                let bytes = types.get(more.0)?;
-                let pdb::TypeData::FieldList(list) = parsed(&bytes)? else { panic!("{more} is no list of fields") };
+                let found = finder.find(more)?.parse()?;
+                let pdb::TypeData::FieldList(list) = found else { panic!("{more} is no list of fields") };
                 fields.extend(list.fields.clone());
                 next = list.continuation;
             }
@@ -86,12 +91,6 @@ fn check(types: &pdb_container::Types, it: &pdb_container::Type, data: &pdb::Typ
         _ => {}
     }
     Ok(())
-}
-
-/// What the record of a type says, by a finder of its own.
-fn parsed<'t>(it: &pdb_container::Type<'t>) -> Result<pdb::TypeData<'t>, pdb::Error> {
-    let index = pdb::TypeIndex(it.index);
-    pdb::ItemIndex::read(index, it.record)
 }
 
 #[test]

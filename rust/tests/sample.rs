@@ -43,6 +43,17 @@ fn header_and_streams() {
 }
 
 #[test]
+fn a_stream_that_is_said_to_be_large() {
+    let file = sample();
+    let pdb = Pdb::parse(&file).unwrap();
+    let sizes: Vec<_> = (16..20).flat_map(|number| pdb.stream_size(number).unwrap().to_le_bytes()).collect();
+    let large = [&sizes[..12], &0xffff_fff0_u32.to_le_bytes()].concat();
+    let damaged = replaced(&file, &sizes, &large);
+    let pdb = Pdb::parse(&damaged).unwrap();
+    assert_eq!((pdb.stream_size(19), kind(pdb.stream(19))), (Ok(0xffff_fff0), Err(ErrorKind::UnexpectedEof)));
+}
+
+#[test]
 fn identity_and_format() {
     let file = sample();
     let about = Pdb::parse(&file).unwrap().identity().unwrap();
@@ -171,6 +182,12 @@ fn types_and_their_fields() {
     assert_eq!(kind(types.fields(derived.index)), Err(ErrorKind::UnimplementedTypeKind { kind: 0x1504 }));
 }
 
+/// Whether two iterators give the same, a step of each in turn.
+fn are_alike(types: &Types) -> bool {
+    let mut other = types.iter();
+    types.iter().all(|it| other.next() == Some(it)) && other.next().is_none()
+}
+
 #[test]
 fn iterators_beside_one_another() {
     let file = sample();
@@ -183,6 +200,7 @@ fn iterators_beside_one_another() {
     }
     assert_eq!((others.next(), others.next()), (None, None));
     assert_eq!(types.iter().count(), types.count() as usize);
+    assert!(are_alike(&types));
 }
 
 #[test]
@@ -260,6 +278,7 @@ fn a_record_that_cannot_be_read() {
     let (index, error) = failed[0];
     assert_eq!((index, error.kind), (modifier.index, ErrorKind::UnimplementedTypeKind { kind: 0xe }));
     assert_eq!(types.get(index), Err(error));
+    assert!(are_alike(&types));
     let stream = Pdb::parse(&damaged).unwrap().stream(2).unwrap();
     let record = types.iter().nth((index - types.first_index()) as usize - 1).unwrap().unwrap().record;
     let offset = stream.windows(record.len()).position(|it| it == record).unwrap() + record.len() + 2;
@@ -308,6 +327,7 @@ fn read_everything(pdb: &Pdb<'_>) -> usize {
     count(pdb.address_map().is_ok_and(|map| map.translate(Address::Rva(0x1005)).is_ok()));
     count(pdb.frames().is_ok_and(|frames| frames.at(0x1020).is_ok()));
     count(pdb.types().is_ok_and(|types| are_laid_out(&types)));
+    assert!(pdb.types().map_or(true, |types| are_alike(&types)));
     match pdb.types() {
         Err(_) => count(false),
         Ok(types) => types.iter().for_each(|ty| {
@@ -416,6 +436,7 @@ fn look_ups_by_name_of_a_damaged_table() {
     // The walk stops before it: what was not met is no missing type.
     assert!(types.find("Derived").is_err());
     assert!(types.layout("Derived").is_err());
+    assert!(types.definitions().is_err() && are_alike(&types));
 }
 
 #[test]
@@ -452,13 +473,15 @@ fn maps_that_threads_share() {
     let file = sample();
     let pdb = Pdb::parse(&file).unwrap();
     let names: Names = shared(pdb.names().unwrap());
+    let types: Types = shared(pdb.types().unwrap());
     let (map, omap): (AddressMap, Omap) =
         (shared(pdb.address_map().unwrap()), shared(pdb.omap_from_src().unwrap().unwrap()));
     let frames: Frames = shared(pdb.frames().unwrap());
     let read = || {
         let moved: Vec<_> =
             (0x1000..0x1190).map(|it| (map.translate(Address::InternalRva(it)), omap.lookup(it))).collect();
-        (moved, names.iter().map(Result::unwrap).collect::<Vec<_>>(), frames.list().unwrap())
+        let named: Vec<_> = types.iter().map(|it| it.unwrap()).map(|it| (it, it.name(), it.unique_name())).collect();
+        (moved, names.iter().map(Result::unwrap).collect::<Vec<_>>(), frames.list().unwrap(), named)
     };
     let wanted = read();
     std::thread::scope(|scope| {

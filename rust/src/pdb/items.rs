@@ -4,14 +4,15 @@ use std::marker::PhantomData;
 use super::types::{IdData, TypeData};
 use super::{FallibleIterator, Result};
 use crate::Ids;
+use crate::table::Record;
 
 /// The indexes of a table: [`TypeIndex`] or [`IdIndex`].
 pub trait ItemIndex: Copy + Default + fmt::Debug + fmt::Display + Ord + From<u32> + Into<u32> {
     /// What a record of the table says.
     type Data<'t>;
 
-    /// Reads a record, which is that of an index.
-    fn read(self, record: &[u8]) -> Result<Self::Data<'_>>;
+    /// Reads the record of an item.
+    fn read<'t>(item: &Item<'t, Self>) -> Result<Self::Data<'t>>;
 }
 
 macro_rules! indexes {
@@ -42,8 +43,8 @@ macro_rules! indexes {
             impl ItemIndex for $name {
                 type Data<'t> = $data<'t>;
 
-                fn read(self, record: &[u8]) -> Result<$data<'_>> {
-                    $data::read(self, record)
+                fn read<'t>(item: &Item<'t, $name>) -> Result<$data<'t>> {
+                    $data::read(&item.record)
                 }
             }
         )*
@@ -98,8 +99,8 @@ impl<I: ItemIndex> ItemInformation<'_, I> {
 /// An item of a table, whose record is not yet read.
 #[derive(Debug, Clone, Copy, PartialEq, Eq)]
 pub struct Item<'t, I> {
-    index: I,
-    record: &'t [u8],
+    record: Record<'t>,
+    index: PhantomData<I>,
 }
 
 /// An item of the table of types.
@@ -108,19 +109,23 @@ pub type Type<'t> = Item<'t, TypeIndex>;
 pub type Id<'t> = Item<'t, IdIndex>;
 
 impl<'t, I: ItemIndex> Item<'t, I> {
+    fn of(record: Record<'t>) -> Item<'t, I> {
+        Item { record, index: PhantomData }
+    }
+
     /// Its index.
     pub fn index(&self) -> I {
-        self.index
+        self.record.index.into()
     }
 
     /// The kind of its record, 0xffff for a primitive type.
     pub fn raw_kind(&self) -> u16 {
-        self.record.first_chunk().map_or(0xffff, |kind| u16::from_le_bytes(*kind))
+        self.record.bytes.first_chunk().map_or(0xffff, |kind| u16::from_le_bytes(*kind))
     }
 
     /// What its record says.
     pub fn parse(&self) -> Result<I::Data<'t>> {
-        self.index.read(self.record)
+        I::read(self)
     }
 }
 
@@ -144,9 +149,9 @@ impl<'t, I: ItemIndex> FallibleIterator for ItemIter<'t, I> {
 
     fn next(&mut self) -> Result<Option<Item<'t, I>>> {
         match self.items.nth(self.at) {
-            Some((index, record)) => {
+            Some(record) => {
                 self.at += 1;
-                Ok(Some(Item { index: index.into(), record }))
+                Ok(Some(Item::of(record)))
             }
             None => match self.items.stop() {
                 Some(error) if !std::mem::replace(&mut self.has_failed, true) => Err(error.into()),
@@ -181,10 +186,9 @@ impl<'t, I: ItemIndex> ItemFinder<'t, I> {
     pub fn find(&self, index: I) -> Result<Item<'t, I>> {
         let number: u32 = index.into();
         let record = match number.checked_sub(self.items.first_index()) {
-            Some(at) => self.items.nth(at as usize).map(|(_, record)| record),
-            None => Some(&[][..]),
+            Some(at) => self.items.nth(at as usize),
+            None => Some(self.items.below(number)),
         };
-        let record = record.ok_or(super::Error::TypeNotFound(number))?;
-        Ok(Item { index, record })
+        record.map(Item::of).ok_or(super::Error::TypeNotFound(number))
     }
 }

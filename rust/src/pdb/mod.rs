@@ -35,6 +35,7 @@ use std::marker::PhantomData;
 use std::ops::Deref;
 
 pub use crate::file::Guid;
+use crate::{Ids, sys};
 pub use addresses::{
     AddressMap, FrameData, FrameDataIter, FrameTable, FrameType, ImageSectionHeader, PdbInternalRva,
     PdbInternalRvaRangeIter, PdbInternalSectionOffset, Rva, RvaRangeIter, SectionCharacteristics, SectionOffset,
@@ -88,12 +89,12 @@ impl<'s, S: Source<'s>> PDB<'s, S> {
 
     /// The table of types.
     pub fn type_information(&mut self) -> Result<TypeInformation<'s>> {
-        Ok(ItemInformation::of(self.file()?.items(false)?))
+        Ok(ItemInformation::of(Ids::open(&self.file()?, sys::PDB_TYPES)?))
     }
 
     /// The table of ids.
     pub fn id_information(&mut self) -> Result<IdInformation<'s>> {
-        Ok(ItemInformation::of(self.file()?.items(true)?))
+        Ok(ItemInformation::of(self.file()?.ids()?))
     }
 
     /// The string table.

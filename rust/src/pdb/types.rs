@@ -4,6 +4,7 @@ pub use super::primitives::{Indirection, PrimitiveKind, PrimitiveType};
 use super::{Error, FieldAttributes, FunctionAttributes, IdIndex, PointerAttributes, RawString, Result, StringRef};
 use super::{TypeIndex, TypeProperties};
 use crate::row::{IdShape, Row, Shape};
+use crate::table::Record;
 use crate::{Name, sys};
 
 /// Whether a class is a `class`, a `struct` or an `interface`.
@@ -451,11 +452,6 @@ impl Row {
     }
 }
 
-/// A number that is there only if it isn't 0.
-fn present(index: Option<u32>) -> Option<TypeIndex> {
-    index.filter(|index| *index != 0).map(TypeIndex)
-}
-
 impl<'t> TypeData<'t> {
     /// The name of a type or of a field, if it has one.
     pub fn name(&self) -> Option<RawString<'t>> {
@@ -473,13 +469,12 @@ impl<'t> TypeData<'t> {
         }
     }
 
-    /// Reads the record of an index.
-    pub(super) fn read(index: TypeIndex, record: &'t [u8]) -> Result<TypeData<'t>> {
-        let it = crate::Type::read(index.0, record)?;
-        let row = &it.row;
-        Ok(match it.shape() {
+    /// Reads a record.
+    pub(super) fn read(it: &Record<'t>) -> Result<TypeData<'t>> {
+        let row = &it.parse()?;
+        Ok(match Shape::of(row.0.shape) {
             Shape::Primitive => {
-                let primitive = PrimitiveType::of(index).ok_or(Error::TypeNotFound(index.0))?;
+                let primitive = PrimitiveType::of(TypeIndex(it.index)).ok_or(Error::TypeNotFound(it.index))?;
                 TypeData::Primitive(primitive)
             }
             Shape::Class => TypeData::Class(ClassType {
@@ -534,7 +529,7 @@ impl<'t> TypeData<'t> {
                 element_type: row.type_of(),
                 indexing_type: row.second(),
                 stride: row.extra(),
-                dimensions: it.dimensions()?.unwrap_or_default(),
+                dimensions: it.numbers()?.unwrap_or_default(),
             }),
             Shape::Union => TypeData::Union(UnionType {
                 count: row.counted(),
@@ -549,12 +544,13 @@ impl<'t> TypeData<'t> {
                 length: row.count().unwrap_or_default() as u8,
                 position: row.extra().unwrap_or_default() as u8,
             }),
-            Shape::FieldList => TypeData::FieldList(FieldList {
-                fields: it.own_fields()?.into_iter().map(|(row, name)| field(&row, name)).collect(),
-                continuation: present(row.list_index()),
-            }),
+            Shape::FieldList => {
+                let continuation = row.list_index().filter(|index| *index != 0);
+                let fields = it.own_fields(continuation)?.into_iter().map(|(row, name)| field(&row, name)).collect();
+                TypeData::FieldList(FieldList { fields, continuation: continuation.map(TypeIndex) })
+            }
             Shape::ArgumentList => {
-                let arguments = it.arguments()?.unwrap_or_default();
+                let arguments = it.numbers()?.unwrap_or_default();
                 TypeData::ArgumentList(ArgumentList { arguments: arguments.into_iter().map(TypeIndex).collect() })
             }
             Shape::MethodList => {
@@ -628,14 +624,13 @@ impl<'t> IdData<'t> {
         }
     }
 
-    /// Reads the record of an index.
-    pub(super) fn read(index: IdIndex, record: &'t [u8]) -> Result<IdData<'t>> {
-        if record.is_empty() {
-            return Err(Error::TypeNotFound(index.0));
+    /// Reads a record.
+    pub(super) fn read(it: &Record<'t>) -> Result<IdData<'t>> {
+        if it.bytes.is_empty() {
+            return Err(Error::TypeNotFound(it.index));
         }
-        let it = crate::Id::read(index.0, record)?;
-        let row = &it.row;
-        Ok(match it.shape() {
+        let row = &it.parse()?;
+        Ok(match IdShape::of(row.0.shape) {
             IdShape::Function => IdData::Function(FunctionId {
                 scope: row.second_index().map(IdIndex),
                 function_type: row.type_of(),
@@ -647,11 +642,11 @@ impl<'t> IdData<'t> {
                 name: RawString(it.name()?.unwrap_or_default()),
             }),
             IdShape::BuildInfo => {
-                let arguments = it.list()?.unwrap_or_default();
+                let arguments = it.numbers()?.unwrap_or_default();
                 IdData::BuildInfo(BuildInfoId { arguments: arguments.into_iter().map(IdIndex).collect() })
             }
             IdShape::StringList => {
-                let substrings = it.list()?.unwrap_or_default();
+                let substrings = it.numbers()?.unwrap_or_default();
                 IdData::StringList(StringListId { substrings: substrings.into_iter().map(TypeIndex).collect() })
             }
             IdShape::String => IdData::String(StringId {
