@@ -36,9 +36,9 @@ export class Records {
     this.problem = this.batches((words, count) => {
       this.#codes = grown(this.#codes, this.length + count);
       for (let at = 0; at < count * WORDS; at += WORDS) {
-        const shape = words[at + SHAPE_WORD];
+        const [shape, has] = [words[at + SHAPE_WORD], words[at + HAS_WORD]];
         this.#codes[this.length++] = codeOf(words[at + STATUS_WORD], shape, words[at + KIND_WORD], words[at + PROPERTIES_WORD]);
-        if (shape === SHAPE.FIELD_LIST && words[at + HAS_WORD] & HAS.listIndex) this.continuations.add(words[at + LIST_INDEX_WORD]);
+        if (shape === SHAPE.FIELD_LIST && has & HAS.listIndex) this.continuations.add(words[at + LIST_INDEX_WORD]);
       }
     });
   }
