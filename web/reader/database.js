@@ -80,7 +80,7 @@ export class Database {
   }
 
   /** The number of a stream, if the file has it. */
-  #numberOf(number, what) {
+  #numberOf(number = NO_STREAM, what) {
     if (number === NO_STREAM || this.#size(number) === undefined) throw new Error(`The file has no stream of ${what}.`);
     return number;
   }
@@ -93,12 +93,8 @@ export class Database {
     return this.#native.named(NamedStream, "pdb_file_stream_names", this.#handle);
   }
 
-  #named(name) {
-    return this.#namedStreams().find((stream) => stream.name === name)?.number ?? NO_STREAM;
-  }
-
   #roles() {
-    return this.#native.value(Roles, "pdb_file_roles", this.#handle);
+    return this.#native.value(Roles, "pdb_file_roles", this.#handle) ?? {};
   }
 
   #streams() {
@@ -116,7 +112,7 @@ export class Database {
   }
 
   #names() {
-    this.#numberOf(this.#named("/names"), "names");
+    this.#numberOf(this.#namedStreams().find(({ name }) => name === "/names")?.number, "names");
     return new Names(this.#native, this.#tableOf("pdb_names_open"));
   }
 
