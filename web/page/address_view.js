@@ -59,9 +59,9 @@ function translationView(found) {
   const place = ({ section, offset }) => `${section}:${hexadecimal(offset)}`;
   const rows = [
     [FORMS[0], found.hasRva && hexadecimal(found.rva)],
-    [FORMS[1], found.hasPlace && place(found.place)],
+    [FORMS[1], found.hasSectionOffset && place(found.sectionOffset)],
     [FORMS[2], found.hasInternalRva && hexadecimal(found.internalRva)],
-    [FORMS[3], found.hasInternalPlace && place(found.internalPlace)],
+    [FORMS[3], found.hasInternalSectionOffset && place(found.internalSectionOffset)],
   ];
   return html("dl", {}, ...rows.flatMap(([name, value]) => [html("dt", {}, name), html("dd", {}, value || "none")]));
 }

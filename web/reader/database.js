@@ -3,7 +3,7 @@ import { findingsOf } from "./findings.js";
 import { Ids } from "./ids.js";
 import { Names } from "./names.js";
 import { References } from "./references.js";
-import { Frame, Identity, NamedStream, OmapRecord, Roles, Section, Translation, u32 } from "./structures.js";
+import { Frame, Identity, NamedStream, OmapRecord, Roles, Section, Sizes, Translation, u32 } from "./structures.js";
 import { Types } from "./types.js";
 
 const FORMATS = ["unknown", "MSF 7.00", "MSF 2.00", "portable PDB (.NET)", "cabinet (a compressed file)", "PE image"];
@@ -28,19 +28,23 @@ export class Database {
 
   /** The header and the directory, which are read when they are first needed. */
   get #handle() {
-    this.#opened ??= this.#native.opened("pdb_file_open", this.#file.at, this.#file.length);
+    this.#opened ??= this.#native.library.opened("pdb_file_open", this.#file.at, this.#file.length);
     return this.#opened;
   }
 
+  #sizes() {
+    return this.#native.value(Sizes, "pdb_file_sizes", this.#handle);
+  }
+
   pageSize() {
-    return this.#native.value(u32, "pdb_file_page_size", this.#handle);
+    return this.#sizes().pageSize;
   }
 
   /** What identifies the file. */
   identity() {
     const { library } = this.#native;
     return library.with(Identity.size, (identity) => {
-      library.call("pdb_identity_of", [this.#file.at, this.#file.length, identity]);
+      library.call("pdb_file_identity", [this.#handle, identity]);
       const { age, machine, hasDebugHeader } = Identity.read(this.#native.view(), Number(identity));
       const key = (form) => this.#native.string("pdb_key", identity, form);
       return { key: key(KEY_UPPER), guid: key(KEY_GUID), age, machine: hasDebugHeader ? machine : undefined };
@@ -59,41 +63,44 @@ export class Database {
 
   #openers = {
     streams: () => this.#streams(),
-    types: () => new Types(this.#native, this.#streamOf(TYPES, "types")),
+    types: () => new Types(this.#native, this.#tableOf("pdb_types_open", this.#numberOf(TYPES, "types"))),
     references: () => new References(this.table("types")),
-    ids: () => new Ids(this.#native, this.#streamOf(IDS, "ids")),
-    names: () => new Names(this.#native, this.#streamOf(this.#named("/names"), "names")),
+    ids: () => new Ids(this.#native, this.#tableOf("pdb_types_open", this.#numberOf(IDS, "ids"))),
+    names: () => this.#names(),
     sections: () => this.#sections(),
     omapToSource: () => this.#omap("omap_to_src"),
     omapFromSource: () => this.#omap("omap_from_src"),
     frames: () => this.#frames(),
-    addresses: () => this.#native.opened("pdb_file_addresses", this.#handle),
+    addresses: () => this.#tableOf("pdb_address_map_open"),
   };
 
-  /** A stream in the module's memory. */
-  #streamOf(number, what) {
-    const stream = number === NO_STREAM ? undefined : this.#native.stream(this.#handle, number);
-    if (!stream) throw new Error(`The file has no stream of ${what}.`);
-    return stream;
+  /** The handle of a table, which a call opens from the file. */
+  #tableOf(name, ...words) {
+    return this.#native.library.opened(name, this.#handle, ...words);
+  }
+
+  /** The number of a stream, if the file has it. */
+  #numberOf(number = NO_STREAM, what) {
+    if (number === NO_STREAM || this.#size(number) === undefined) throw new Error(`The file has no stream of ${what}.`);
+    return number;
+  }
+
+  #size(number) {
+    return this.#native.value(u32, "pdb_file_stream_size", this.#handle, number);
   }
 
   #namedStreams() {
     return this.#native.named(NamedStream, "pdb_file_stream_names", this.#handle);
   }
 
-  #named(name) {
-    return this.#namedStreams().find((stream) => stream.name === name)?.number ?? NO_STREAM;
-  }
-
   #roles() {
-    return this.#native.value(Roles, "pdb_file_roles", this.#handle);
+    return this.#native.value(Roles, "pdb_file_roles", this.#handle) ?? {};
   }
 
   #streams() {
-    const count = this.#native.value(u32, "pdb_file_stream_count", this.#handle);
-    const rows = Array.from({ length: count }, (_, number) => ({
+    const rows = Array.from({ length: this.#sizes().streamCount }, (_, number) => ({
       number,
-      size: this.#native.value(u32, "pdb_file_stream_size", this.#handle, number),
+      size: this.#size(number),
       role: FIXED_ROLES[number] ?? "",
       name: "",
     }));
@@ -104,21 +111,25 @@ export class Database {
     return rows;
   }
 
+  #names() {
+    this.#numberOf(this.#namedStreams().find(({ name }) => name === "/names")?.number, "names");
+    return new Names(this.#native, this.#tableOf("pdb_names_open"));
+  }
+
   #sections() {
-    const { at, length } = this.#streamOf(this.#roles().section_headers, "section headers");
+    const number = this.#numberOf(this.#roles().section_headers, "section headers");
     const text = (bytes) => new TextDecoder().decode(bytes).replace(/\0+$/, "");
-    const sections = this.#native.rows(Section, "pdb_sections", at, length).slice();
+    const sections = this.#native.rows(Section, "pdb_file_sections", this.#handle, number).slice();
     return sections.map((section, place) => ({ ...section, number: place + 1, name: text(section.name) }));
   }
 
   #omap(role) {
-    const { at, length } = this.#streamOf(this.#roles()[role], `moved addresses (${role})`);
-    return this.#native.rows(OmapRecord, "pdb_omap_records", this.#native.opened("pdb_omap_open", at, length));
+    const number = this.#numberOf(this.#roles()[role], `moved addresses (${role})`);
+    return this.#native.rows(OmapRecord, "pdb_omap_records", this.#tableOf("pdb_omap_open", number));
   }
 
   #frames() {
-    const handle = this.#native.opened("pdb_file_frames", this.#handle);
-    const frames = this.#native.rows(Frame, "pdb_frames_list", handle);
+    const frames = this.#native.rows(Frame, "pdb_frames_list", this.#tableOf("pdb_frames_open"));
     const program = (frame) => (frame.hasProgram ? orEmpty(() => this.table("names").at(frame.program), "") : "");
     const row = (frame) => ({ ...frame, kind: FRAME_KINDS[frame.kind] ?? "unknown", program: program(frame) });
     return { length: frames.length, slice: (from, to) => frames.slice(from, to).map(row) };

@@ -43,28 +43,20 @@ function referencesOf(types, info) {
 export function entriesOf(types, index) {
   const info = types.info(index);
   if (info.shape === SHAPE.ENUMERATION) return fieldsOf(types, info.listIndex, info.typeIndex);
-  const words = [...types.records.record(index), index];
-  const rows = (type, call) => types.native.rows(type, call, ...words).slice();
+  const rows = (type, call) => types.native.rows(type, call, types.handle, index).slice();
   const argument = (type) => ({ kind: "argument", type, text: types.anyLabel(type) });
   if (info.shape === SHAPE.FIELD_LIST) return fieldsOf(types, index);
   if (info.shape === SHAPE.METHOD_LIST) return rows(Row, "pdb_type_methods").map((row) => entryOf(types, row));
-  if (info.shape === SHAPE.ARGUMENT_LIST) return rows(u32, "pdb_type_arguments").map(argument);
+  if (info.shape === SHAPE.ARGUMENT_LIST) return rows(u32, "pdb_type_numbers").map(argument);
   return undefined;
 }
 
-/** The fields of a list, and of the lists in which it continues, each below the one before it; of an enumeration also
- * with the type under it. */
-function fieldsOf(types, first, underlying) {
-  const { native, records } = types;
-  const read = (...words) =>
-    underlying === undefined ? native.named(Field, ...words) : native.enumerators(Field, underlying, ...words);
-  const fields = [];
-  for (let list = first; records.has(list) && shapeOf(records.code(list)) === SHAPE.FIELD_LIST; ) {
-    fields.push(...read("pdb_type_fields", ...records.record(list), list));
-    const info = types.info(list);
-    if (!(info.has & HAS.listIndex) || info.listIndex >= list) break;
-    list = info.listIndex;
-  }
+/** The fields of a list, and of the lists in which it continues; of an enumeration also with the type under it. */
+function fieldsOf(types, list, underlying) {
+  const { native, records, handle } = types;
+  if (!records.has(list) || shapeOf(records.code(list)) !== SHAPE.FIELD_LIST) return [];
+  const words = ["pdb_type_fields", handle, list];
+  const fields = underlying === undefined ? native.named(Field, ...words) : native.enumerators(Field, underlying, ...words);
   return fields.map((field) => entryOf(types, field.info, field.name));
 }
 

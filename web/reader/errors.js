@@ -1,4 +1,4 @@
-// The texts of errors for those that the library has no text for.
+// The texts of errors: those of the library, but for two.
 
 const IO_ERROR = 7, OUT_OF_MEMORY = 28;
 export const NO_MEMORY = "There is not enough memory for this file.";

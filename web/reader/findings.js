@@ -1,4 +1,5 @@
 // What `pdb_validate` finds, in the words of `pdbdump validate`.
+import { textOf } from "./errors.js";
 import { Finding } from "./structures.js";
 
 const PARTS = [
@@ -48,11 +49,12 @@ const INCONSISTENCIES = [
 
 /** The first thing that is wrong in each part of a file. */
 export function findingsOf(native, file) {
+  const problem = ({ status, first, second }) => textOf(native.library.error(status, first, second));
   const found = native.rows(Finding, "pdb_validate", file.at, file.length, 0).slice();
   return found.map((finding) => ({
     part: PARTS[finding.part],
     isWarning: Boolean(finding.isWarning),
-    problem: INCONSISTENCIES[finding.inconsistency]?.(finding.number) ?? native.problem(finding.fault),
+    problem: INCONSISTENCIES[finding.inconsistency]?.(finding.number) ?? problem(finding.fault),
     stream: finding.hasStream ? finding.stream : undefined,
     index: finding.hasIndex ? finding.index : undefined,
     byte: finding.hasByte ? finding.byte : undefined,

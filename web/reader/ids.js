@@ -14,9 +14,11 @@ const NUMBERS = {
 const IN_TYPES = ["type", "parent type"];
 
 export class Ids {
-  constructor(native, stream) {
+  /** The table of a handle. */
+  constructor(native, handle) {
     this.native = native;
-    this.records = new Records(native, stream);
+    this.handle = handle;
+    this.records = new Records(native, handle);
   }
 
   get length() {
@@ -33,14 +35,13 @@ export class Ids {
   }
 
   #row(index) {
-    const record = this.records.record(index);
     try {
-      const info = this.native.value(Row, "pdb_id_parse", ...record);
+      const info = this.native.value(Row, "pdb_type_parse", this.handle, index);
       return {
         index,
         kind: idKindName(info),
-        name: this.native.string("pdb_id_name", ...record) ?? "",
-        numbers: [...this.#numbers(info), ...this.#list(info, record)],
+        name: this.native.string("pdb_type_name", this.handle, index) ?? "",
+        numbers: [...this.#numbers(info), ...this.#list(info, index)],
       };
     } catch (error) {
       return { index, kind: "not read", problem: textOf(error) };
@@ -54,9 +55,9 @@ export class Ids {
     return info.shape === ID.TYPE_SOURCE ? [...found, { role: "line", number: info.extra }] : found;
   }
 
-  #list(info, record) {
+  #list(info, index) {
     if (info.shape !== ID.BUILD_INFO && info.shape !== ID.STRING_LIST) return [];
-    const ids = this.native.rows(u32, "pdb_id_list", ...record).slice();
-    return ids.map((index, place) => ({ role: `part ${place + 1}`, index }));
+    const ids = this.native.rows(u32, "pdb_type_numbers", this.handle, index).slice();
+    return ids.map((id, place) => ({ role: `part ${place + 1}`, index: id }));
   }
 }

@@ -15,7 +15,7 @@ const NAMES = [
   "PROCEDURE", "POINTER", "MODIFIER", "ENUM", "ENUMERATE", "ARRAY", "UNION", "BITFIELD", "FIELDLIST", "ARGLIST",
   "METHODLIST", "VTSHAPE",
 ];
-export const ID = { FUNCTION: 0, MEMBER_FUNCTION: 1, BUILD_INFO: 2, STRING_LIST: 3, STRING: 4, TYPE_SOURCE: 5 };
+export const ID = { FUNCTION: 32, MEMBER_FUNCTION: 33, BUILD_INFO: 34, STRING_LIST: 35, STRING: 36, TYPE_SOURCE: 37 };
 const ID_NAMES = ["FUNC_ID", "MFUNC_ID", "BUILDINFO", "SUBSTR_LIST", "STRING_ID", "UDT_SRC_LINE"];
 
 /** What a table keeps of a record in a byte: its shape, the kind of a class, and whether it is only declared. */
@@ -47,7 +47,7 @@ export function fieldKindName({ shape, kind }) {
 
 /** The name of an id's kind. The source line of a type has another kind if it names a module. */
 export function idKindName({ shape, has }) {
-  return shape === ID.TYPE_SOURCE && has & HAS.thirdIndex ? "LF_UDT_MOD_SRC_LINE" : `LF_${ID_NAMES[shape]}`;
+  return shape === ID.TYPE_SOURCE && has & HAS.thirdIndex ? "LF_UDT_MOD_SRC_LINE" : `LF_${ID_NAMES[shape - ID.FUNCTION]}`;
 }
 
 /** What C++ calls a class or a union. */

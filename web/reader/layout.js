@@ -11,7 +11,7 @@ const MOST_STEPS = 16;
 /** The layout of the class or union of an index, or undefined if the table doesn't define one. The `link` of a row leads
  * from a part of its declaration to a type, and is no part of the object. */
 export function layoutOf(types, index) {
-  const found = types.native.named(LayoutRow, "pdb_layout", types.definitions, index);
+  const found = types.native.named(LayoutRow, "pdb_type_layout", types.handle, index);
   if (!found) return undefined;
   const definition = types.definition(index);
   const begin = (row) => row.offset * 8n + BigInt(row.bit);

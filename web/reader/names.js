@@ -1,27 +1,19 @@
 // The string table.
-import { Name } from "./structures.js";
 
-const OK = 0;
+const TOO_SMALL = 102;
 
 export class Names {
   #offsets = [];
 
-  /** The table in the stream /names, which stays in the module's memory. Each name begins behind the NUL of the one
-   * before it. */
-  constructor(native, stream) {
+  /** The table of a handle. Each name begins behind the NUL of the one before it. */
+  constructor(native, handle) {
     this.native = native;
-    this.stream = stream;
-    this.handle = native.opened("pdb_names_open", stream.at, stream.length);
+    this.handle = handle;
     const { library } = native;
-    library.with(Name.size + 12, (place) => {
-      for (let offset = 0; this.#isAt(offset, place); offset += Number(library.long(place + 8n)) + 1) {
-        this.#offsets.push(offset);
-      }
+    library.with(8, (length) => {
+      const isAt = (offset) => library.calls.pdb_names_get(handle, offset, 0n, 0n, length) === TOO_SMALL;
+      for (let offset = 0; isAt(offset); offset += Number(library.long(length)) + 1) this.#offsets.push(offset);
     });
-  }
-
-  #isAt(offset, place) {
-    return this.native.library.calls.pdb_names_place(this.handle, offset, place, place + BigInt(Name.size)) === OK;
   }
 
   get length() {
@@ -32,12 +24,8 @@ export class Names {
     return this.#offsets.slice(from, to).map((offset) => ({ offset, name: this.at(offset) }));
   }
 
-  /** The name at an offset, or undefined if none is there. */
+  /** The name at an offset. */
   at(offset) {
-    const { native } = this;
-    return native.library.with(Name.size + 12, (place) => {
-      if (!this.#isAt(offset, place)) return undefined;
-      return native.text(this.stream.at + native.library.long(place), native.library.long(place + 8n));
-    });
+    return this.native.string("pdb_names_get", this.handle, offset);
   }
 }

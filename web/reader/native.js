@@ -1,12 +1,9 @@
 // The calls of pdb_container.h, with values in place of pointers. What a call writes is read from the module's memory.
-import { textOf } from "./errors.js";
-import { Fault } from "./structures.js";
-
 const TOO_SMALL = 102;
 /** A stream, a name or a value that is not there. */
 const ABSENT = [4, 5, 106, 107];
-const HANDLE_SIZE = 32;
-const NO_LIMIT = 2n ** 64n - 1n;
+/** The bytes for an array of unknown length, for which a call is made again if they are too few. */
+const TRIED = 4096;
 const decoder = new TextDecoder("utf-8", { ignoreBOM: true });
 
 /** An array of structures, each read when it is asked for. */
@@ -42,23 +39,6 @@ export class Native {
     return decoder.decode(this.library.bytes(at, length));
   }
 
-  /** The handle that a call opens. */
-  opened(name, ...words) {
-    const handle = this.library.room(HANDLE_SIZE);
-    try {
-      this.library.call(name, [...words, handle]);
-      return handle;
-    } catch (error) {
-      this.library.free(handle);
-      throw error;
-    }
-  }
-
-  close(handle) {
-    this.library.calls.pdb_close(handle);
-    this.library.free(handle);
-  }
-
   /** The value that a call writes, or undefined if there is none. */
   value(type, name, ...words) {
     return this.library.with(type.size, (at) => {
@@ -69,16 +49,15 @@ export class Native {
 
   /** Gives a function the array that a call writes: its place and its number of items of a size. Undefined if the call
    * has no answer. */
-  #written(size, name, words, use) {
+  #written(size, name, words, use, most = BigInt(Math.floor(TRIED / size))) {
     const { library } = this;
-    return library.with(8, (count) => {
-      const ask = (room, most) => library.call(name, [...words, room, most, count], [TOO_SMALL, ...ABSENT]);
-      if (ABSENT.includes(ask(0n, 0n))) return undefined;
+    return library.with(8n + most * BigInt(size), (count) => {
+      const room = count + 8n;
+      const status = library.call(name, [...words, room, most, count], [TOO_SMALL, ...ABSENT]);
+      if (ABSENT.includes(status)) return undefined;
       const length = library.long(count);
-      return library.with(length * BigInt(size), (room) => {
-        if (length) ask(room, length);
-        return use(room, Number(length));
-      });
+      // One more, for the NUL of a text.
+      return status === TOO_SMALL ? this.#written(size, name, words, use, length + 1n) : use(room, Number(length));
     });
   }
 
@@ -118,12 +97,8 @@ export class Native {
         library.with(size, (names) => {
           if (count) ask(rows, count, names, size);
           for (let place = 0n; place < count; place++) change(rows + place * BigInt(type.size));
-          let at = names;
-          return this.#items(type, rows, Number(count)).slice().map((item) => {
-            const text = this.text(at, item.nameLength);
-            at += item.nameLength;
-            return { ...item, name: text };
-          });
+          const items = this.#items(type, rows, Number(count)).slice();
+          return items.map((item) => ({ ...item, name: this.text(names + item.nameOffset, item.nameLength) }));
         }),
       );
     });
@@ -138,27 +113,5 @@ export class Native {
     } finally {
       this.library.free(at);
     }
-  }
-
-  /** A stream of an open file, which stays in the module's memory; undefined if the file has none of this number. */
-  stream(handle, number) {
-    const { library } = this;
-    return library.with(8, (length) => {
-      const words = [handle, number, NO_LIMIT];
-      const ask = (room, size) => library.call("pdb_file_stream", [...words, room, size, length], [TOO_SMALL, ...ABSENT]);
-      if (ABSENT.includes(ask(0n, 0n))) return undefined;
-      const stream = { at: library.room(library.long(length)), length: library.long(length) };
-      if (stream.length) ask(stream.at, stream.length);
-      return stream;
-    });
-  }
-
-  /** The text of a fault that a structure reports. */
-  problem(fault) {
-    return this.library.with(Fault.size, (at) => {
-      const view = this.view();
-      [fault.status, fault.first, fault.second].forEach((word, place) => view.setUint32(Number(at) + 4 * place, word, true));
-      return textOf(this.library.error(at));
-    });
   }
 }

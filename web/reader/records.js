@@ -1,13 +1,13 @@
-// The records of a table of types or of ids: where each is in the stream of the table, and what kind it is of.
+// The records of a table of types or of ids: what kind each is of.
 import { textOf } from "./errors.js";
-import { codeOf } from "./kinds.js";
-import { Type, u32 } from "./structures.js";
+import { codeOf, SHAPE } from "./kinds.js";
+import { HAS, IndexRange, Type } from "./structures.js";
 
 const OK = 0, END = 105;
 const BATCH = 4096;
-/** The words of structure pdb_type: their number, and where those are that a table keeps. */
+/** The words of structure pdb_type: their number, and where those are of which a table keeps something. */
 const WORDS = Type.size / 4;
-const OFFSET = 1, LENGTH = 2, STATUS = 3, SHAPE = 6, KIND = 10, PROPERTIES = 12;
+const STATUS_WORD = 3, SHAPE_WORD = 6, HAS_WORD = 7, KIND_WORD = 10, PROPERTIES_WORD = 12, LIST_INDEX_WORD = 17;
 
 const grown = (array, length) => {
   if (length <= array.length) return array;
@@ -20,28 +20,25 @@ export class Records {
   length = 0;
   /** Why the walk along the table stopped before its end, if it did. */
   problem;
-  #offsets = new Uint32Array(BATCH);
-  #lengths = new Uint16Array(BATCH);
+  /** The indexes of the lists in which others continue. */
+  continuations = new Set();
   #codes = new Uint8Array(BATCH);
 
-  /** The table in a stream, which stays in the module's memory. */
-  constructor(native, stream) {
+  /** The table of a handle. */
+  constructor(native, handle) {
     this.native = native;
-    this.stream = stream;
+    this.handle = handle;
+    this.first = native.value(IndexRange, "pdb_types_range", handle).first;
     this.#walk();
   }
 
   #walk() {
     this.problem = this.batches((words, count) => {
-      const length = this.length + count;
-      this.#offsets = grown(this.#offsets, length);
-      this.#lengths = grown(this.#lengths, length);
-      this.#codes = grown(this.#codes, length);
+      this.#codes = grown(this.#codes, this.length + count);
       for (let at = 0; at < count * WORDS; at += WORDS) {
-        this.#offsets[this.length] = words[at + OFFSET];
-        this.#lengths[this.length] = words[at + LENGTH];
-        this.#codes[this.length] = codeOf(words[at + STATUS], words[at + SHAPE], words[at + KIND], words[at + PROPERTIES]);
-        this.length++;
+        const [shape, has] = [words[at + SHAPE_WORD], words[at + HAS_WORD]];
+        this.#codes[this.length++] = codeOf(words[at + STATUS_WORD], shape, words[at + KIND_WORD], words[at + PROPERTIES_WORD]);
+        if (shape === SHAPE.FIELD_LIST && has & HAS.listIndex) this.continuations.add(words[at + LIST_INDEX_WORD]);
       }
     });
   }
@@ -51,23 +48,18 @@ export class Records {
   batches(use) {
     const { library } = this.native;
     const { calls } = library;
-    const table = this.native.opened("pdb_types_open", this.stream.at, this.stream.length);
-    try {
-      this.first = this.native.value(u32, "pdb_types_first_index", table);
-      return library.with(BATCH * Type.size + 8 + 12, (room) => {
-        const count = room + BigInt(BATCH * Type.size);
-        const fault = count + 8n;
-        for (let status = OK; status === OK; ) {
-          status = calls.pdb_types_read(table, room, BigInt(BATCH), count, fault);
-          const read = Number(library.long(count));
-          use(new Uint32Array(calls.memory.buffer, Number(room), read * WORDS), read);
-          if (status !== OK && status !== END) return textOf(library.error(fault));
-        }
-        return undefined;
-      });
-    } finally {
-      this.native.close(table);
-    }
+    library.call("pdb_types_rewind", [this.handle]);
+    return library.with(BATCH * Type.size + 8, (rows) => {
+      const count = rows + BigInt(BATCH * Type.size);
+      let problem;
+      for (let status = OK; status === OK; ) {
+        status = calls.pdb_types_read(this.handle, rows, BigInt(BATCH), count);
+        if (status !== OK && status !== END) problem = textOf(library.errorIn(this.handle));
+        const read = Number(library.long(count));
+        use(new Uint32Array(calls.memory.buffer, Number(rows), read * WORDS), read);
+      }
+      return problem;
+    });
   }
 
   has(index) {
@@ -80,11 +72,5 @@ export class Records {
 
   codeAt(place) {
     return this.#codes[place];
-  }
-
-  /** The bytes of a record, as calls take them. */
-  record(index) {
-    const place = index - this.first;
-    return [this.stream.at + BigInt(this.#offsets[place]), BigInt(this.#lengths[place])];
   }
 }

@@ -2,9 +2,15 @@
 import { isNamed, SHAPE } from "./kinds.js";
 import { Field, Row, Type, u32 } from "./structures.js";
 
-const RECORD_MOST = 0x10000;
-/** A list has four bytes at least for each of its entries, and eight for each field. */
-const ROOM = (RECORD_MOST / 8) * Field.size;
+const OK = 0, TOO_SMALL = 102;
+/** The calls that write the entries of lists, and the structures of these. */
+const LISTS = {
+  [SHAPE.FIELD_LIST]: ["pdb_type_fields", Field],
+  [SHAPE.METHOD_LIST]: ["pdb_type_methods", Row],
+  [SHAPE.ARGUMENT_LIST]: ["pdb_type_numbers", u32],
+};
+/** The bytes for the entries of a list and for their names, of which a longer list has more. */
+const ENTRIES = 1 << 20, NAMES = 1 << 16;
 const wordsOf = (type) => type.size / 4;
 const INFO = wordsOf(Type) - wordsOf(Row);
 /** Bits of `has` in structure pdb_row, each with the word that it announces. */
@@ -19,7 +25,15 @@ export class References {
   constructor(types) {
     this.types = types;
     this.#starts = new Uint32Array(types.records.length + 1);
-    types.native.library.with(ROOM + RECORD_MOST + 8 + 8 + 12, (room) => this.#read(room));
+    this.#withRoom(ENTRIES, NAMES, (room) => this.#read(room));
+  }
+
+  /** Gives a function room for the entries of a list and for their names, of so many bytes. */
+  #withRoom(entriesMost, namesMost, use) {
+    this.types.native.library.with(16 + entriesMost + namesMost, (count) => {
+      const entries = count + 16n;
+      use({ count, size: count + 8n, entries, entriesMost, names: entries + BigInt(entriesMost), namesMost });
+    });
   }
 
   /** Reads the references of all records, with room for the entries of a list. */
@@ -51,28 +65,24 @@ export class References {
     this.#targets[this.#count++] = target;
   }
 
-  /** Adds the references of the entries of a record, if it is a list that can be read. */
+  /** Adds the references of the entries of a record, if it is a list that can be read. The entries of a list in which
+   * another one continues come with that one. */
   #addList(shape, index, room) {
-    const { calls } = this.types.native.library;
-    const record = [...this.types.records.record(index), index];
-    const names = room + BigInt(ROOM);
-    const count = names + BigInt(RECORD_MOST);
-    const [size, fault] = [count + 8n, count + 16n];
-    const most = (type) => BigInt(Math.floor(ROOM / type.size));
-    if (shape === SHAPE.FIELD_LIST) {
-      const status = calls.pdb_type_fields(...record, room, most(Field), count, names, BigInt(RECORD_MOST), size, fault);
-      if (!status) this.#addEntries(room, count, Field);
-    } else if (shape === SHAPE.METHOD_LIST) {
-      if (!calls.pdb_type_methods(...record, room, most(Row), count, fault)) this.#addEntries(room, count, Row);
-    } else if (shape === SHAPE.ARGUMENT_LIST) {
-      if (!calls.pdb_type_arguments(...record, room, most(u32), count, fault)) this.#addEntries(room, count, u32);
-    }
+    const { native, records, handle } = this.types;
+    if (!(shape in LISTS) || records.continuations.has(index)) return;
+    const [name, type] = LISTS[shape];
+    const most = Math.floor(room.entriesMost / type.size);
+    const words = [handle, index, room.entries, BigInt(most), room.count];
+    if (type === Field) words.push(room.names, BigInt(room.namesMost), room.size);
+    const status = native.library.calls[name](...words);
+    const [count, size] = [room.count, room.size].map((at) => Number(native.library.long(at)));
+    if (status === OK) this.#addEntries(room.entries, count, type);
+    if (status === TOO_SMALL) this.#withRoom(count * type.size, size, (larger) => this.#addList(shape, index, larger));
   }
 
-  #addEntries(room, count, type) {
-    const { library } = this.types.native;
-    const length = Number(library.long(count)) * wordsOf(type);
-    const words = new Uint32Array(library.calls.memory.buffer, Number(room), length);
+  #addEntries(entries, count, type) {
+    const length = count * wordsOf(type);
+    const words = new Uint32Array(this.types.native.library.calls.memory.buffer, Number(entries), length);
     for (let at = 0; at < length; at += wordsOf(type)) {
       if (type === u32) this.#add(words[at]);
       else this.#addIndexes(words, at);

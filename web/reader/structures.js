@@ -25,7 +25,9 @@ const all = (type, names) => Object.fromEntries(names.split(" ").map((name) => [
 
 export { u32, u64 };
 
-export const Fault = structure(all(u32, "status first second"));
+const Fault = structure(all(u32, "status first second"));
+
+export const Sizes = structure(all(u32, "pageSize streamCount"));
 
 export const Identity = structure({
   ...all(u32, "version signature age informationAge hasDebugHeader debugAge"),
@@ -48,9 +50,7 @@ export const Roles = structure(
   ),
 );
 
-export const NamedStream = structure({ nameLength: u64, number: u32 });
-
-export const Name = structure(all(u64, "offset length"));
+export const NamedStream = structure({ ...all(u64, "nameOffset nameLength"), number: u32 });
 
 export const OmapRecord = structure(all(u32, "source target"));
 
@@ -61,13 +61,13 @@ export const Section = structure({
   characteristics: u32,
 });
 
-const Place = structure(all(u32, "offset section"));
+const SectionOffset = structure(all(u32, "offset section"));
 
 export const Translation = structure({
-  ...all(u32, "hasRva rva hasPlace"),
-  place: Place,
-  ...all(u32, "hasInternalRva internalRva hasInternalPlace"),
-  internalPlace: Place,
+  ...all(u32, "hasRva rva hasSectionOffset"),
+  sectionOffset: SectionOffset,
+  ...all(u32, "hasInternalRva internalRva hasInternalSectionOffset"),
+  internalSectionOffset: SectionOffset,
 });
 
 export const Frame = structure(
@@ -78,7 +78,9 @@ export const Frame = structure(
   ),
 );
 
-export const Record = structure(all(u32, "index offset length"));
+export const IndexRange = structure(all(u32, "first end"));
+
+const Record = structure(all(u32, "index offset length"));
 
 /** What a record says, under the names that all shapes share. */
 export const Row = structure({
@@ -90,11 +92,11 @@ export const Row = structure({
 /** The bits of `has`, which say which of these numbers a record has. */
 export const HAS = { typeIndex: 16, secondIndex: 32, thirdIndex: 64, listIndex: 128, number: 512 };
 
-export const Type = structure({ place: Record, fault: Fault, info: Row });
+export const Type = structure({ position: Record, fault: Fault, info: Row });
 
-export const Field = structure({ info: Row, nameLength: u64, hasName: u32 });
+export const Field = structure({ info: Row, ...all(u64, "nameOffset nameLength"), hasName: u32 });
 
 export const LayoutRow = structure({
-  ...all(u64, "offset size nameLength"),
+  ...all(u64, "offset size nameOffset nameLength"),
   ...all(u32, "kind extent bit bits typeIndex baseClass basePosition isDirect"),
 });

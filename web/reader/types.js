@@ -7,12 +7,13 @@ import { Row, u32, u64 } from "./structures.js";
 
 export class Types {
   #names;
-  #definitions;
   #chosen = new Uint32Array();
 
-  constructor(native, stream) {
+  /** The table of a handle. */
+  constructor(native, handle) {
     this.native = native;
-    this.records = new Records(native, stream);
+    this.handle = handle;
+    this.records = new Records(native, handle);
   }
 
   /** Why the table can't be read to its end, if it can't. */
@@ -77,52 +78,43 @@ export class Types {
   #index() {
     if (this.#names) return this.#names;
     const { native, records } = this;
-    native.library.with(8 + 12, (length) => {
+    native.library.with(8, (length) => {
       this.#names = new NameIndex(native.library, records.length, (place, at) => {
-        const index = records.first + place;
-        const code = records.codeAt(place);
-        if (!isNamed(code)) return 0;
-        const status = native.library.calls.pdb_type_name(...records.record(index), index, at, 0x10000n, length, length + 8n);
+        if (!isNamed(records.codeAt(place))) return 0;
+        const status = native.library.calls.pdb_type_name(this.handle, records.first + place, at, 0x10000n, length);
         return status ? 0 : Number(native.library.long(length));
       });
     });
     return this.#names;
   }
 
-  /** The definitions of the table, which are opened when they are first needed. */
-  get definitions() {
-    const { at, length } = this.records.stream;
-    this.#definitions ??= this.native.opened("pdb_definitions_open", at, length);
-    return this.#definitions;
-  }
-
   /** What the record of an index says. */
   info(index) {
-    return this.native.value(Row, "pdb_type_parse", ...this.records.record(index), index);
+    return this.native.value(Row, "pdb_type_parse", this.handle, index);
   }
 
   name(index) {
-    return this.native.string("pdb_type_name", ...this.records.record(index), index);
+    return this.native.string("pdb_type_name", this.handle, index);
   }
 
   uniqueName(index) {
-    return this.native.string("pdb_type_unique_name", ...this.records.record(index), index);
+    return this.native.string("pdb_type_unique_name", this.handle, index);
   }
 
   /** The declaration of a name that has a type, in C++, or the text of the type alone. */
   text(index, name = "") {
-    return this.native.withText(name, (at, length) => this.native.string("pdb_type_text", this.definitions, index, at, length));
+    return this.native.withText(name, (at, length) => this.native.string("pdb_type_text", this.handle, index, at, length));
   }
 
   definition(index) {
-    return this.native.value(u32, "pdb_definition_of", this.definitions, index);
+    return this.native.value(u32, "pdb_type_definition", this.handle, index);
   }
 
   /** The size of a type in bytes, which for a class is in its record. */
   size(index) {
     const code = this.records.code(index);
     if (isClass(code)) return isDeclaredOnly(code) ? undefined : this.info(index).number;
-    return this.native.value(u64, "pdb_type_size", this.definitions, index);
+    return this.native.value(u64, "pdb_type_size", this.handle, index);
   }
 
   /** The name of a type, or its text in C++; empty for a list, which has neither. */
