@@ -92,7 +92,7 @@ class Names:
 
     def _bytes(self, offset: int) -> bytes:
         try:
-            return self._table.text(library().pdb_names_get, unsigned(offset)) or b""
+            return self._table.copied(library().pdb_names_get, unsigned(offset)) or b""
         except PdbError as error:
             if error.status == Status.UNEXPECTED_EOF:
                 raise KeyError(offset) from None

@@ -78,7 +78,7 @@ class Definitions:
     def text_of(self, index: int, name: str = "") -> str:
         """The declaration of a name that has a type, in C++, or the text of the type alone if the name is empty."""
         word = name.encode()
-        return (self._table.text(library().pdb_type_text, unsigned(index), word, len(word)) or b"").decode(errors="replace")
+        return (self._table.copied(library().pdb_type_text, unsigned(index), word, len(word)) or b"").decode(errors="replace")
 
     def layout_of(self, index: int) -> Optional[Layout]:
         """The layout of a class or a union. None if the type has no definition, or that is an enumeration."""

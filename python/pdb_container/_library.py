@@ -22,11 +22,12 @@ BUILT = {
     "linux-aarch64": "aarch64-linux/lib/libpdb_container.so.0",
     "win-amd64": "x86_64-windows/bin/pdb_container.dll",
 }
-OK, TOO_SMALL = int(Status.OK), int(Status.TOO_SMALL)
-# The statuses of calls that found nothing wrong.
-_FINE = OK, TOO_SMALL, int(Status.NONE), int(Status.UNMAPPED)
-# The items of an array that is enough for most answers, and the bytes of one for most texts.
-_USUAL, _TEXT = 16, c_char * 256
+# Statuses as plain numbers, and those of calls that found nothing wrong.
+OK, TOO_SMALL, NONE = int(Status.OK), int(Status.TOO_SMALL), int(Status.NONE)
+_FINE = OK, TOO_SMALL, NONE, int(Status.UNMAPPED)
+# The items and the bytes for which there is room without asking for their number.
+_USUAL, _USUAL_TEXT = 16, 256
+_TEXT = c_char * _USUAL_TEXT
 
 T = TypeVar("T", bound="ctypes._CData")
 # Any object that has a buffer, such as bytes or a mapped file.
@@ -68,7 +69,7 @@ class PdbError(ValueError):
 
     def _text(self, fault: Fault) -> str:
         buffer = _TEXT()
-        library().pdb_fault_text(byref(fault), buffer, len(buffer), byref(c_size_t()))
+        library().pdb_fault_text(byref(fault), buffer, _USUAL_TEXT, byref(c_size_t()))
         text: str = buffer.value.decode(errors="replace")
         if self.stream is None:
             return text
@@ -170,21 +171,23 @@ class Opened:
             raise LookupError("the library has no answer")
         return found
 
-    def text(self, call: Any, *words: Any, offset: Optional[int] = None) -> Optional[bytes]:
-        """The text that a call copies, or None where there is none."""
-        # A buffer of its own for each call: another thread may run before the text is taken out.
+    def copied(self, call: Any, *words: Any, offset: Optional[int] = None) -> Optional[bytes]:
+        """The text or the bytes that a call copies, or None where there are none."""
+        # A buffer of its own for each call: another thread may run before the bytes are taken out.
         buffer: Any = _TEXT()
         length = c_size_t()
         with self.lock:
-            status = call(self.handle, *words, buffer, len(buffer), byref(length))
+            status = call(self.handle, *words, buffer, _USUAL_TEXT, byref(length))
             if status == TOO_SMALL:
                 buffer = (c_char * (length.value + 1))()
-                status = call(self.handle, *words, buffer, len(buffer), byref(length))
+                status = call(self.handle, *words, buffer, length.value + 1, byref(length))
             if status not in _FINE:
                 raise self.error(offset=offset)
         return buffer[: length.value] if status == OK else None
 
-    def items(self, kind: Any, call: Any, *words: Any, stream: Optional[int] = None, offset: Optional[int] = None) -> Optional[Iterator[Any]]:
+    def items(
+        self, kind: Any, call: Any, *words: Any, stream: Optional[int] = None, offset: Optional[int] = None
+    ) -> Optional[Iterator[Any]]:
         """The items that a call copies, or None where there is no answer."""
         count, status = c_size_t(_USUAL), TOO_SMALL
         while status == TOO_SMALL:
@@ -200,10 +203,10 @@ class Opened:
             status = self.ask(call, *words, rows, len(rows), byref(count), names, len(names), byref(size))
         return (rows, count.value, names) if status == OK else None
 
-    def read(self, call: Any, *words: Any, usual: int = 0, stream: Optional[int] = None, offset: Optional[int] = None) -> memoryview:
-        """The bytes that a call copies, none where there is no answer. If they are more than usual, it says first how many."""
-        length, buffer = c_size_t(), (c_uint8 * usual)()
-        while self.ask(call, *words, buffer, len(buffer), byref(length), stream=stream, offset=offset) == TOO_SMALL:
+    def read(self, call: Any, *words: Any, stream: Optional[int] = None) -> memoryview:
+        """The bytes of a stream, which a call copies. It says first how many they are."""
+        length, buffer = c_size_t(), (c_uint8 * 0)()
+        while self.ask(call, *words, buffer, len(buffer), byref(length), stream=stream) == TOO_SMALL:
             buffer = (c_uint8 * length.value)()
         return memoryview(buffer).cast("B")[: length.value].toreadonly()
 

@@ -171,12 +171,11 @@ class Record(Row):
     @property
     def record(self) -> memoryview:
         """The bytes of the record, none for a primitive type."""
-        it = self._raw
-        view: memoryview = self._table._opened.read(library().pdb_type_record, it[0], usual=256, offset=it[1])
-        return view
+        found = self._table._opened.copied(library().pdb_type_record, self._raw[0], offset=self._raw[1])
+        return memoryview(found or b"")
 
     def _text(self, call: Callable[..., int]) -> Optional[str]:
-        found = self._table._opened.text(call, self._raw[0], offset=self._raw[1])
+        found = self._table._opened.copied(call, self._raw[0], offset=self._raw[1])
         return None if found is None else str(found, "utf-8", "replace")
 
     def _indexes(self) -> List[int]:

@@ -7,14 +7,14 @@ from typing import Callable, Dict, Generic, Iterator, List, Optional, TypeVar, U
 from . import _ids, _sys, _types
 from ._ids import Id
 from ._layouts import Definitions, Layout
-from ._library import OK, Opened, PdbError, library, unsigned
-from ._rows import FIELD, FIELD_NAME, NO_SHAPE, TYPE, raw_of
+from ._library import NONE, OK, Opened, PdbError, library, unsigned
+from ._rows import FIELD, FIELD_NAME, NO_SHAPE, TYPE, Record, raw_of
 from ._sys import Fault, Status, StreamNumber
 from ._types import FIELDS, FIRST_RECORD, Field, Method, Type, UserDefinedType
 
 TYPES, IDS = int(StreamNumber.TYPES), int(StreamNumber.IDS)  # the streams of both tables
 BATCH = 512  # the records that a walk takes from the library at a time
-_R = TypeVar("_R", Type, Id)
+_R = TypeVar("_R", bound=Record)
 
 
 class _Table(Generic[_R]):
@@ -41,7 +41,7 @@ class _Table(Generic[_R]):
                     opened.ask(library().pdb_types_rewind)
                     for start in range(0, at, BATCH):
                         read(opened.handle, rows, min(BATCH, at - start), byref(count))
-                    rows = (_sys.Type * max(BATCH, at // 8))()
+                    rows = (_sys.Type * max(BATCH, at // 4))()
                 self._at = None  # until it is known
                 status = read(opened.handle, rows, len(rows), byref(count))
                 self._at = at = at + count.value
@@ -59,14 +59,18 @@ class _Table(Generic[_R]):
 
     def _find(self, index: int) -> _sys.FoundRecord:
         """Where the record of an index is, or why it isn't found."""
-        found = _sys.FoundRecord()
-        self._opened.ask(library().pdb_types_find, byref(c_uint32(unsigned(index))), 1, byref(found), 1, byref(c_size_t()))
+        opened, wanted, found, count = self._opened, c_uint32(index), _sys.FoundRecord(), c_size_t()
+        with opened.lock:
+            library().pdb_types_find(opened.handle, byref(wanted), 1, byref(found), 1, byref(count))
         return found
 
     def _parse(self, index: int, place: _sys.Record) -> _R:
         """What the record of an index says, which is at a place."""
-        row: _sys.Row = self._opened.written(_sys.Row, library().pdb_type_parse, index, offset=place.offset)
-        return self._classes[row.shape](self, (index, place.offset, place.length, 0, 0, 0, *raw_of(row)))
+        opened, row, offset = self._opened, _sys.Row(), place.offset
+        with opened.lock:
+            if library().pdb_type_parse(opened.handle, index, byref(row)) != OK:
+                raise opened.error(offset=offset)
+        return self._classes[row.shape](self, (index, offset, place.length, 0, 0, 0, *raw_of(row)))
 
 
 class Types(_Table[Type]):
@@ -93,11 +97,12 @@ class Types(_Table[Type]):
         is none."""
         if isinstance(key, str):
             return self[self._first_named(key)]
-        found = self._find(key)
-        if found.fault.status == Status.NONE and key >= FIRST_RECORD:
+        found = self._find(unsigned(key))
+        status = found.fault.status
+        if status == NONE and key >= FIRST_RECORD:
             raise KeyError(key)
         try:
-            if found.fault.status not in (Status.OK, Status.NONE):
+            if status not in (OK, NONE):
                 raise PdbError(found.fault, self.number)
             return self._parse(key, found.position)
         except PdbError as error:
@@ -197,7 +202,7 @@ class Ids(_Table[Id]):
 
     def __getitem__(self, index: int) -> Id:
         """The id of an index. KeyError if there is none."""
-        found = self._find(index)
+        found = self._find(unsigned(index))
         if found.fault.status != OK:
             raise KeyError(index)
         return self._parse(index, found.position)
