@@ -25,7 +25,7 @@ def main():
         opened, at = time.process_time() - started, megabytes()
         count = sum(1 for _ in types)
         walked = time.process_time() - started - opened
-        print(f"{count} types of {len(types.stream) >> 20} MB: opened in {opened:.2f} s, walked in {walked:.2f} s")
+        print(f"{count} types of {pdb.streams[types.number].size >> 20} MB: opened in {opened:.2f} s, walked in {walked:.2f} s")
         print(f"{before} MB before, {at} MB with the table, {megabytes()} MB after the walk")
 
 

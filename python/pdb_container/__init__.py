@@ -14,12 +14,12 @@ open.
 
 from ._file import AddressMap, Frame, Frames, Information, Names, Omap, Pdb, Roles, Section, Stream, Streams, Translation, open
 from ._identity import Identity, format_of
-from ._ids import BuildInfo, Function, Id, MemberFunctionId, StringId, StringList, UdtSource, UnreadableId
+from ._ids import BuildInfo, Function, Id, IdShape, MemberFunctionId, StringId, StringList, UdtSource, UnreadableId
 from ._layouts import Definitions, Layout, LayoutRow
 from ._library import LibraryError, PdbError
 from ._rows import Row
 from ._sys import (
-    ClassKind, Feature, FieldAttribute, Format, FrameKind, FunctionAttribute, IdentityFlag, IdShape, Inconsistency, KeyForm,
+    ClassKind, Feature, FieldAttribute, Format, FrameKind, FunctionAttribute, IdentityFlag, Inconsistency, KeyForm,
     LayoutKind, ModifierBit, Part, PointerAttribute, Property, Shape, Status,
 )  # fmt: skip
 from ._tables import Ids, Types
@@ -30,7 +30,7 @@ from ._types import (
 )  # fmt: skip
 from ._validation import Finding, validate
 
-__version__ = "0.1.0"
+__version__ = "0.2.0"
 __all__ = [
     "AddressMap", "ArgumentList", "Array", "BaseClass", "Bitfield", "BuildInfo", "Class", "ClassKind",
     "Definitions", "Enum", "Enumerator", "Feature", "Field", "FieldAttribute", "FieldList", "Finding", "Format",

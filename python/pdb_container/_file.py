@@ -5,19 +5,16 @@ import mmap
 import operator
 import os
 import uuid
-from ctypes import c_uint8, c_uint32
+from ctypes import c_uint32
 from dataclasses import dataclass, fields
 from typing import Any, Callable, Dict, Generic, Iterator, List, Optional, Sequence, Tuple, TypeVar, Union, overload
 
 from . import _sys
 from ._identity import Identity, identity_of
-from ._library import Buffer, Lent, Opened, PdbError, items, library, named_items, unsigned, value, written
-from ._sys import AddressForm, FrameKind, Status
-from ._tables import IDS, TYPES, Ids, Types
+from ._library import Buffer, Lent, Opened, PdbError, library, unsigned
+from ._sys import AddressForm, FrameKind, Status, StreamNumber
+from ._tables import Ids, Types
 
-NO_STREAM = 0xFFFF
-
-Room = Any  # the array of ctypes in which a stream is
 _T = TypeVar("_T")
 
 
@@ -86,22 +83,20 @@ class Frame:
 class Names:
     """A string table: the name at an offset, or each offset and name, in their order."""
 
-    def __init__(self, stream: memoryview, room: Room):
-        self._stream, self._kept = stream, room
-        self._table = Opened(library().pdb_names_open, room, len(stream))
+    def __init__(self, file: Opened):
+        self._table = file.open(library().pdb_names_open)
 
     def __getitem__(self, offset: int) -> str:
         """The name at an offset. KeyError if no name is there."""
         return str(self._bytes(offset), "utf-8", "replace")
 
-    def _bytes(self, offset: int) -> memoryview:
+    def _bytes(self, offset: int) -> bytes:
         try:
-            place = written(_sys.Name, library().pdb_names_place, self._table.handle, unsigned(offset))
+            return self._table.copied(library().pdb_names_get, unsigned(offset)) or b""
         except PdbError as error:
             if error.status == Status.UNEXPECTED_EOF:
                 raise KeyError(offset) from None
             raise
-        return self._stream[place.offset : place.offset + place.length]
 
     def __iter__(self) -> Iterator[Tuple[int, str]]:
         offset, past = 0, 1 << 32
@@ -115,39 +110,41 @@ class Names:
 
 
 class _Ranges:
-    """What moves the addresses of a range."""
+    """A table that moves the addresses of a range."""
 
-    def _ranges(self, call: Any, handle: Any, addresses: range) -> List[range]:
+    _table: Opened
+
+    def _ranges(self, addresses: range, call: Any, *words: int) -> List[range]:
         if addresses.step != 1:
             raise ValueError("the addresses of a range follow one another")
         start, end = unsigned(addresses.start), unsigned(addresses.stop)
-        return [range(it.start, it.end) for it in items(_sys.Span, call, handle, start, end)]
+        return [range(it.start, it.end) for it in self._table.items(_sys.Span, call, *words, start, end) or ()]
 
 
 class Omap(_Ranges):
     """A table of moved addresses."""
 
-    def __init__(self, stream: memoryview, room: Room, number: Optional[int] = None):
-        self._table = Opened(library().pdb_omap_open, room, len(stream), stream=number)
+    def __init__(self, file: Opened, number: int):
+        self._table = file.open(library().pdb_omap_open, number, stream=number)
 
     def lookup(self, address: int) -> Optional[int]:
         """The address to which the table moves an address, or None if it moves it nowhere."""
-        target = value(c_uint32, library().pdb_omap_lookup, self._table.handle, unsigned(address))
+        target = self._table.value(c_uint32, library().pdb_omap_lookup, unsigned(address))
         return None if target is None else target.value
 
     @property
     def records(self) -> List[Tuple[int, int]]:
         """The first address that each record moves, and where it moves that one, 0 if nowhere, in their order."""
-        return [(it.source, it.target) for it in items(_sys.OmapRecord, library().pdb_omap_records, self._table.handle)]
+        return [(it.source, it.target) for it in self._table.items(_sys.OmapRecord, library().pdb_omap_records) or ()]
 
     @property
     def is_sorted(self) -> bool:
         """Whether no record has a source below that of the record before it."""
-        return bool(written(c_uint32, library().pdb_omap_is_sorted, self._table.handle).value)
+        return bool(self._table.written(c_uint32, library().pdb_omap_is_sorted).value)
 
     def ranges(self, addresses: range) -> List[range]:
         """The ranges to which the table moves the addresses of a range: one for each record that moves some."""
-        return self._ranges(library().pdb_omap_ranges, self._table.handle, addresses)
+        return self._ranges(addresses, library().pdb_omap_ranges)
 
 
 Place = Tuple[int, int]  # a section, counted from 1, and an offset in it
@@ -170,18 +167,17 @@ class Translation:
 class AddressMap(_Ranges):
     """The address map of a file: its sections, and the OMAP tables of a tool that rearranged the image."""
 
-    def __init__(self, source: "_Source"):
-        with source._lent:
-            self._map = Opened(library().pdb_file_addresses, source.handle)
+    def __init__(self, file: Opened):
+        self._table = file.open(library().pdb_address_map_open)
 
     def _translate(self, form: AddressForm, section: int, offset: int) -> Translation:
         numbers = unsigned(section, 16), unsigned(offset)
-        it = written(_sys.Translation, library().pdb_translate, self._map.handle, form, *numbers)
+        it = self._table.written(_sys.Translation, library().pdb_translate, form, *numbers)
         return Translation(
             it.rva if it.has_rva else None,
-            (it.place.section, it.place.offset) if it.has_place else None,
+            (it.section_offset.section, it.section_offset.offset) if it.has_section_offset else None,
             it.internal_rva if it.has_internal_rva else None,
-            (it.internal_place.section, it.internal_place.offset) if it.has_internal_place else None,
+            (it.internal_section_offset.section, it.internal_section_offset.offset) if it.has_internal_section_offset else None,
         )
 
     def rva(self, address: int) -> Translation:
@@ -202,28 +198,27 @@ class AddressMap(_Ranges):
 
     def rva_ranges(self, addresses: range) -> List[range]:
         """Where the addresses of a range of the original image lie in the image as it is loaded."""
-        return self._ranges(library().pdb_rva_ranges, self._map.handle, addresses)
+        return self._ranges(addresses, library().pdb_address_ranges, AddressForm.INTERNAL_RVA)
 
     def internal_rva_ranges(self, addresses: range) -> List[range]:
         """Where the addresses of a range of the image as it is loaded lie in the original image."""
-        return self._ranges(library().pdb_internal_rva_ranges, self._map.handle, addresses)
+        return self._ranges(addresses, library().pdb_address_ranges, AddressForm.RVA)
 
 
 class Frames:
     """The frame table of a file, of both formats."""
 
-    def __init__(self, source: "_Source"):
-        with source._lent:
-            self._table = Opened(library().pdb_file_frames, source.handle)
+    def __init__(self, file: Opened):
+        self._table = file.open(library().pdb_frames_open)
 
     def at(self, address: int) -> Optional[Frame]:
         """The frame whose code has an address of the original image, or else the first frame above it."""
-        it = value(_sys.Frame, library().pdb_frames_at, self._table.handle, unsigned(address))
+        it = self._table.value(_sys.Frame, library().pdb_frames_at, unsigned(address))
         return None if it is None else _frame(it)
 
     def __iter__(self) -> Iterator[Frame]:
         """All frames, ordered by their starts."""
-        return map(_frame, items(_sys.Frame, library().pdb_frames_list, self._table.handle))
+        return map(_frame, self._table.items(_sys.Frame, library().pdb_frames_list) or ())
 
 
 def _frame(it: _sys.Frame) -> Frame:
@@ -317,54 +312,51 @@ class _Kept(Generic[_T]):
             return kept[self] if self in kept else kept.setdefault(self, self.func(it))
 
 
-class _Source:
+class _Source(Opened):
     """The bytes of a file, and its directory."""
 
     def __init__(self, data: Buffer):
+        super().__init__(kind=_sys.File)
         self._lent = Lent(data)
         self._kept: Dict[Any, Any] = {}
         try:
             with self._lent as place:
-                self._file = Opened(library().pdb_file_open, *place, kind=_sys.File)
+                self.begin(library().pdb_file_open, *place)
         except BaseException:
             self._lent.release()
             raise
-        self.page_size: int = written(c_uint32, library().pdb_file_page_size, self.handle).value
-        self.stream_count: int = written(c_uint32, library().pdb_file_stream_count, self.handle).value
+        self.sizes = self.written(_sys.Sizes, library().pdb_file_sizes)
 
-    @property
-    def handle(self) -> Any:
-        """The file, as a call takes it."""
-        return self._file.handle
+    def open(self, call: Any, *words: Any, stream: Optional[int] = None) -> Opened:
+        """What a call opens from it. ValueError if it is closed."""
+        with self._lent:
+            return super().open(call, *words, stream=stream)
+
+    def ask(self, call: Any, *words: Any, stream: Optional[int] = None, offset: Optional[int] = None) -> int:
+        """The status of a call. ValueError if it is closed."""
+        with self._lent:
+            return super().ask(call, *words, stream=stream, offset=offset)
 
     def close(self) -> None:
         """Gives the bytes back, and forgets the types."""
         self._lent.release()
-        self._file.close()
+        super().close()
         self._kept = {}
 
     def size(self, number: int) -> Optional[int]:
         """The size of a stream, None if it is absent."""
-        with self._lent:
-            try:
-                size: int = written(c_uint32, library().pdb_file_stream_size, self.handle, number).value
-                return size
-            except PdbError as error:
-                if error.status != Status.STREAM_NOT_FOUND:
-                    raise
-                return None
-
-    def read(self, number: int, limit: Optional[int] = None) -> Room:
-        """The bytes of a stream."""
-        most = 2**64 - 1 if limit is None else unsigned(limit, 64)
-        with self._lent:
-            return items(c_uint8, library().pdb_file_stream, self.handle, unsigned(number), most, stream=number)
+        try:
+            size: int = self.written(c_uint32, library().pdb_file_stream_size, number).value
+            return size
+        except PdbError as error:
+            if error.status != Status.STREAM_NOT_FOUND:
+                raise
+            return None
 
     @_Kept
     def types(self) -> Types:
         """The table of types."""
-        room = self.read(TYPES)
-        return Types(_view(room), room)
+        return Types(self)
 
 
 class Pdb:
@@ -378,12 +370,12 @@ class Pdb:
     @property
     def page_size(self) -> int:
         """The size of its pages in bytes."""
-        return self._source.page_size
+        return int(self._source.sizes.page_size)
 
     @property
     def streams(self) -> "Streams":
         """The streams, by their numbers."""
-        return Streams(self, self._source.stream_count)
+        return Streams(self, self._source.sizes.stream_count)
 
     def __enter__(self) -> "Pdb":
         return self
@@ -397,58 +389,43 @@ class Pdb:
         self._source.close()
         self._kept = {}
 
-    def _in_role(self, role: str) -> Tuple[Optional[int], Room, memoryview]:
-        number = getattr(self.roles, role)
-        room = None if number is None else self._source.read(number)
-        return number, room, _view(room) if room is not None else memoryview(b"")
-
     def stream(self, number: int, limit: Optional[int] = None) -> memoryview:
         """The bytes of a stream, at most `limit` of them."""
-        return _view(self._source.read(number, limit))
+        most = 2**64 - 1 if limit is None else unsigned(limit, 64)
+        return self._source.read(library().pdb_file_stream, unsigned(number), most, stream=number)
 
     def named_stream(self, name: Union[str, bytes]) -> memoryview:
         """The bytes of the first stream with this name, such as `/names`."""
-        return _view(self._named(name))
-
-    def _named(self, name: Union[str, bytes]) -> Room:
         word = name.encode() if isinstance(name, str) else bytes(name)
-        with self._lent:
-            return items(c_uint8, library().pdb_file_named_stream, self._source.handle, word, len(word))
+        return self._source.read(library().pdb_file_named_stream, word, len(word))
 
     @_Kept
     def information(self) -> Information:
         """The numbers in stream 1, which identify the file."""
-        with self._lent:
-            it = written(_sys.Information, library().pdb_file_information, self._source.handle)
-        return Information(it.version, it.signature, it.age, uuid.UUID(bytes_le=bytes(it.guid)))
+        it = self.identity
+        return Information(it.version, it.signature, it.information_age, it.guid)
 
     @_Kept
     def identity(self) -> Identity:
         """What identifies the file, and its key."""
-        with self._lent as place:
-            return identity_of(*place)
+        return identity_of(self._source)
 
     @_Kept
     def named_streams(self) -> Dict[str, Optional[int]]:
         """The number of the first stream of each name, None if the file gives none, in the file's order."""
-        with self._lent:
-            found = named_items(_sys.NamedStream, library().pdb_file_stream_names, self._source.handle)
-        rows, count, names = found or ([], 0, bytearray())
+        rows, count, names = self._source.named_items(_sys.NamedStream, library().pdb_file_stream_names) or ((), 0, b"")
         streams: Dict[str, Optional[int]] = {}
-        at = 0
         for row in rows[:count]:
-            name = bytes(names[at : at + row.name_length]).decode(errors="replace")
-            streams.setdefault(name, None if row.number == NO_STREAM else row.number)
-            at += row.name_length
+            name = names[row.name_offset : row.name_offset + row.name_length].decode(errors="replace")
+            streams.setdefault(name, None if row.number == StreamNumber.NO_STREAM else row.number)
         return streams
 
     @_Kept
     def roles(self) -> Roles:
         """The numbers of the streams in eleven roles."""
-        with self._lent:
-            it = written(_sys.Roles, library().pdb_file_roles, self._source.handle)
+        it = self._source.written(_sys.Roles, library().pdb_file_roles)
         numbers = {field.name: getattr(it, field.name) for field in fields(Roles)}
-        return Roles(**{name: None if number == NO_STREAM else number for name, number in numbers.items()})
+        return Roles(**{name: None if number == StreamNumber.NO_STREAM else number for name, number in numbers.items()})
 
     @property
     def types(self) -> Types:
@@ -458,14 +435,13 @@ class Pdb:
     @_Kept
     def ids(self) -> Ids:
         """The table of ids, which is stream 4."""
-        room, source = self._source.read(IDS), self._source
-        return Ids(_view(room), room, lambda: source.types)
+        source = self._source
+        return Ids(source, lambda: source.types)
 
     @_Kept
     def names(self) -> Names:
         """The string table, which is the stream `/names`."""
-        room = self._named("/names")
-        return Names(_view(room), room)
+        return Names(self._source)
 
     @property
     def sections(self) -> List[Section]:
@@ -478,25 +454,26 @@ class Pdb:
         return self._sections("original_section_headers")
 
     def _sections(self, role: str) -> List[Section]:
-        number, room, stream = self._in_role(role)
-        if room is None:
+        number = getattr(self.roles, role)
+        if number is None:
             return []
-        found = items(_sys.Section, library().pdb_sections, room, len(stream), stream=number)
-        names = [bytes(it.name).split(b"\0")[0].decode(errors="replace") for it in found]
         words = [field.name for field in fields(Section)][1:]
-        return [Section(name, *(getattr(it, word) for word in words)) for name, it in zip(names, found)]
+        return [
+            Section(bytes(it.name).split(b"\0")[0].decode(errors="replace"), *(getattr(it, word) for word in words))
+            for it in self._source.items(_sys.Section, library().pdb_file_sections, number, stream=number) or ()
+        ]
 
     @property
     def omap_to_src(self) -> Optional[Omap]:
         """The table by which addresses of the image as it is loaded go to the original image."""
-        number, room, stream = self._in_role("omap_to_src")
-        return None if room is None else Omap(stream, room, number)
+        number = self.roles.omap_to_src
+        return None if number is None else Omap(self._source, number)
 
     @property
     def omap_from_src(self) -> Optional[Omap]:
         """The table by which addresses of the original image go to the image as it is loaded."""
-        number, room, stream = self._in_role("omap_from_src")
-        return None if room is None else Omap(stream, room, number)
+        number = self.roles.omap_from_src
+        return None if number is None else Omap(self._source, number)
 
     @_Kept
     def address_map(self) -> AddressMap:
@@ -507,10 +484,6 @@ class Pdb:
     def frames(self) -> Frames:
         """The frame table."""
         return Frames(self._source)
-
-
-def _view(room: Room) -> memoryview:
-    return memoryview(room).cast("B").toreadonly()
 
 
 def open(path: "Union[str, bytes, os.PathLike[str], os.PathLike[bytes]]") -> Pdb:

@@ -1,12 +1,12 @@
 """What identifies a program database."""
 
 import uuid
-from ctypes import byref, c_uint8
+from ctypes import byref, c_char, c_size_t, c_uint8
 from dataclasses import dataclass
 from typing import FrozenSet, Optional
 
 from . import _sys
-from ._library import Buffer, Lent, items, library, written
+from ._library import Buffer, Lent, Opened, library
 from ._sys import Feature, Format, IdentityFlag, KeyForm
 
 
@@ -30,13 +30,14 @@ class Identity:
 
     def key(self, form: KeyForm = KeyForm.UPPER) -> str:
         """The key under which a symbol server stores the file."""
-        about = _sys.Identity(age=self.age, guid=(c_uint8 * 16)(*self.guid.bytes_le))
-        return bytes(items(c_uint8, library().pdb_key, byref(about), form)).decode()
+        about, buffer = _sys.Identity(age=self.age, guid=(c_uint8 * 16)(*self.guid.bytes_le)), (c_char * 64)()
+        library().pdb_key(byref(about), KeyForm(form), buffer, len(buffer), byref(c_size_t()))
+        return buffer.value.decode()
 
 
-def identity_of(*place: int) -> Identity:
-    """What identifies the file at an address, of a length."""
-    it = written(_sys.Identity, library().pdb_identity_of, *place)
+def identity_of(file: Opened) -> Identity:
+    """What identifies a file."""
+    it = file.written(_sys.Identity, library().pdb_file_identity)
     debug = (it.debug_age, it.machine, IdentityFlag(it.flags)) if it.has_debug_header else (None, None, None)
     features = frozenset(feature for feature in Feature if it.features & feature) if it.has_features else None
     return Identity(it.version, it.signature, it.information_age, uuid.UUID(bytes_le=bytes(it.guid)), features, *debug)

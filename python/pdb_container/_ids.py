@@ -1,18 +1,26 @@
 """The ids of a table: a class for each shape."""
 
-from ctypes import c_uint8, c_uint32
 from enum import IntEnum
 from typing import TYPE_CHECKING, Dict, List, Optional
 
 from ._library import library
-from ._rows import HAS, SHAPE, Getter, Number, Record, number, optional
-from ._sys import IdShape
+from ._rows import HAS, NO_SHAPE, SHAPE, Getter, Number, Record, number, optional
+from ._sys import Shape
 from ._types import Type
 
 if TYPE_CHECKING:
     from ._tables import Ids
 
-_SHAPES = list(IdShape)
+
+class IdShape(IntEnum):
+    """The shapes of ids."""
+
+    FUNCTION = Shape.FUNCTION_ID
+    MEMBER_FUNCTION = Shape.MEMBER_FUNCTION_ID
+    BUILD_INFO = Shape.BUILD_INFO_ID
+    STRING_LIST = Shape.STRING_LIST_ID
+    STRING = Shape.STRING_ID
+    TYPE_SOURCE = Shape.TYPE_SOURCE_ID
 
 
 def _type(about: str, header_name: str = "") -> Number[Type]:
@@ -40,21 +48,15 @@ class Id(Record):
     @property
     def shape(self) -> Optional[IdShape]:
         """What shape it has, None if its record can't be read."""
-        return None if self._raw[3] else _SHAPES[self._raw[SHAPE]]
+        return None if self._raw[3] else IdShape(self._raw[SHAPE])
 
     @property
     def name(self) -> Optional[str]:
         """The name of a function or a method, or a text; None for any other id."""
         return None
 
-    def _text(self) -> str:
-        return bytes(self._items(c_uint8, library().pdb_id_name) or b"").decode(errors="replace")
 
-    def _indexes(self) -> List[int]:
-        return list(self._items(c_uint32, library().pdb_id_list) or ())
-
-
-CLASSES: "Dict[int, type[Id]]" = {}  # the class of each shape
+CLASSES: "Dict[int, type[Id]]" = {}  # the class of each shape, and of ids that can't be read
 
 
 class UnreadableId(Id):
@@ -62,6 +64,9 @@ class UnreadableId(Id):
 
     __slots__ = ()
     _shown = ("index", "error")
+
+
+CLASSES[NO_SHAPE] = UnreadableId
 
 
 class _NamedId(Id):
@@ -73,7 +78,7 @@ class _NamedId(Id):
     @property
     def name(self) -> str:
         """The name, or the text."""
-        return self._text()
+        return self._text(library().pdb_type_name) or ""
 
 
 class Function(_NamedId, shape=IdShape.FUNCTION):

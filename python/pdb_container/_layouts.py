@@ -1,11 +1,11 @@
 """The definitions of types, their sizes and their layouts."""
 
-from ctypes import c_uint8, c_uint32, c_uint64
+from ctypes import c_uint32, c_uint64
 from dataclasses import dataclass
 from typing import List, Optional
 
 from . import _sys
-from ._library import Opened, items, library, named_items, unsigned, value
+from ._library import Opened, library, unsigned
 from ._sys import Extent, LayoutKind
 
 
@@ -55,40 +55,36 @@ def _row(row: _sys.LayoutRow, name: str) -> LayoutRow:
 class Definitions:
     """The definitions of a table of types, by name: its classes, unions and enumerations that are not only declared."""
 
-    def __init__(self, at: int, size: int, number: Optional[int]):
-        self.number = number
-        self._open = Opened(library().pdb_definitions_open, at, size, stream=number)
+    def __init__(self, table: Opened):
+        self._table = table
+        self.named("")  # finds them, or fails where the table is damaged
 
     def named(self, name: str) -> List[int]:
         """The indexes of all definitions of a name, in increasing order."""
         word = name.encode()
-        return list(items(c_uint32, library().pdb_definitions_named, self._open.handle, word, len(word)))
+        return list(self._table.items(c_uint32, library().pdb_types_named, word, len(word)) or ())
 
     def definition_of(self, index: int) -> Optional[int]:
         """The index of the definition of a type, which is its own index if it is a definition. None if the table doesn't
         define it, and for any other type."""
-        found = value(c_uint32, library().pdb_definition_of, self._open.handle, unsigned(index), stream=self.number)
+        found = self._table.value(c_uint32, library().pdb_type_definition, unsigned(index))
         return None if found is None else found.value
 
     def size_of(self, index: int) -> Optional[int]:
         """The size of a type in bytes. None if nothing says it, as of void, of a function or of a list."""
-        found = value(c_uint64, library().pdb_type_size, self._open.handle, unsigned(index), stream=self.number)
+        found = self._table.value(c_uint64, library().pdb_type_size, unsigned(index))
         return None if found is None else found.value
 
     def text_of(self, index: int, name: str = "") -> str:
         """The declaration of a name that has a type, in C++, or the text of the type alone if the name is empty."""
         word = name.encode()
-        text = items(c_uint8, library().pdb_type_text, self._open.handle, unsigned(index), word, len(word), stream=self.number)
-        return bytes(text).decode(errors="replace")
+        return (self._table.copied(library().pdb_type_text, unsigned(index), word, len(word)) or b"").decode(errors="replace")
 
     def layout_of(self, index: int) -> Optional[Layout]:
         """The layout of a class or a union. None if the type has no definition, or that is an enumeration."""
-        found = named_items(_sys.LayoutRow, library().pdb_layout, self._open.handle, unsigned(index), stream=self.number)
+        found = self._table.named_items(_sys.LayoutRow, library().pdb_type_layout, unsigned(index))
         if found is None:
             return None
-        room, count, names = found
-        rows, at = [], 0
-        for row in room[:count]:
-            rows.append(_row(row, names[at : at + row.name_length].decode(errors="replace")))
-            at += row.name_length
-        return Layout(self.definition_of(index) or index, self.size_of(index) or 0, rows)
+        rows, count, names = found
+        named = [_row(it, names[it.name_offset : it.name_offset + it.name_length].decode(errors="replace")) for it in rows[:count]]
+        return Layout(self.definition_of(index) or index, self.size_of(index) or 0, named)

@@ -6,10 +6,11 @@ import os
 import sys
 import sysconfig
 import threading
-from ctypes import byref, c_size_t, c_ssize_t, c_uint8, c_void_p, pythonapi
+from ctypes import byref, c_char, c_size_t, c_ssize_t, c_uint8, c_void_p, pythonapi
+from itertools import islice
 from pathlib import Path
 from types import SimpleNamespace
-from typing import Any, Optional, SupportsIndex, Tuple, Type, TypeVar
+from typing import Any, Iterator, Optional, SupportsIndex, Tuple, Type, TypeVar
 
 from . import _sys
 from ._sys import VERSION, Fault, Handle, Status
@@ -21,7 +22,12 @@ BUILT = {
     "linux-aarch64": "aarch64-linux/lib/libpdb_container.so.0",
     "win-amd64": "x86_64-windows/bin/pdb_container.dll",
 }
-
+# Statuses as plain numbers, and those of calls that found nothing wrong.
+OK, TOO_SMALL, NONE = int(Status.OK), int(Status.TOO_SMALL), int(Status.NONE)
+_FINE = OK, TOO_SMALL, NONE, int(Status.UNMAPPED)
+# The items and the bytes for which there is room without asking for their number.
+_USUAL, _USUAL_TEXT = 16, 256
+_TEXT = c_char * _USUAL_TEXT
 
 T = TypeVar("T", bound="ctypes._CData")
 # Any object that has a buffer, such as bytes or a mapped file.
@@ -62,12 +68,9 @@ class PdbError(ValueError):
         super().__init__(self._text(fault))
 
     def _text(self, fault: Fault) -> str:
-        room, length = (c_uint8 * 256)(), c_size_t()
-        status = library().pdb_error_text(byref(fault), room, len(room), byref(length), byref(Fault()))
-        if status == Status.OK:
-            text = bytes(room[: length.value]).decode(errors="replace")
-        else:
-            text = {Status.OUT_OF_MEMORY: "OutOfMemory", Status.IO_ERROR: "IO error while reading PDB"}.get(self.status, self.status.name)
+        buffer = _TEXT()
+        library().pdb_fault_text(byref(fault), buffer, _USUAL_TEXT, byref(c_size_t()))
+        text: str = buffer.value.decode(errors="replace")
         if self.stream is None:
             return text
         where = f"stream {self.stream}" if self.offset is None else f"stream {self.stream} byte {self.offset:#x}"
@@ -87,18 +90,6 @@ def _place() -> str:
     return next((str(path) for path in beside if path.is_file()), NAME)
 
 
-# Gives the library to one call at a time where the interpreter runs without its own lock.
-_LOCK = threading.Lock()
-
-
-def _locked(function: Any) -> Any:
-    def call(*words: Any) -> Any:
-        with _LOCK:
-            return function(*words)
-
-    return call
-
-
 def _load() -> SimpleNamespace:
     path = _place()
     try:
@@ -110,12 +101,11 @@ def _load() -> SimpleNamespace:
     # The last two digits are of versions with the same calls.
     if version // 100 != VERSION // 100 or not all(hasattr(loaded, name) for name in _sys.FUNCTIONS):
         raise LibraryError(f"{path} is not {NAME} of version {VERSION // 10_000}.{VERSION // 100 % 100}")
-    has_lock = getattr(sys, "_is_gil_enabled", lambda: True)()
     calls = SimpleNamespace()
     for name, (result, parameters) in _sys.FUNCTIONS.items():
         function = getattr(loaded, name)
         function.restype, function.argtypes = result, parameters
-        setattr(calls, name, function if has_lock else _locked(function))
+        setattr(calls, name, function)
     return calls
 
 
@@ -131,74 +121,94 @@ def library() -> SimpleNamespace:
 
 
 class Opened:
-    """What the library keeps open. A lock gives it to one call at a time, of any thread."""
+    """What the library keeps open. A lock gives it to one call at a time, of any thread, until the fault of that call is read."""
 
-    def __init__(self, call: Any, *words: Any, stream: Optional[int] = None, kind: Type[Any] = Handle):
-        self._handle, fault = kind(), Fault()
-        self.stream = stream
-        if call(*words, byref(self._handle), byref(fault)) != Status.OK:
-            raise PdbError(fault, stream)
+    def __init__(self, stream: Optional[int] = None, kind: Type[Any] = Handle):
+        self._handle = Handle.from_buffer(kind())  # with which each kind begins
+        self.handle, self.lock, self.stream = byref(self._handle), threading.RLock(), stream
 
-    @property
-    def handle(self) -> Any:
-        """What a call takes."""
-        return byref(self._handle)
+    def begin(self, call: Any, *words: Any) -> None:
+        """Opens it by a call."""
+        if call(*words, self.handle) != OK:
+            raise self.error()
+
+    def open(self, call: Any, *words: Any, stream: Optional[int] = None) -> "Opened":
+        """What a call opens from it."""
+        opened = Opened(stream)
+        with self.lock:
+            opened.begin(call, self.handle, *words)
+        return opened
 
     def close(self) -> None:
         """Frees what it holds. Closing again does nothing."""
-        library().pdb_close(byref(self._handle))
+        if self._handle.held:
+            with self.lock:
+                library().pdb_handle_close(self.handle)
 
     __del__ = close
 
+    def error(self, stream: Optional[int] = None, offset: Optional[int] = None) -> PdbError:
+        """The fault of the last call."""
+        return PdbError(self._handle.fault, self.stream if stream is None else stream, offset)
 
-def value(kind: Type[T], call: Any, *words: Any, stream: Optional[int] = None, offset: Optional[int] = None) -> Optional[T]:
-    """What a call writes, or None where there is no answer."""
-    answer, fault = kind(), Fault()
-    status = call(*words, byref(answer), byref(fault))
-    if status == Status.OK:
-        return answer
-    if status in (Status.NONE, Status.UNMAPPED):
-        return None
-    raise PdbError(fault, stream, offset)
+    def ask(self, call: Any, *words: Any, stream: Optional[int] = None, offset: Optional[int] = None) -> int:
+        """The status of a call, which is no error: there is an answer, or none, or too little room for it."""
+        with self.lock:
+            status: int = call(self.handle, *words)
+            if status not in _FINE:
+                raise self.error(stream, offset)
+        return status
 
+    def value(self, kind: Type[T], call: Any, *words: Any, offset: Optional[int] = None) -> Optional[T]:
+        """What a call writes, or None where there is no answer."""
+        answer = kind()
+        return answer if self.ask(call, *words, byref(answer), offset=offset) == OK else None
 
-def written(kind: Type[T], call: Any, *words: Any, stream: Optional[int] = None, offset: Optional[int] = None) -> T:
-    """What a call writes that has an answer for each question."""
-    found = value(kind, call, *words, stream=stream, offset=offset)
-    if found is None:
-        raise LookupError("the library has no answer")
-    return found
+    def written(self, kind: Type[T], call: Any, *words: Any, offset: Optional[int] = None) -> T:
+        """What a call writes that has an answer for each question."""
+        found = self.value(kind, call, *words, offset=offset)
+        if found is None:
+            raise LookupError("the library has no answer")
+        return found
 
+    def copied(self, call: Any, *words: Any, offset: Optional[int] = None) -> Optional[bytes]:
+        """The text or the bytes that a call copies, or None where there are none."""
+        # A buffer of its own for each call: another thread may run before the bytes are taken out.
+        buffer: Any = _TEXT()
+        length = c_size_t()
+        with self.lock:
+            status = call(self.handle, *words, buffer, _USUAL_TEXT, byref(length))
+            if status == TOO_SMALL:
+                buffer = (c_char * (length.value + 1))()
+                status = call(self.handle, *words, buffer, length.value + 1, byref(length))
+            if status not in _FINE:
+                raise self.error(offset=offset)
+        return buffer[: length.value] if status == OK else None
 
-def items(kind: Type[T], call: Any, *words: Any, stream: Optional[int] = None, offset: Optional[int] = None) -> Any:
-    """What a call copies into an array, or None where there is no answer. It says first how much that is."""
-    count, fault, room = c_size_t(), Fault(), (kind * 1)()
-    status = call(*words, room, 0, byref(count), byref(fault))
-    while status == Status.TOO_SMALL:
-        room = (kind * count.value)()
-        status = call(*words, room, len(room), byref(count), byref(fault))
-    if status == Status.OK:
-        return room if len(room) == count.value else (kind * count.value).from_buffer(room)
-    if status in (Status.NONE, Status.UNMAPPED):
-        return None
-    raise PdbError(fault, stream, offset)
+    def items(
+        self, kind: Any, call: Any, *words: Any, stream: Optional[int] = None, offset: Optional[int] = None
+    ) -> Optional[Iterator[Any]]:
+        """The items that a call copies, or None where there is no answer."""
+        count, status = c_size_t(_USUAL), TOO_SMALL
+        while status == TOO_SMALL:
+            buffer = (kind * count.value)()
+            status = self.ask(call, *words, buffer, len(buffer), byref(count), stream=stream, offset=offset)
+        return islice(buffer, count.value) if status == OK else None
 
+    def named_items(self, kind: Type[T], call: Any, *words: Any) -> Optional[Tuple[Any, int, Any]]:
+        """The same of a call that also copies the names of the items: an array of these, their number, and the names."""
+        count, size, status = c_size_t(_USUAL), c_size_t(512), TOO_SMALL
+        while status == TOO_SMALL:
+            rows, names = (kind * count.value)(), (c_char * size.value)()
+            status = self.ask(call, *words, rows, len(rows), byref(count), names, len(names), byref(size))
+        return (rows, count.value, names) if status == OK else None
 
-def named_items(kind: Type[T], call: Any, *words: Any, stream: Optional[int] = None) -> Optional[Tuple[Any, int, bytearray]]:
-    """The same of a call that also copies the names of the items, one after another: the items, their number, and the
-    names. Most answers fit at once."""
-    count, size, fault = c_size_t(16), c_size_t(512), Fault()
-    status: int = Status.TOO_SMALL
-    while status == Status.TOO_SMALL:
-        lengths = count.value, size.value
-        room, names = (kind * max(lengths[0], 1))(), bytearray(max(lengths[1], 1))
-        into = (c_uint8 * len(names)).from_buffer(names)
-        status = call(*words, room, lengths[0], byref(count), into, lengths[1], byref(size), byref(fault))
-    if status == Status.OK:
-        return room, count.value, names
-    if status in (Status.NONE, Status.UNMAPPED):
-        return None
-    raise PdbError(fault, stream)
+    def read(self, call: Any, *words: Any, stream: Optional[int] = None) -> memoryview:
+        """The bytes of a stream, which a call copies. It says first how many they are."""
+        length, buffer = c_size_t(), (c_uint8 * 0)()
+        while self.ask(call, *words, buffer, len(buffer), byref(length), stream=stream) == TOO_SMALL:
+            buffer = (c_uint8 * length.value)()
+        return memoryview(buffer).cast("B")[: length.value].toreadonly()
 
 
 class _Buffer(ctypes.Structure):

@@ -1,24 +1,26 @@
 """What a record says: the numbers of a row, and the names that the classes of records give them."""
 
 import struct
+from contextlib import suppress
+from ctypes import c_uint32
 from enum import IntEnum
-from typing import TYPE_CHECKING, Any, Callable, ClassVar, Dict, Generic, Optional, Tuple, Type, TypeVar
+from typing import TYPE_CHECKING, Any, Callable, ClassVar, Dict, Generic, List, Optional, Tuple, Type, TypeVar
 
 from . import _sys
-from ._library import PdbError, items
-from ._sys import NUMBERS, Fault, Has, IdShape
+from ._library import PdbError, library
+from ._sys import NUMBERS, Fault, Has, Shape
 
 _T = TypeVar("_T")
 _T_co = TypeVar("_T_co", covariant=True)
 
-# What the library writes of a type: last come the shape, which numbers there are, and ten numbers. Of a field, those, and
-# the length of its name and whether it has one.
+# What the library writes of a record: last come the shape, which numbers there are, and ten numbers. Of a field, those, and
+# where its name is, how long, and whether it has one.
 TYPE = struct.Struct("<6I2IQ9I4x")
-FIELD, FIELD_NAME = struct.Struct("<2IQ9I4x16x"), struct.Struct("<56xQI4x")
+FIELD, FIELD_NAME = struct.Struct("<2IQ9I4x24x"), struct.Struct("<56x2QI4x")
 _ROW = struct.Struct("<2IQ9I4x")
 NUMBERS_OF_A_ROW = 12
 SHAPE, HAS = -12, -11
-NOTHING = (0,) * NUMBERS_OF_A_ROW
+NO_SHAPE = -1  # in place of the shape of a record that can't be read
 
 Raw = Tuple[int, ...]
 Getter = Callable[[Any], Any]
@@ -76,9 +78,8 @@ class Row:
     _shown: ClassVar[Tuple[str, ...]] = ()
 
     def __init_subclass__(cls, shape: Optional[IntEnum] = None) -> None:
-        word = "row" if shape is None else shape.name.lower()
-        words = [f"{word}_id"] if isinstance(shape, IdShape) else [word, f"{word}_type"]
-        _name_numbers(cls, next((NUMBERS[it] for it in words if it in NUMBERS), NUMBERS["row"]))
+        word = "row" if shape is None else Shape(shape).name.lower()
+        _name_numbers(cls, next((NUMBERS[it] for it in (word, f"{word}_type") if it in NUMBERS), NUMBERS["row"]))
         if shape is not None:
             cls._register(shape)
 
@@ -93,8 +94,12 @@ class Row:
         return hash(self._raw)
 
     def __repr__(self) -> str:
-        numbers = ((name, getattr(self, name)) for name in self._shown)
-        shown = (f"{name}={it:#x}" if name.endswith("index") else f"{name}={it!r}" for name, it in numbers if it is not None)
+        shown = []
+        for name in self._shown:
+            with suppress(PdbError):  # of the name of a record behind those that the table's header counts
+                it = getattr(self, name)
+                if it is not None:
+                    shown.append(f"{name}={it:#x}" if name.endswith("index") else f"{name}={it!r}")
         return f"{type(self).__name__}({', '.join(shown)})"
 
     number = optional(
@@ -166,12 +171,12 @@ class Record(Row):
     @property
     def record(self) -> memoryview:
         """The bytes of the record, none for a primitive type."""
-        _, offset, length = self._raw[:3]
-        view: memoryview = self._table.stream[offset : offset + length]
-        return view
+        found = self._table._opened.copied(library().pdb_type_record, self._raw[0], offset=self._raw[1])
+        return memoryview(found or b"")
 
-    def _place(self) -> Tuple[int, int]:
-        return self._table._at + self._raw[1], self._raw[2]
+    def _text(self, call: Callable[..., int]) -> Optional[str]:
+        found = self._table._opened.copied(call, self._raw[0], offset=self._raw[1])
+        return None if found is None else str(found, "utf-8", "replace")
 
-    def _items(self, kind: Any, call: Any, *place: int) -> Any:
-        return items(kind, call, *self._place(), *place, stream=self._table.number, offset=self._raw[1])
+    def _indexes(self) -> List[int]:
+        return list(self._table._opened.items(c_uint32, library().pdb_type_numbers, self._raw[0], offset=self._raw[1]) or ())

@@ -1,61 +1,90 @@
 """The tables of types and of ids."""
 
-from ctypes import Array, addressof, byref, c_size_t, c_uint8, c_uint32
-from typing import Callable, Iterator, List, Optional, Tuple, Union, overload
+from contextlib import suppress
+from ctypes import byref, c_size_t, c_uint32
+from typing import Callable, Dict, Generic, Iterator, List, Optional, TypeVar, Union, overload
 
-from . import _ids, _sys
-from ._ids import Id, UnreadableId
+from . import _ids, _sys, _types
+from ._ids import Id
 from ._layouts import Definitions, Layout
-from ._library import Opened, PdbError, library, named_items, unsigned, value, written
-from ._rows import FIELD, FIELD_NAME, NOTHING, TYPE, raw_of
+from ._library import NONE, OK, Opened, PdbError, library, unsigned
+from ._rows import FIELD, FIELD_NAME, NO_SHAPE, TYPE, Record, raw_of
 from ._sys import Fault, Status, StreamNumber
-from ._types import CLASSES, FIELDS, FIRST_RECORD, NO_SHAPE, Field, Method, Type, UserDefinedType
+from ._types import FIELDS, FIRST_RECORD, Field, Method, Type, UserDefinedType
 
-TYPES, IDS = int(StreamNumber.TYPES_STREAM), int(StreamNumber.IDS_STREAM)  # the streams of both tables
+TYPES, IDS = int(StreamNumber.TYPES), int(StreamNumber.IDS)  # the streams of both tables
 BATCH = 512  # the records that a walk takes from the library at a time
+_R = TypeVar("_R", bound=Record)
 
 
-class Types:
+class _Table(Generic[_R]):
+    """A table of records, which stays open when its file is closed."""
+
+    _classes: "Dict[int, type[_R]]"  # the class of each shape
+
+    def __init__(self, file: Opened, number: int):
+        self.number, self._opened = number, file.open(library().pdb_types_open, number, stream=number)
+        counted = self._opened.written(_sys.IndexRange, library().pdb_types_range)
+        self.first_index: int = counted.first
+        self._count: int = counted.end - counted.first
+        # How many records the library's walk has read. It is the walk of the iterator that was the last to go on.
+        self._at: Optional[int] = 0
+
+    def _batches(self) -> Iterator[memoryview]:
+        """The records in their order, some at a time, as the library writes them. An error of the table itself is raised."""
+        opened, read = self._opened, library().pdb_types_read
+        at, status, rows, count = 0, OK, (_sys.Type * BATCH)(), c_size_t()
+        while status == OK:
+            with opened.lock:
+                if self._at != at:
+                    # Another walk has gone on since. The further this one is, the more it reads at once.
+                    opened.ask(library().pdb_types_rewind)
+                    for start in range(0, at, BATCH):
+                        read(opened.handle, rows, min(BATCH, at - start), byref(count))
+                    rows = (_sys.Type * max(BATCH, at // 4))()
+                self._at = None  # until it is known
+                status = read(opened.handle, rows, len(rows), byref(count))
+                self._at = at = at + count.value
+                error = None if status in (OK, Status.END) else opened.error()
+            yield memoryview(rows).cast("B")[: count.value * TYPE.size]
+        if error:
+            raise error
+
+    def __iter__(self) -> Iterator[_R]:
+        """Each record, from the first on. One that can't be read has an `error`. An error of the table itself is raised."""
+        classes = self._classes
+        for batch in self._batches():
+            for raw in TYPE.iter_unpack(batch):
+                yield classes[NO_SHAPE if raw[3] else raw[6]](self, raw)
+
+    def _find(self, index: int) -> _sys.FoundRecord:
+        """Where the record of an index is, or why it isn't found."""
+        opened, wanted, found, count = self._opened, c_uint32(index), _sys.FoundRecord(), c_size_t()
+        with opened.lock:
+            library().pdb_types_find(opened.handle, byref(wanted), 1, byref(found), 1, byref(count))
+        return found
+
+    def _parse(self, index: int, place: _sys.Record) -> _R:
+        """What the record of an index says, which is at a place."""
+        opened, row, offset = self._opened, _sys.Row(), place.offset
+        with opened.lock:
+            if library().pdb_type_parse(opened.handle, index, byref(row)) != OK:
+                raise opened.error(offset=offset)
+        return self._classes[row.shape](self, (index, offset, place.length, 0, 0, 0, *raw_of(row)))
+
+
+class Types(_Table[Type]):
     """A table of types: by an index or by the name of a class, a union or an enumeration, or one after another."""
 
-    def __init__(self, stream: memoryview, room: "Array[c_uint8]", number: Optional[int] = TYPES):
-        self.stream, self.number = stream, number
-        self._kept, self._at, self._size = room, addressof(room), len(stream)
-        self._table = self._open()
-        # A look-up leaves the walk along the same table where it is.
-        self._walks: List[Opened] = [self._table]
-        self._definitions: Optional[Definitions] = None
-        self.first_index: int = written(c_uint32, library().pdb_types_first_index, self._table.handle).value
+    _classes = _types.CLASSES
 
-    def _open(self) -> Opened:
-        return Opened(library().pdb_types_open, self._at, self._size, stream=self.number)
+    def __init__(self, file: Opened):
+        super().__init__(file, TYPES)
+        self._definitions: Optional[Definitions] = None
 
     def __len__(self) -> int:
         """The number of indexes that the header counts. A damaged table may have fewer types, or more."""
-        count: int = written(c_uint32, library().pdb_types_count, self._table.handle).value
-        return count
-
-    def __iter__(self) -> Iterator[Type]:
-        """Each type, from the first on. One that can't be read has an `error`. An error of the table itself is raised."""
-        # One walk at a time takes the table that is open already; another one opens a table of its own.
-        try:
-            walk = self._walks.pop()
-        except IndexError:
-            walk = self._open()
-        call, handle = library().pdb_types_read, walk.handle
-        room, count, fault = (_sys.Type * BATCH)(), c_size_t(), Fault()
-        whole, size = memoryview(room).cast("B"), TYPE.size
-        library().pdb_types_rewind(handle, byref(fault))
-        status: int = Status.OK
-        try:
-            while status == Status.OK:
-                status = call(handle, room, BATCH, byref(count), byref(fault))
-                for raw in TYPE.iter_unpack(whole[: count.value * size]):
-                    yield CLASSES[NO_SHAPE if raw[3] else raw[6]](self, raw)
-        finally:
-            self._walks.append(walk)
-        if status != Status.END:
-            raise PdbError(fault, self.number)
+        return self._count
 
     @overload
     def __getitem__(self, key: str) -> UserDefinedType: ...
@@ -68,19 +97,18 @@ class Types:
         is none."""
         if isinstance(key, str):
             return self[self._first_named(key)]
-        key = unsigned(key)
+        found = self._find(unsigned(key))
+        status = found.fault.status
+        if status == NONE and key >= FIRST_RECORD:
+            raise KeyError(key)
         try:
-            found = value(_sys.Record, library().pdb_types_find, self._table.handle, key, stream=self.number)
-            if found is None and key >= FIRST_RECORD:
-                raise KeyError(key)
-            offset, length = (0, 0) if found is None else (found.offset, found.length)
-            place = self._at + offset, length, key
-            row = written(_sys.Row, library().pdb_type_parse, *place, stream=self.number, offset=offset)
+            if status not in (OK, NONE):
+                raise PdbError(found.fault, self.number)
+            return self._parse(key, found.position)
         except PdbError as error:
             if error.status == Status.TYPE_NOT_FOUND:
                 raise KeyError(key) from None
             raise
-        return CLASSES[row.shape](self, (key, offset, length, 0, 0, 0, *raw_of(row)))
 
     def __contains__(self, key: object) -> bool:
         """Whether `types[key]` is a type. What is neither a number nor a text is none."""
@@ -101,27 +129,24 @@ class Types:
         """The fields of the list of an index, and of the lists in which it continues. If the type under an enumeration is
         given, the values are numbers of it; or else they have the signs that their records have, where -128 may be
         128."""
-        call, place = library().pdb_types_fields, unsigned(list_index)
-        found = named_items(_sys.Field, call, self._table.handle, place, stream=self.number)
+        found = self._opened.named_items(_sys.Field, library().pdb_type_fields, unsigned(list_index))
+        if found is None:
+            return []
+        rows, count, names = found
+        if underlying_type is not None:
+            for row in rows[:count]:
+                library().pdb_enumerator_typed(byref(row.info), underlying_type)
+        data = memoryview(rows).cast("B")[: count * FIELD.size]
         fields: List[Field] = []
-        at = 0
-        if found is not None:
-            rows, count, names = found
-            if underlying_type is not None:
-                for row in rows[:count]:
-                    library().pdb_enumerator_typed(byref(row.info), underlying_type)
-            data = memoryview(rows).cast("B")[: count * FIELD.size]
-            for raw, (length, has_name) in zip(FIELD.iter_unpack(data), FIELD_NAME.iter_unpack(data)):
-                end = at + length
-                name = names[at:end].decode(errors="replace") if has_name else None
-                fields.append(FIELDS[raw[0]](self, raw, name))
-                at = end
+        for raw, (at, length, has_name) in zip(FIELD.iter_unpack(data), FIELD_NAME.iter_unpack(data)):
+            name = names[at : at + length].decode("utf-8", "replace") if has_name else None
+            fields.append(FIELDS[raw[0]](self, raw, name))
         return fields
 
     def methods(self, list_index: int) -> List[Method]:
         """The methods of the list of an index."""
         found = self[list_index]
-        rows = found._items(_sys.Row, library().pdb_type_methods, list_index)
+        rows = self._opened.items(_sys.Row, library().pdb_type_methods, found.index, offset=found._raw[1])
         if rows is None:
             fault = Fault(Status.UNIMPLEMENTED_TYPE_KIND, int.from_bytes(found.record[:2], "little"))
             raise PdbError(fault, self.number, found._raw[1])
@@ -131,7 +156,7 @@ class Types:
     def definitions(self) -> Definitions:
         """The definitions of the table, which are found once, and the sizes, layouts and texts of its types."""
         if self._definitions is None:
-            self._definitions = Definitions(self._at, self._size, self.number)
+            self._definitions = Definitions(self._opened)
         return self._definitions
 
     def layout(self, key: Union[int, str]) -> Layout:
@@ -150,34 +175,25 @@ class Types:
         return indexes[0]
 
 
-class Ids:
+class Ids(_Table[Id]):
     """A table of ids: by an index, or one after another."""
 
-    def __init__(self, stream: memoryview, room: "Array[c_uint8]", types: Callable[[], Types], number: Optional[int] = IDS):
-        self.stream, self.number, self._types = stream, number, types
-        self._kept, self._at = room, addressof(room)
-        table, place, fault = Opened(library().pdb_types_open, self._at, len(stream), stream=number), _sys.Record(), Fault()
-        self.first_index: int = written(c_uint32, library().pdb_types_first_index, table.handle).value
-        self._places: List[Tuple[int, int]] = []
-        call = library().pdb_types_next
-        while call(table.handle, byref(place), byref(fault)) == Status.OK:
-            self._places.append((place.offset, place.length))
-        self._stop = fault
+    _classes = _ids.CLASSES
+
+    def __init__(self, file: Opened, types: Callable[[], Types]):
+        super().__init__(file, IDS)
+        self._types = types
+        self._length: Optional[int] = None
 
     def __len__(self) -> int:
         """How many ids the table has, up to its end or to where it is damaged."""
-        return len(self._places)
-
-    def __iter__(self) -> Iterator[Id]:
-        """Each id, from the first on. One that can't be read has an `error`. An error of the table itself is raised."""
-        for at in range(len(self)):
-            try:
-                yield self[self.first_index + at]
-            except PdbError as error:
-                fault = int(error.status), error.first, error.second
-                yield UnreadableId(self, (self.first_index + at, *self._places[at], *fault, *NOTHING))
-        if self._stop.status != Status.END:
-            raise PdbError(self._stop, self.number)
+        if self._length is None:
+            length = 0
+            with suppress(PdbError):
+                for batch in self._batches():
+                    length += len(batch) // TYPE.size
+            self._length = length
+        return self._length
 
     @property
     def types(self) -> Types:
@@ -186,13 +202,11 @@ class Ids:
 
     def __getitem__(self, index: int) -> Id:
         """The id of an index. KeyError if there is none."""
-        index = unsigned(index)
-        if not 0 <= index - self.first_index < len(self):
+        found = self._find(unsigned(index))
+        if found.fault.status != OK:
             raise KeyError(index)
-        offset, length = self._places[index - self.first_index]
-        row = written(_sys.Row, library().pdb_id_parse, self._at + offset, length, stream=self.number, offset=offset)
-        return _ids.CLASSES[row.shape](self, (index, offset, length, 0, 0, 0, *raw_of(row)))
+        return self._parse(index, found.position)
 
     def __contains__(self, index: object) -> bool:
         """Whether there is an id of this index. What is no whole number is none."""
-        return isinstance(index, int) and 0 <= index - self.first_index < len(self)
+        return isinstance(index, int) and 0 <= index < 1 << 32 and bool(self._find(index).fault.status == OK)

@@ -1,20 +1,16 @@
 """The types of a table and the fields of their lists: a class for each shape."""
 
-from ctypes import byref, c_size_t, c_uint8, c_uint32
 from enum import IntEnum
-from typing import TYPE_CHECKING, Callable, Dict, List, Optional, Tuple, TypeVar
+from typing import TYPE_CHECKING, Callable, Dict, List, Optional, TypeVar
 
-from ._library import PdbError, library
-from ._rows import HAS, SHAPE, Getter, Number, Raw, Record, Row, number, number_as, optional
-from ._sys import PRIMITIVES, ClassKind, Fault, FieldAttribute, FunctionAttribute, ModifierBit, PointerAttribute, Property, Shape, Status
+from ._library import library
+from ._rows import HAS, NO_SHAPE, SHAPE, Getter, Number, Raw, Record, Row, number, number_as, optional
+from ._sys import PRIMITIVES, ClassKind, FieldAttribute, FunctionAttribute, ModifierBit, PointerAttribute, Property, Shape
 
 if TYPE_CHECKING:
     from ._tables import Types
 
 FIRST_RECORD = 0x1000  # the indexes below it are those of primitive types
-USUAL = 256  # bytes of a name for which there is room without asking for its length
-_ROOM = c_uint8 * USUAL
-_OK, _TOO_SMALL, _NONE = int(Status.OK), int(Status.TOO_SMALL), int(Status.NONE)
 _FORWARD = int(Property.FORWARD_REFERENCE)
 
 _SHAPES = list(Shape)
@@ -68,25 +64,7 @@ class Type(Record):
         """Whether it is a class, a union or an enumeration that is defined here, and not only declared."""
         return False
 
-    def _text(self, call: Callable[..., int]) -> Optional[str]:
-        # A buffer of its own for each call: another thread may run before the text is decoded.
-        index, offset, size = self._raw[:3]
-        at, room, length, fault = self._table._at + offset, _ROOM(), c_size_t(), Fault()
-        status = call(at, size, index, room, USUAL, byref(length), byref(fault))
-        if status == _TOO_SMALL:
-            room = (c_uint8 * length.value)()
-            status = call(at, size, index, room, length.value, byref(length), byref(fault))
-        if status == _OK:
-            return str(memoryview(room)[: length.value], "utf-8", "replace")
-        if status == _NONE:
-            return None
-        raise PdbError(fault, self._table.number, self._raw[1])
 
-    def _indexes(self, call: Callable[..., int]) -> List[int]:
-        return list(self._items(c_uint32, call, self.index) or ())
-
-
-NO_SHAPE = -1
 # The class of each shape, and of types that can't be read.
 CLASSES: "Dict[int, type[Type]]" = dict.fromkeys(Shape, Type)
 
@@ -260,7 +238,7 @@ class Array(Type, shape=Shape.ARRAY):
     @property
     def dimensions(self) -> List[int]:
         """Its size in bytes up to each dimension, the innermost first: each includes those before it."""
-        return self._indexes(library().pdb_type_dimensions)
+        return self._indexes()
 
     @property
     def size(self) -> int:
@@ -324,7 +302,7 @@ class ArgumentList(Type, shape=Shape.ARGUMENT_LIST):
     @property
     def argument_indexes(self) -> List[int]:
         """The types of the arguments."""
-        return self._indexes(library().pdb_type_arguments)
+        return self._indexes()
 
     @property
     def arguments(self) -> List[Type]:

@@ -1,11 +1,14 @@
 """Whether a program database is whole."""
 
+from ctypes import byref, c_size_t
 from dataclasses import dataclass
 from typing import List, Optional
 
 from . import _sys
-from ._library import Buffer, Lent, PdbError, items, library
-from ._sys import Inconsistency, Part
+from ._library import OK, TOO_SMALL, Buffer, Lent, PdbError, library
+from ._sys import Fault, Inconsistency, Part
+
+USUAL = 64  # findings for which there is room at once
 
 
 @dataclass(frozen=True)
@@ -50,7 +53,12 @@ def validate(data: Buffer, every: bool = False) -> List[Finding]:
     """What is wrong in the bytes of a file: the first error of each part, or its first warning if it has no error; with
     `every`, everything. The file is whole exactly if all of it are warnings: its types, ids, names, sections, addresses
     and frames; modules and symbols are not read, only their sizes are checked."""
-    lent = Lent(data)
+    lent, count, status = Lent(data), c_size_t(USUAL), TOO_SMALL
     with lent as place:
         lent.release()
-        return [_finding(it) for it in items(_sys.Finding, library().pdb_validate, *place, int(every))]
+        while status == TOO_SMALL:
+            findings = (_sys.Finding * count.value)()
+            status = library().pdb_validate(*place, int(every), findings, len(findings), byref(count))
+    if status != OK:
+        raise PdbError(Fault(status))
+    return [_finding(it) for it in findings[: count.value]]

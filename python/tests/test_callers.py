@@ -14,7 +14,6 @@ import sys
 import threading
 import time
 import unittest
-from unittest import mock
 
 import pdb_container
 from pdb_container import FieldAttribute, Pdb, PdbError, PointerAttribute, Property, Shape, Status, validate
@@ -71,19 +70,53 @@ class Threads(unittest.TestCase):
                     thread.join()
                 self.assertEqual(found, [True] * 4)
 
-    def test_interpreter_without_its_lock(self):
-        """Where the interpreter has no lock, the package's own lets one call at a time into the library."""
-        with mock.patch.object(sys, "_is_gil_enabled", lambda: False, create=True):
-            with mock.patch.object(pdb_container._library, "_loaded", None), pdb_container.open(SAMPLE) as pdb:
-                names = [it.name for it in pdb.types]
+    def test_one_call_at_a_time(self):
+        """A call on a file or a table waits while another thread makes one."""
+        with pdb_container.open(SAMPLE) as pdb:
+            types, ids, names = pdb.types, pdb.ids, pdb.names
+            calls = {
+                pdb._source: lambda: bytes(pdb.stream(1)),
+                types._opened: lambda: [it.name for it in types],
+                ids._opened: lambda: [it.name for it in ids],
+                names._table: lambda: list(names),
+            }
+            for opened, call in calls.items():
                 read = []
-                thread = threading.Thread(target=lambda: read.append([it.name for it in pdb.types]))
-                with pdb_container._library._LOCK:
+                thread = threading.Thread(target=lambda: read.append(call()))
+                with opened.lock:
                     thread.start()
-                    thread.join(0.2)
+                    thread.join(0.1)
                     self.assertTrue(thread.is_alive())
                 thread.join()
-                self.assertEqual(read, [names])
+                self.assertEqual(read, [call()])
+
+    def test_errors_of_one_table(self):
+        """Each error has the numbers of its own call, whichever calls other threads make."""
+        with pdb_container.open(SAMPLE) as pdb:
+            types = pdb.types
+            kinds = {it.index: int.from_bytes(it.record[:2], "little") for it in types if it.shape is not Shape.FIELD_LIST}
+            wrong, until = [], time.monotonic() + LONG
+
+            def read(start: int):
+                while time.monotonic() < until and not wrong:
+                    for index in list(kinds)[start:]:
+                        try:
+                            types.fields(index)
+                        except PdbError as error:
+                            if error.first != kinds[index]:
+                                wrong.append((index, error.first, kinds[index]))
+
+            usual = sys.getswitchinterval()
+            sys.setswitchinterval(1e-6)
+            try:
+                threads = [threading.Thread(target=read, args=(start,)) for start in range(8)]
+                for thread in threads:
+                    thread.start()
+                for thread in threads:
+                    thread.join()
+            finally:
+                sys.setswitchinterval(usual)
+            self.assertEqual(wrong, [])
 
     def test_closed_by_another_thread(self):
         """A thread that reads while another one closes has an answer, or the error of a closed file."""

@@ -174,6 +174,29 @@ class OfFile(unittest.TestCase):
             self.assertEqual(next(iter(self.pdb.types)).index, self.pdb.types.first_index)
             break
 
+    def test_walks_of_many_batches(self):
+        """Walks beside one another, which take few records at a time, when the file is closed too."""
+        types, ids = self.pdb.types, self.pdb.ids
+        want, count = list(types), len(ids)
+        self.pdb.close()
+        with mock.patch.object(pdb_container._tables, "BATCH", 4):
+            walks, found = [iter(types) for _ in range(3)], [[], [], []]
+            numbers = random.Random(5)
+            while walks[0] or walks[1] or walks[2]:
+                at = numbers.choice([at for at in range(3) if walks[at]])
+                it = next(walks[at], None)
+                if it is None:
+                    walks[at] = None
+                else:
+                    found[at].append(it)
+            self.assertEqual(found, [want] * 3)
+            self.assertEqual([it.index for it in ids], list(range(ids.first_index, ids.first_index + count)))
+
+    def test_long_texts(self):
+        text_of = self.pdb.types.definitions.text_of
+        for length in [*range(240, 260), 5_000]:
+            self.assertEqual(text_of(0x74, "x" * length), "int " + "x" * length)
+
     def test_class(self):
         derived = self.pdb.types["Derived"]
         self.assertEqual((derived.shape, derived.number, derived.name, derived.unique_name), (Shape.CLASS, 128, "Derived", ".?AVDerived@@"))

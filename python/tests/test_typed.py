@@ -108,7 +108,7 @@ class Typed(unittest.TestCase):
         for it in self.types:
             self.assertEqual((type(self.types[it.index]), self.types[it.index]), (type(it), it))
         self.assertIsInstance(self.types["Derived"], Class)
-        self.assertEqual(sorted(Shape), sorted({Shape.PRIMITIVE, *TYPES, *FIELDS}))
+        self.assertEqual(sorted(Shape), sorted({Shape.PRIMITIVE, *TYPES, *FIELDS, *IdShape}))
 
     def test_numbers_of_the_records(self):
         """The numbers under their names, read from the records as cvinfo.h lays them out."""
