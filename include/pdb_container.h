@@ -896,7 +896,7 @@ typedef struct pdb_bitfield {
         reserved_6, position;
 } pdb_bitfield;
 
-/* pdb_type_fields writes its fields and those of its continuations */
+/* pdb_type_fields writes its fields */
 typedef struct pdb_field_list {
     uint32_t shape, has;
     uint64_t reserved;

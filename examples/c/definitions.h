@@ -4,10 +4,10 @@
 /* Prints the members of a class, or the values of an enumeration, as numbers of the type under it. */
 static void print_fields(pdb_types *types, uint32_t list, uint32_t underlying_type) {
     size_t count = 0, size = 0;
-    if (pdb_type_fields(types, list, NULL, 0, &count, NULL, 0, &size) != PDB_TOO_SMALL) check(&types->handle);
+    if (pdb_type_fields(types, list, 1, NULL, 0, &count, NULL, 0, &size) != PDB_TOO_SMALL) check(&types->handle);
     pdb_field *fields = room_for(count, sizeof *fields);
     char *names = room_for(size, 1);
-    pdb_type_fields(types, list, fields, count, &count, names, size, &size);
+    pdb_type_fields(types, list, 1, fields, count, &count, names, size, &size);
     check(&types->handle);
     const char *before = "";
     for (size_t at = 0; at < count; at++) {

@@ -28,10 +28,10 @@ static void print_record(pdb_types *types, uint32_t index) {
 
 static void print_fields(pdb_types *types, uint32_t index) {
     size_t count = 0, size = 0;
-    if (pdb_type_fields(types, index, NULL, 0, &count, NULL, 0, &size) != PDB_TOO_SMALL) check(&types->handle);
+    if (pdb_type_fields(types, index, 1, NULL, 0, &count, NULL, 0, &size) != PDB_TOO_SMALL) check(&types->handle);
     pdb_field *fields = room_for(count, sizeof *fields);
     char *names = room_for(size, 1);
-    pdb_type_fields(types, index, fields, count, &count, names, size, &size);
+    pdb_type_fields(types, index, 1, fields, count, &count, names, size, &size);
     check(&types->handle);
     for (size_t i = 0; i < count; i++) puts(fields[i].has_name ? names + fields[i].name_offset : "-");
     free(fields);

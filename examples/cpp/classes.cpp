@@ -73,10 +73,10 @@ class Types {
     // The fields of a list and of those in which it goes on.
     std::vector<Field> fields(uint32_t index) {
         size_t count = 0, size = 0;
-        uint32_t status = pdb_type_fields(&types, index, nullptr, 0, &count, nullptr, 0, &size);
+        uint32_t status = pdb_type_fields(&types, index, 1, nullptr, 0, &count, nullptr, 0, &size);
         std::vector<pdb_field> rows(count);
         std::vector<char> names(size);
-        if (status == PDB_TOO_SMALL) status = pdb_type_fields(&types, index, rows.data(), count, &count, names.data(), size, &size);
+        if (status == PDB_TOO_SMALL) status = pdb_type_fields(&types, index, 1, rows.data(), count, &count, names.data(), size, &size);
         check(status);
         std::vector<Field> all;
         for (auto &row : rows) all.push_back({row.info, names.data() + row.name_offset});

@@ -129,7 +129,7 @@ class Types(_Table[Type]):
         """The fields of the list of an index, and of the lists in which it continues. If the type under an enumeration is
         given, the values are numbers of it; or else they have the signs that their records have, where -128 may be
         128."""
-        found = self._opened.named_items(_sys.Field, library().pdb_type_fields, unsigned(list_index))
+        found = self._opened.named_items(_sys.Field, library().pdb_type_fields, unsigned(list_index), 1)
         if found is None:
             return []
         rows, count, names = found

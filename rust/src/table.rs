@@ -78,10 +78,10 @@ impl Table {
         })
     }
 
-    /// The fields of the list of an index, and of the lists in which it continues.
-    pub fn fields(&self, list: u32) -> Result<Fields> {
+    /// The fields of the list of an index, and if it is whole those of the lists in which it continues.
+    pub fn fields(&self, list: u32, is_whole: bool) -> Result<Fields> {
         let found = self.handle.named_items(|table, to, size, count, names, room, length| unsafe {
-            sys::pdb_type_fields(table, list, to, size, count, names, room, length)
+            sys::pdb_type_fields(table, list, is_whole.into(), to, size, count, names, room, length)
         });
         let (rows, names) = self.located(found)?.unwrap_or_default();
         Ok(Fields { rows, names })
@@ -256,9 +256,8 @@ impl<'t> Record<'t> {
     }
 
     /// The fields in it, if it is a list of them, without those of the list in which it continues.
-    pub fn own_fields(&self, continuation: Option<u32>) -> Result<Vec<(Row, Name<'t>)>> {
-        let fields = self.table.fields(self.index)?;
-        let others = continuation.map_or(Ok(0), |list| self.table.fields(list).map(|it| it.len()))?;
+    pub fn own_fields(&self) -> Result<Vec<(Row, Name<'t>)>> {
+        let fields = self.table.fields(self.index, false)?;
         let mut rest = self.bytes;
         let field = |it: Field<'_>| {
             let name = borrowed(rest, it.name.unwrap_or_default().as_bytes());
@@ -266,7 +265,7 @@ impl<'t> Record<'t> {
             rest = &rest[name.as_bytes().as_ptr_range().end as usize - rest.as_ptr() as usize..];
             (it.row, name)
         };
-        Ok(fields.iter().take(fields.len().saturating_sub(others)).map(field).collect())
+        Ok(fields.iter().map(field).collect())
     }
 }
 

@@ -48,7 +48,7 @@ impl Types {
 
     /// The fields of the list of an index, and of the lists in which it continues.
     pub fn fields(&self, list: u32) -> Result<Fields> {
-        self.table().fields(list)
+        self.table().fields(list, true)
     }
 
     /// The values of an enumeration, given the list of its fields and the type under it, of which they are numbers. In

@@ -500,7 +500,7 @@ static void ask_refused_records(void) {
 #define PARSED(what, number, bytes) REFUSED(what, number, bytes, pdb_type_parse(it, 0x1000, &info))
 #define NAMED(what, number, bytes) REFUSED(what, number, bytes, pdb_type_name(it, 0x1000, text, ROOM, &length))
 #define NUMBERS(what, of, bytes) REFUSED(what, of, bytes, pdb_type_numbers(it, 0x1000, &number, 1, &length))
-#define FIELDS(what, bytes) REFUSED(what, PDB_TYPES, bytes, pdb_type_fields(it, 0x1000, &field, 1, &count, text, ROOM, &length))
+#define FIELDS(what, bytes) REFUSED(what, PDB_TYPES, bytes, pdb_type_fields(it, 0x1000, 1, &field, 1, &count, text, ROOM, &length))
     PARSED("short record", PDB_TYPES, "\2");
     PARSED("kind of row", PDB_TYPES, "\x1d\x15");
     PARSED("pointer", PDB_TYPES, "\2\x10\x74\0\0\0\xac\0\0\0");
@@ -538,9 +538,10 @@ static void ask_refused_table(pdb_types *types) {
     told("no type", &types->handle, pdb_type_parse(types, UINT32_MAX, &info));
     told("no record", &types->handle, pdb_type_record(types, UINT32_MAX, stream, ROOM, &length));
     told("record of an integer", &types->handle, pdb_type_record(types, 0x74, stream, ROOM, &length));
-    told("fields of an integer", &types->handle, pdb_type_fields(types, 0x74, &field, 1, &count, text, ROOM, &length));
-    told("fields of an array", &types->handle, pdb_type_fields(types, 0x1001, &field, 1, &count, text, ROOM, &length));
-    told("fields of no type", &types->handle, pdb_type_fields(types, 0x2000, &field, 1, &count, text, ROOM, &length));
+    told("fields of an integer", &types->handle, pdb_type_fields(types, 0x74, 1, &field, 1, &count, text, ROOM, &length));
+    told("fields of an array", &types->handle, pdb_type_fields(types, 0x1001, 1, &field, 1, &count, text, ROOM, &length));
+    told("own fields of an array", &types->handle, pdb_type_fields(types, 0x1001, 0, &field, 1, &count, text, ROOM, &length));
+    told("fields of no type", &types->handle, pdb_type_fields(types, 0x2000, 1, &field, 1, &count, text, ROOM, &length));
     told("no definition", &types->handle, pdb_type_definition(types, 0x2000, &number));
     told("size of no type", &types->handle, pdb_type_size(types, 0x2000, &size));
     told("text of no type", &types->handle, pdb_type_text(types, 0x2000, NULL, 0, text, ROOM, &length));

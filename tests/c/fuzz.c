@@ -45,7 +45,7 @@ static void ask_index(pdb_types *types, uint32_t index) {
     told(it, pdb_type_numbers(types, index, ITEMS(uint32_t, 2), &length));
     told(it, pdb_type_numbers(types, index, ITEMS(uint32_t, ROWS), &length));
     told(it, pdb_type_methods(types, index, ITEMS(pdb_type_info, 3), &length));
-    told(it, pdb_type_fields(types, index, ITEMS(pdb_field, ROWS), &length, TEXT(ROOM), &size));
+    told(it, pdb_type_fields(types, index, 1, ITEMS(pdb_field, ROWS), &length, TEXT(ROOM), &size));
     told(it, pdb_type_definition(types, index, &definition));
     told(it, pdb_type_size(types, index, &bytes));
     told(it, pdb_type_text(types, index, "it", 2, TEXT(200), &length));

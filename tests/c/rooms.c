@@ -58,7 +58,7 @@ CALL(type_name, char, pdb_type_name(&types, asked_index, items, room_length, len
 CALL(unique_name, char, pdb_type_unique_name(&types, asked_index, items, room_length, length))
 CALL(numbers, uint32_t, pdb_type_numbers(&types, asked_index, items, room_length, length))
 CALL(methods, pdb_type_info, pdb_type_methods(&types, asked_index, items, room_length, length))
-CALL(type_fields, pdb_field, pdb_type_fields(&types, asked_index, items, room_length, length, names, names_length, size))
+CALL(type_fields, pdb_field, pdb_type_fields(&types, asked_index, 1, items, room_length, length, names, names_length, size))
 CALL(type_text, char, pdb_type_text(&types, asked_index, "it", 2, items, room_length, length))
 CALL(layout, pdb_layout_row, pdb_type_layout(&types, asked_index, items, room_length, length, names, names_length, size))
 

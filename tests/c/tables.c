@@ -235,14 +235,14 @@ static int is_list(uint32_t index, list *it) {
     free(it->fields);
     free(it->names);
     *it = (list){0};
-    uint32_t status = had(&table.handle, pdb_type_fields(&table, index, NULL, 0, &it->count, NULL, 0, &it->size));
+    uint32_t status = had(&table.handle, pdb_type_fields(&table, index, 1, NULL, 0, &it->count, NULL, 0, &it->size));
     pdb_fault wanted = list_fault(index);
     if (wanted.status) return EXPECT(status == wanted.status && !it->count && !it->size), 0;
     EXPECT(status == (it->count ? PDB_TOO_SMALL : PDB_OK));
     it->fields = room_for(it->count, sizeof *it->fields);
     it->names = room_for(it->size, 1);
     size_t fields_count = 7, size = 7, at = 0;
-    EXPECT(had(&table.handle, pdb_type_fields(&table, index, it->fields, it->count, &fields_count, it->names, it->size, &size)) == PDB_OK);
+    EXPECT(had(&table.handle, pdb_type_fields(&table, index, 1, it->fields, it->count, &fields_count, it->names, it->size, &size)) == PDB_OK);
     for (size_t i = 0; i < it->count; at += it->fields[i++].name_length + 1)
         EXPECT(it->fields[i].name_offset == at && at < size && strlen(it->names + at) == it->fields[i].name_length);
     EXPECT(fields_count == it->count && size == it->size && at == size);
@@ -275,7 +275,7 @@ static void check_closed(pdb_types *closed) {
     length = 7;
     EXPECT(had(&closed->handle, pdb_types_read(closed, &type, 1, &length)) == PDB_NOT_OPEN && !length && type.position.length == 7);
     length = 7;
-    EXPECT(had(&closed->handle, pdb_type_fields(closed, 0x1000, none, 1, &length, (char *)record, MOST, &size)) == PDB_NOT_OPEN && !length && !size);
+    EXPECT(had(&closed->handle, pdb_type_fields(closed, 0x1000, 1, none, 1, &length, (char *)record, MOST, &size)) == PDB_NOT_OPEN && !length && !size);
 }
 
 // Handles that were moved are as they were, also when the table keeps its definitions; where they were is nothing.

@@ -241,30 +241,30 @@ REFUSED = [
 ]  # fmt: skip
 REFUSED_OF_TABLE = [
     ("no type", 15, 0xFFFFFFFF), ("no record", 15, 0xFFFFFFFF), ("record of an integer", 106, 0),
-    ("fields of an integer", 17, 0xFFFF), ("fields of an array", 17, 0x1503), ("fields of no type", 15, 0x2000),
-    ("no definition", 15, 0x2000), ("size of no type", 15, 0x2000), ("text of no type", 15, 0x2000),
+    ("fields of an integer", 17, 0xFFFF), ("fields of an array", 17, 0x1503), ("own fields of an array", 106, 0),
+    ("fields of no type", 15, 0x2000), ("no definition", 15, 0x2000), ("size of no type", 15, 0x2000), ("text of no type", 15, 0x2000),
     ("layout of no type", 15, 0x2000), ("closed types", NOT_OPEN, 0),
 ]  # fmt: skip
 
 # The texts of faults by their statuses, with the number that goes with each.
 TEXTS = {
     0: "success",
-    1: "UnrecognizedFileFormat",
+    1: "not a program database of version 7.00",
     2: "MSF referred to page number ({}) out of range",
     3: "The MSF header specifies an invalid page size ({} bytes)",
     4: "The requested stream ({}) is not stored in this file",
-    5: "StreamNameNotFound",
+    5: "no stream has this name",
     6: "{} stream has an invalid length or alignment for its records",
     7: "the file ends too soon",
-    8: "UnexpectedEof",
+    8: "the bytes end too soon",
     9: "Unimplemented PDB feature: {}",
     13: "The type information header was invalid: {}",
-    14: "TypeTooShort",
+    14: "a record's length leaves no room for its kind",
     15: "Type {} not found",
     17: "Support for types of kind 0x{:04x} is not implemented",
     20: "Variable-length numeric parsing encountered an unexpected prefix (0x{:04x})",
-    21: "AddressMapNotFound",
-    28: "OutOfMemory",
+    21: "the file has no section headers, and so no address map",
+    28: "an allocation failed",
     100: "the handle is open already",
     101: "the handle is not open",
     102: "the array has no room for the answer",

@@ -55,7 +55,7 @@ export function entriesOf(types, index) {
 function fieldsOf(types, list, underlying) {
   const { native, records, handle } = types;
   if (!records.has(list) || shapeOf(records.code(list)) !== SHAPE.FIELD_LIST) return [];
-  const words = ["pdb_type_fields", handle, list];
+  const words = ["pdb_type_fields", handle, list, 1];
   const fields = underlying === undefined ? native.named(Field, ...words) : native.enumerators(Field, underlying, ...words);
   return fields.map((field) => entryOf(types, field.info, field.name));
 }

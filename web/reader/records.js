@@ -1,13 +1,13 @@
 // The records of a table of types or of ids: what kind each is of.
 import { textOf } from "./errors.js";
-import { codeOf, SHAPE } from "./kinds.js";
-import { HAS, IndexRange, Type } from "./structures.js";
+import { codeOf } from "./kinds.js";
+import { IndexRange, Type } from "./structures.js";
 
 const OK = 0, END = 105;
 const BATCH = 4096;
 /** The words of structure pdb_type: their number, and where those are of which a table keeps something. */
 const WORDS = Type.size / 4;
-const STATUS_WORD = 3, SHAPE_WORD = 6, HAS_WORD = 7, KIND_WORD = 10, PROPERTIES_WORD = 12, LIST_INDEX_WORD = 17;
+const STATUS_WORD = 3, SHAPE_WORD = 6, KIND_WORD = 10, PROPERTIES_WORD = 12;
 
 const grown = (array, length) => {
   if (length <= array.length) return array;
@@ -20,8 +20,6 @@ export class Records {
   length = 0;
   /** Why the walk along the table stopped before its end, if it did. */
   problem;
-  /** The indexes of the lists in which others continue. */
-  continuations = new Set();
   #codes = new Uint8Array(BATCH);
 
   /** The table of a handle. */
@@ -36,9 +34,8 @@ export class Records {
     this.problem = this.batches((words, count) => {
       this.#codes = grown(this.#codes, this.length + count);
       for (let at = 0; at < count * WORDS; at += WORDS) {
-        const [shape, has] = [words[at + SHAPE_WORD], words[at + HAS_WORD]];
+        const shape = words[at + SHAPE_WORD];
         this.#codes[this.length++] = codeOf(words[at + STATUS_WORD], shape, words[at + KIND_WORD], words[at + PROPERTIES_WORD]);
-        if (shape === SHAPE.FIELD_LIST && has & HAS.listIndex) this.continuations.add(words[at + LIST_INDEX_WORD]);
       }
     });
   }

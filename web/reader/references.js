@@ -65,14 +65,14 @@ export class References {
     this.#targets[this.#count++] = target;
   }
 
-  /** Adds the references of the entries of a record, if it is a list that can be read. The entries of a list in which
-   * another one continues come with that one. */
+  /** Adds the references of the entries of a record, if it is a list that can be read. */
   #addList(shape, index, room) {
-    const { native, records, handle } = this.types;
-    if (!(shape in LISTS) || records.continuations.has(index)) return;
+    const { native, handle } = this.types;
+    if (!(shape in LISTS)) return;
     const [name, type] = LISTS[shape];
     const most = Math.floor(room.entriesMost / type.size);
-    const words = [handle, index, room.entries, BigInt(most), room.count];
+    // Of a list of fields those of its record alone: the lists in which it continues are records too.
+    const words = [handle, index, ...(type === Field ? [0] : []), room.entries, BigInt(most), room.count];
     if (type === Field) words.push(room.names, BigInt(room.namesMost), room.size);
     const status = native.library.calls[name](...words);
     const [count, size] = [room.count, room.size].map((at) => Number(native.library.long(at)));

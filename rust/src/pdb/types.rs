@@ -546,7 +546,7 @@ impl<'t> TypeData<'t> {
             }),
             Shape::FieldList => {
                 let continuation = row.list_index().filter(|index| *index != 0);
-                let fields = it.own_fields(continuation)?.into_iter().map(|(row, name)| field(&row, name)).collect();
+                let fields = it.own_fields()?.into_iter().map(|(row, name)| field(&row, name)).collect();
                 TypeData::FieldList(FieldList { fields, continuation: continuation.map(TypeIndex) })
             }
             Shape::ArgumentList => {
