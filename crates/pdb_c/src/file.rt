@@ -6,7 +6,7 @@ ghost use Rattle.pdb_msf.specs.Layout.{size_by};
 ghost use Rattle.pdb_identity.specs.Format.{format_of};
 ghost use Rattle.pdb_handles.specs.Copied.{CopiesAnswer, CopiesOrLacks, copied_of, text_if_copied};
 ghost use Rattle.pdb_handles.specs.File.{layout_said, named_stream_said, roles_said, sections_told, sizes_in};
-ghost use Rattle.pdb_handles.specs.File.{stream_asked};
+ghost use Rattle.pdb_handles.specs.File.{front_asked};
 ghost use Rattle.pdb_handles.specs.{Findings.findings_said, Found.AsksAnswer, Found.answered_of, Handle.Opens};
 ghost use Rattle.pdb_handles.specs.{Handle.file_held, Identity.format_number, Identity.identity_said};
 ghost use Rattle.pdb_handles.specs.{Identity.key_text, Listing.RowsOrLacks, Listing.listing_asked};
@@ -76,7 +76,7 @@ pub extern "C" fn pdb_file_stream(
     length: &mut usize,
 ) -> u32
     ensures answer { CopiesOrLacks (record { fault = file.new.handle.fault; length = length.new; room = room.new })
-        room.old (stream_asked file.old.bytes.now number limit room.old (file_held file.old.handle.held.content)) }
+        room.old (front_asked file.old.bytes.now number limit room.old (file_held file.old.handle.held.content)) }
     ensures kept { KeepsFile file.old file.new result }
 {
     *length = 0;

@@ -6,7 +6,7 @@ ghost use Rattle.pdb_base.specs.Answer.{Answers};
 ghost use Rattle.pdb_handles.specs.Copied.{CopiesOrLacks, if_copied_of, text_if_answered, text_if_asked};
 ghost use Rattle.pdb_handles.specs.{Fields.fields_listed, Found.AsksAnswer, Handle.records_held, Kept.Keeps};
 ghost use Rattle.pdb_handles.specs.Listing.{RowsOrLacks, listing_asked};
-ghost use Rattle.pdb_handles.specs.Records.{methods_of, name_of, numbers_of, row_of, said_of, unique_name_of};
+ghost use Rattle.pdb_handles.specs.Records.{said_methods, said_name, said_numbers, said_row, said_of, said_unique_name};
 ghost use Rattle.pdb_handles.specs.Row.{typed_row};
 
 use pdb_base::{Result, TypeIndex};
@@ -19,7 +19,7 @@ use std::alloc::Global;
 
 /// Returns the numbers in the record of the type or the id of an index.
 fn row_at(alloc: Global, table: &mut Records, index: u32) -> Result<Row>
-    ensures row { Answers (λ row. row) result (said_of row_of table.old index) }
+    ensures row { Answers (λ row. row) result (said_of said_row table.old index) }
     ensures kept { table.new ≡ table.old }
 {
     table.types.learn(TypeIndex(index));
@@ -28,7 +28,7 @@ fn row_at(alloc: Global, table: &mut Records, index: u32) -> Result<Row>
 
 /// Returns the numbers that the record of an index lists.
 fn numbers_at(alloc: Global, table: &mut Records, index: u32) -> Result<Option<Vec<u32>>>
-    ensures numbers { Answers (option_map (λ list. list.items)) result (said_of numbers_of table.old index) }
+    ensures numbers { Answers (option_map (λ list. list.items)) result (said_of said_numbers table.old index) }
     ensures kept { table.new ≡ table.old }
 {
     table.types.learn(TypeIndex(index));
@@ -37,7 +37,7 @@ fn numbers_at(alloc: Global, table: &mut Records, index: u32) -> Result<Option<V
 
 /// Returns the methods that the record of an index lists.
 fn methods_at(alloc: Global, table: &mut Records, index: u32) -> Result<Option<Vec<Row>>>
-    ensures methods { Answers (option_map (λ list. list.items)) result (said_of methods_of table.old index) }
+    ensures methods { Answers (option_map (λ list. list.items)) result (said_of said_methods table.old index) }
     ensures kept { table.new ≡ table.old }
 {
     table.types.learn(TypeIndex(index));
@@ -53,7 +53,7 @@ fn copy_name_of(
     length: &mut usize,
 ) -> Fault
     ensures told { CopiesOrLacks (record { fault = result; length = length.new; room = room.new }) room.old
-        (text_if_answered room.old (said_of name_of table.old index)) }
+        (text_if_answered room.old (said_of said_name table.old index)) }
     ensures kept { table.new ≡ table.old }
 {
     table.types.learn(TypeIndex(index));
@@ -72,7 +72,7 @@ fn copy_unique_name_of(
     length: &mut usize,
 ) -> Fault
     ensures told { CopiesOrLacks (record { fault = result; length = length.new; room = room.new }) room.old
-        (text_if_answered room.old (said_of unique_name_of table.old index)) }
+        (text_if_answered room.old (said_of said_unique_name table.old index)) }
     ensures kept { table.new ≡ table.old }
 {
     table.types.learn(TypeIndex(index));
@@ -90,7 +90,7 @@ pub extern "C" fn pdb_type_parse(
     index: u32,
     row: &mut Row,
 ) -> u32
-    ensures answer { AsksAnswer (λ records. said_of row_of records index) row.old
+    ensures answer { AsksAnswer (λ records. said_of said_row records index) row.old
         (records_held types.old.held.content) types.new.fault row.new }
     ensures kept { Keeps types.old types.new result }
 {
@@ -107,7 +107,7 @@ pub extern "C" fn pdb_type_name(
     length: &mut usize,
 ) -> u32
     ensures answer { CopiesOrLacks (record { fault = types.new.fault; length = length.new; room = room.new }) room.old
-        (text_if_asked room.old (λ records. said_of name_of records index) (records_held types.old.held.content)) }
+        (text_if_asked room.old (λ records. said_of said_name records index) (records_held types.old.held.content)) }
     ensures kept { Keeps types.old types.new result }
 {
     *length = 0;
@@ -124,7 +124,7 @@ pub extern "C" fn pdb_type_unique_name(
     length: &mut usize,
 ) -> u32
     ensures answer { CopiesOrLacks (record { fault = types.new.fault; length = length.new; room = room.new }) room.old
-        (text_if_asked room.old (λ records. said_of unique_name_of records index)
+        (text_if_asked room.old (λ records. said_of said_unique_name records index)
         (records_held types.old.held.content)) }
     ensures kept { Keeps types.old types.new result }
 {
@@ -143,7 +143,7 @@ pub extern "C" fn pdb_type_numbers(
     length: &mut usize,
 ) -> u32
     ensures answer { CopiesOrLacks (record { fault = types.new.fault; length = length.new; room = room.new }) room.old
-        (if_copied_of room.old (λ records. said_of numbers_of records index)
+        (if_copied_of room.old (λ records. said_of said_numbers records index)
         (records_held types.old.held.content)) }
     ensures kept { Keeps types.old types.new result }
 {
@@ -161,7 +161,7 @@ pub extern "C" fn pdb_type_methods(
     length: &mut usize,
 ) -> u32
     ensures answer { CopiesOrLacks (record { fault = types.new.fault; length = length.new; room = room.new }) room.old
-        (if_copied_of room.old (λ records. said_of methods_of records index)
+        (if_copied_of room.old (λ records. said_of said_methods records index)
         (records_held types.old.held.content)) }
     ensures kept { Keeps types.old types.new result }
 {

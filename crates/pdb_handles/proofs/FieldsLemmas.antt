@@ -7,7 +7,7 @@ use Rattle.pdb_values.specs.declared.type_data.TypeData.TheVariants.{rolls-Field
 use Rattle.pdb_values.specs.{declared.type_data.TypeData.TheOpen.TypeData-F, TypeValue.TypeValue}
 use Rattle.pdb_values.specs.declared.type_data.TypeData.TheVariants as variants
 use Rattle.pdb_values.proofs.lemmas.Fields.{listed}
-use Rattle.pdb_handles.specs.Fields.{fields_in, listing}
+use Rattle.pdb_handles.specs.Fields.{own_fields, listing}
 
 list_seen : (list : FieldList) → type_value (variants.FieldList list) ≡ field_list_value list
 list_seen list = ap type_value (sym (rolls-FieldList list))
@@ -16,7 +16,7 @@ list_seen list = ap type_value (sym (rolls-FieldList list))
 
 -- what is listed of a list of fields
 pub fields_seen : (list : FieldList)
-    → fields_in (type_value (variants.FieldList list)) ≡ Some (listing (map type_value list.fields.items))
+    → own_fields (type_value (variants.FieldList list)) ≡ Some (listing (map type_value list.fields.items))
 fields_seen list =
-    ap (λ (value : TypeValue). fields_in value) (list_seen list)
+    ap (λ (value : TypeValue). own_fields value) (list_seen list)
     ∙ ap (λ (values : List TypeValue). Some (listing values)) (listed (map type_value list.fields.items))

@@ -11,7 +11,7 @@ use Rattle.pdb_types.specs.declared.span.Span.{Span}
 use Rattle.pdb_types.specs.Gap.{AreGapRows}
 use Rattle.pdb_types.specs.Layout.{HasGaps, field_span, field_value, is_virtual_field, layout_value}
 use Rattle.pdb_handles.specs.declared.layout_row.LayoutRow.{LayoutRow}
-use Rattle.pdb_handles.specs.Listing.{Listed, names_of, rows_copied}
+use Rattle.pdb_handles.specs.Listing.{Listed, ended_names, rows_copied}
 use Rattle.pdb_handles.specs.LayoutRow.{LaysOutOrLacks, field_name, is_virtual_value, rows_of}
 use Rattle.pdb_handles.specs.LayoutRow.{value_span}
 
@@ -55,7 +55,7 @@ gaps_seen fields size rows are =
 -- the rows of a layout, which are written with the names of its fields
 pub laid_out : (layout : Layout) (rows all : List LayoutRow) (names more : List ℕ) (told : Listed LayoutRow)
     → HasGaps layout → all ≡ rows_of (layout_value layout).fields layout.gaps.items
-    → more ≡ names_of field_name (layout_value layout).fields → told ≡ rows_copied rows names all more
+    → more ≡ ended_names field_name (layout_value layout).fields → told ≡ rows_copied rows names all more
     → LaysOutOrLacks rows names (Ok (Some (layout_value layout))) told
 laid_out layout rows all names more told has are called is =
     inl (record {

@@ -14,7 +14,8 @@ use Rattle.pdb_handles.specs.Walked.{AreNext, IsToldAt, IsTypeRow, record_says}
 
 -- what is written of a row, by what was read of a record
 pub told_row : {A : Type 0} (shown : A → Row) (meant : Answer A) (old new : Row) (fault : Fault)
-    → IsAnswerTold shown meant old fault new → IsAnswerTold (λ row. row) (meant >>= λ value. Ok (shown value)) old fault new
+    → IsAnswerTold shown meant old fault new
+    → IsAnswerTold (λ row. row) (meant >>= λ value. Ok (shown value)) old fault new
 told_row shown (Ok value) old new fault told = told
 told_row shown (Err refusal) old new fault told = told
 
@@ -76,7 +77,8 @@ pub written_more : (old now next : List TypeRow) (first late : Records) (after :
     → next ≡ set now count told → IsWrittenTo old next first (count + 1) (record late { types = after })
 written_more old now next first late after count place told more so_far step is put =
     let are : AreNext first.are_ids first.types (take (count + 1) (set now count told)) after =
-    subst (λ (rows : List TypeRow). AreNext first.are_ids first.types rows after) (sym (take_more_set now count told more))
+    subst (λ (rows : List TypeRow). AreNext first.are_ids first.types rows after)
+    (sym (take_more_set now count told more))
     (next_more first.are_ids (take count now) first.types late.types after place told so_far.are step is) in
     let behind : drop (count + 1) (set now count told) ≡ drop (count + 1) old =
     drop-set-lt (count + 1) now count told (omega arith) ∙ sym (drop-drop 1 count now)

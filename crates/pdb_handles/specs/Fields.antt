@@ -4,7 +4,7 @@ use Rattle.pdb_base.specs.Answer.{Answer, ◌>>=◌}
 use Rattle.pdb_values.specs.TypeValue.{TypeValue, field_list, name_of_type, values_in}
 use Rattle.pdb_tpi.specs.{Chain.fields_of, Finder.item_of, Record.type_of, Table.Table}
 use Rattle.pdb_handles.specs.{declared.fields.FieldRow.FieldRow, Frame.flag, Row.type_info}
-use Rattle.pdb_handles.specs.Listing.{NamedRows, names_of, rows_from}
+use Rattle.pdb_handles.specs.Listing.{NamedRows, ended_names, placed_rows}
 
 -- the bytes of a field's name; none if the field has no name
 abbrev pub name_bytes : TypeValue → List ℕ
@@ -21,20 +21,20 @@ field_info here value = record {
 
 -- fields and their names
 abbrev pub listing : List TypeValue → NamedRows FieldRow
-listing fields = record { rows = rows_from field_info name_bytes 0 fields; names = names_of name_bytes fields }
+listing fields = record { rows = placed_rows field_info name_bytes 0 fields; names = ended_names name_bytes fields }
 
 -- the fields that were found
 abbrev pub listing_of : Answer (List TypeValue) → Answer (Option (NamedRows FieldRow))
 listing_of found = found >>= λ fields. Ok (Some (listing fields))
 
 -- the fields of a type, if it is a list of fields
-abbrev pub fields_in : TypeValue → Option (NamedRows FieldRow)
-fields_in (field_list fields continuation) = Some (listing (values_in fields))
-fields_in value = None
+abbrev pub own_fields : TypeValue → Option (NamedRows FieldRow)
+own_fields (field_list fields continuation) = Some (listing (values_in fields))
+own_fields value = None
 
 -- the fields of the list of an index: of the whole list, with those in which it continues, or of its record alone
 abbrev pub fields_listed : Bool → Table → ℕ → Answer (Option (NamedRows FieldRow))
 fields_listed whole table index =
     if whole
     then listing_of (fields_of (item_of table) index)
-    else (item_of table index >>= type_of index >>= λ value. Ok (fields_in value))
+    else (item_of table index >>= type_of index >>= λ value. Ok (own_fields value))

@@ -1,5 +1,6 @@
 -- What is read of a caller's file, as a caller sees it.
-use Rattle.std.specs.Prelude.{ℕ, List, Option, Some, None, Ok, Err, if◌then◌else◌, ◌&&◌, length, map, min, nat_le, nat_lt}
+use Rattle.std.specs.Prelude.{ℕ, List, Option, Some, None, Ok, Err, if◌then◌else◌, ◌&&◌, length, map, min, nat_le}
+use Rattle.std.specs.Prelude.{nat_lt}
 use Rattle.pdb_base.specs.Answer.{Answer, ◌>>=◌}
 use Rattle.pdb_msf.specs.{Directory.stream_count_in, Header.Head, Header.file_head, File.stream_of}
 use Rattle.pdb_msf.specs.Layout.{LayoutValue, layout_of, size_by, stream_by}
@@ -8,7 +9,8 @@ use Rattle.pdb_file.specs.File.{file_address_map, file_frame_table, file_named_s
 use Rattle.pdb_file.specs.{declared.debug_header.DBIExtraStreams.DBIExtraStreams, SectionHeaders.section_headers_of}
 use Rattle.pdb_handles.specs.{declared.content.Content.Content, declared.file.Sizes.Sizes, declared.roles.Roles.Roles}
 use Rattle.pdb_handles.specs.{declared.sections.Section.Section, Copied.Copied, Copied.answer_copied}
-use Rattle.pdb_handles.specs.{Copied.nothing_copied, Fault.fault_of_refusal, Fault.not_open, Fault.too_small, Handle.held_as}
+use Rattle.pdb_handles.specs.{Copied.nothing_copied, Fault.fault_of_refusal, Fault.not_open, Fault.too_small}
+use Rattle.pdb_handles.specs.{Handle.held_as}
 use Rattle.pdb_handles.specs.declared.content.Content.TheVariants as contents
 
 -- what is read of a file, whose header is read first
@@ -61,9 +63,9 @@ abbrev pub stream_copied : LayoutValue → List ℕ → ℕ → ℕ → List ℕ
 stream_copied layout file number limit room = front_copied layout file number limit room (size_by layout number)
 
 -- the same for a file that is open, and else `not_open`
-abbrev pub stream_asked : List ℕ → ℕ → ℕ → List ℕ → Option LayoutValue → Copied ℕ
-stream_asked file number limit room (Some layout) = stream_copied layout file number limit room
-stream_asked file number limit room None = nothing_copied not_open room
+abbrev pub front_asked : List ℕ → ℕ → ℕ → List ℕ → Option LayoutValue → Copied ℕ
+front_asked file number limit room (Some layout) = stream_copied layout file number limit room
+front_asked file number limit room None = nothing_copied not_open room
 
 -- the roles for the caller
 abbrev pub roles_of : DBIExtraStreams → Roles

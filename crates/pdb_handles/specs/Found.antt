@@ -1,7 +1,8 @@
 -- How a value that may not exist is returned to a caller.
 use Rattle.std.specs.Prelude.{◌≡◌, Option, Some, None, Ok, Err}
 use Rattle.pdb_base.specs.Answer.{Answer}
-use Rattle.pdb_handles.specs.{declared.fault.Fault.Fault, Fault.fault_of_refusal, Fault.fine, Fault.not_open, Copied.IsAnswerTold}
+use Rattle.pdb_handles.specs.{declared.fault.Fault.Fault, Fault.fault_of_refusal, Fault.fine, Fault.not_open}
+use Rattle.pdb_handles.specs.{Copied.IsAnswerTold}
 
 -- how a call ended, and the caller's variable afterwards
 pub record Found (A : Type 0) : Type 0 where

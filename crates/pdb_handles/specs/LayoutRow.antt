@@ -20,7 +20,7 @@ use Rattle.pdb_handles.specs.declared.layout_row.LayoutRow.{LayoutRow}
 use Rattle.pdb_handles.specs.{declared.content.Records.Records, Definitions.definitions_say}
 use Rattle.pdb_handles.specs.Fault.{fault_of_refusal, no_value, not_open}
 use Rattle.pdb_handles.specs.Frame.{flag}
-use Rattle.pdb_handles.specs.Listing.{Listed, names_of, no_rows_copied, rows_copied, rows_from}
+use Rattle.pdb_handles.specs.Listing.{Listed, ended_names, no_rows_copied, rows_copied, placed_rows}
 
 -- a row of zeros
 abbrev pub no_layout : LayoutRow
@@ -104,14 +104,14 @@ is_virtual_value field = is_virtual_role field.place.role
 
 -- the rows of fields, and then those of gaps
 abbrev pub rows_of : List FieldValue → List Gap → List LayoutRow
-rows_of fields gaps = rows_from field_entry field_name 0 fields ++ map gap_entry gaps
+rows_of fields gaps = placed_rows field_entry field_name 0 fields ++ map gap_entry gaps
 
 -- The rows of a layout are written, and the names of its fields.
 pub record WritesLayout (rows : List LayoutRow) (names : List ℕ) (layout : ClassLayout) (told : Listed LayoutRow)
     : Type 0 where
   pub gaps : List Gap
   pub are : AreGapRows (map value_span layout.fields) layout.size (list_any is_virtual_value layout.fields) gaps
-  pub done : told ≡ rows_copied rows names (rows_of layout.fields gaps) (names_of field_name layout.fields)
+  pub done : told ≡ rows_copied rows names (rows_of layout.fields gaps) (ended_names field_name layout.fields)
 
 -- The same for a layout that may be absent or refused.
 abbrev pub LaysOut : List LayoutRow → List ℕ → Answer (Option ClassLayout) → Listed LayoutRow → Type 0

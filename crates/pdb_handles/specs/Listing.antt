@@ -7,14 +7,14 @@ use Rattle.pdb_handles.specs.Fault.{fine, fault_of_refusal, no_value, not_open, 
 use Rattle.pdb_handles.specs.{declared.copied.Listing.Listing, declared.fault.Fault.Fault}
 
 -- the names of some things one behind another, each with a NUL behind it
-abbrev pub names_of : {X : Type 0} → (X → List ℕ) → List X → List ℕ
-names_of name things = flat_map (λ thing. name thing ++ 0 ∷ []) things
+abbrev pub ended_names : {X : Type 0} → (X → List ℕ) → List X → List ℕ
+ended_names name things = flat_map (λ thing. name thing ++ 0 ∷ []) things
 
 -- a row for each thing, with the place of its name among the names, of which the first is here
-unfoldable pub rows_from : {X R : Type 0} → (ℕ → X → R) → (X → List ℕ) → ℕ → List X → List R
-rows_from row name here [] = []
-rows_from row name here (thing ∷ things) =
-    row here thing ∷ rows_from row name (here + (length (name thing) + 1)) things
+unfoldable pub placed_rows : {X R : Type 0} → (ℕ → X → R) → (X → List ℕ) → ℕ → List X → List R
+placed_rows row name here [] = []
+placed_rows row name here (thing ∷ things) =
+    row here thing ∷ placed_rows row name (here + (length (name thing) + 1)) things
 
 -- rows for the caller, and their names
 pub record NamedRows (R : Type 0) : Type 0 where

@@ -17,45 +17,45 @@ use Rattle.pdb_handles.specs.Row.{no_numbers, type_info, typed, zeroed_row}
 use Rattle.pdb_handles.specs.{declared.row.Row.Row, declared.row.Numbers.Numbers}
 
 -- what a record says of a type or of an id
-pub data Value : Type 0 where
-  of_type : TypeValue → Value
-  of_id : IdValue → Value
+pub data SaidValue : Type 0 where
+  of_type : TypeValue → SaidValue
+  of_id : IdValue → SaidValue
 
-abbrev pub said_view : Said → Value
+abbrev pub said_view : Said → SaidValue
 said_view (saids.Type value) = of_type (type_value value)
 said_view (saids.Id value) = of_id (id_value value)
 
 -- what the type or the id of an index is
-abbrev pub value_at : Held → ℕ → Answer Value
+abbrev pub value_at : Held → ℕ → Answer SaidValue
 value_at records index = item_of records.types.table index >>= λ item.
     if records.are_ids
     then (id_of item >>= λ value. Ok (of_id value))
     else (type_of index item >>= λ value. Ok (of_type value))
 
 -- what is said of it
-abbrev pub said_of : {A : Type 0} → (Value → A) → Held → ℕ → Answer A
+abbrev pub said_of : {A : Type 0} → (SaidValue → A) → Held → ℕ → Answer A
 said_of says records index = value_at records index >>= λ value. Ok (says value)
 
 -- the name of a type, or of an id that is a function, a method or a text
-abbrev pub name_of : Value → Option (List ℕ)
-name_of (of_type value) = name_of_type value
-name_of (of_id value) = id_name value
+abbrev pub said_name : SaidValue → Option (List ℕ)
+said_name (of_type value) = name_of_type value
+said_name (of_id value) = id_name value
 
 -- the name that tells a class, a union or an enumeration from others of its name, if it has one
-abbrev pub unique_name_of : Value → Option (List ℕ)
-unique_name_of (of_type (plain (values.class v))) = v.unique_name
-unique_name_of (of_type (plain (values.union v))) = v.unique_name
-unique_name_of (of_type (plain (values.enumeration v))) = v.unique_name
-unique_name_of value = None
+abbrev pub said_unique_name : SaidValue → Option (List ℕ)
+said_unique_name (of_type (plain (values.class v))) = v.unique_name
+said_unique_name (of_type (plain (values.union v))) = v.unique_name
+said_unique_name (of_type (plain (values.enumeration v))) = v.unique_name
+said_unique_name value = None
 
 -- the numbers in a list: the types of arguments; the size of an array in bytes up to each dimension, the innermost
 -- first, each including those before it; or the ids in the build information of a module or of the parts of a text
-abbrev pub numbers_of : Value → Option (List ℕ)
-numbers_of (of_type (argument_list arguments)) = Some (map (λ index. index.0) arguments)
-numbers_of (of_type (values.array v)) = Some v.dimensions
-numbers_of (of_id (ids.build_info list)) = Some (map (λ index. index.0) list)
-numbers_of (of_id (ids.string_list list)) = Some (map (λ index. index.0) list)
-numbers_of value = None
+abbrev pub said_numbers : SaidValue → Option (List ℕ)
+said_numbers (of_type (argument_list arguments)) = Some (map (λ index. index.0) arguments)
+said_numbers (of_type (values.array v)) = Some v.dimensions
+said_numbers (of_id (ids.build_info list)) = Some (map (λ index. index.0) list)
+said_numbers (of_id (ids.string_list list)) = Some (map (λ index. index.0) list)
+said_numbers value = None
 
 -- a method of a list for the caller: like a method that isn't in a list, but without a name
 abbrev pub method_info : MethodListEntry → Row
@@ -63,9 +63,9 @@ method_info method =
     zeroed_row 5 (record (typed method.attributes method.method_type) { extra = method.vtable_offset })
 
 -- the methods in a list of methods
-abbrev pub methods_of : Value → Option (List Row)
-methods_of (of_type (values.method_list methods)) = Some (map method_info methods)
-methods_of value = None
+abbrev pub said_methods : SaidValue → Option (List Row)
+said_methods (of_type (values.method_list methods)) = Some (map method_info methods)
+said_methods value = None
 
 -- the number of an id's index, if there is one
 abbrev pub id_number : Option IdIndex → Option ℕ
@@ -95,6 +95,6 @@ id_info (ids.build_info list) = zeroed_row 34 no_numbers
 id_info (ids.string_list list) = zeroed_row 35 no_numbers
 
 -- the row of a type or of an id
-abbrev pub row_of : Value → Row
-row_of (of_type value) = type_info value
-row_of (of_id value) = id_info value
+abbrev pub said_row : SaidValue → Row
+said_row (of_type value) = type_info value
+said_row (of_id value) = id_info value

@@ -5,7 +5,7 @@ use Rattle.pdb_base.specs.Answer.{Answer, ◌>>=◌, ok_if}
 use Rattle.pdb_base.specs.Refusal.{unimplemented_feature}
 use Rattle.pdb_file.specs.{File.file_information, StreamNames.Named, StreamNames.stream_names_of}
 use Rattle.pdb_handles.specs.declared.stream_names.NamedStream.{NamedStream}
-use Rattle.pdb_handles.specs.{File.read_of_file, Listing.NamedRows, Listing.names_of, Listing.rows_from}
+use Rattle.pdb_handles.specs.{File.read_of_file, Listing.NamedRows, Listing.ended_names, Listing.placed_rows}
 
 -- a stream and where its name is, for the caller
 abbrev pub named_row : ℕ → Named → NamedStream
@@ -18,8 +18,8 @@ names_of_all streams = flat_map (λ named. named.name) streams
 -- streams and their names
 abbrev pub named_listing : List Named → NamedRows NamedStream
 named_listing streams = record {
-  rows = rows_from named_row (λ named. named.name) 0 streams;
-  names = names_of (λ (named : Named). named.name) streams;
+  rows = placed_rows named_row (λ named. named.name) 0 streams;
+  names = ended_names (λ (named : Named). named.name) streams;
 }
 
 -- The streams that stream 1 names, in the order of their entries. They are refused if their names together have

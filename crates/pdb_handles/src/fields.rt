@@ -51,7 +51,7 @@ fn field_row(here: usize, field: &TypeData<'_>) -> FieldRow
 }
 
 /// Collects a `FieldRow` for each field, and their names.
-#[tactic(auto, unfolding(crate::specs::Listing::rows_from))]
+#[tactic(auto, unfolding(crate::specs::Listing::placed_rows))]
 fn collect_fields(alloc: Global, fields: &[TypeData<'_>]) -> Result<Listing<FieldRow>>
     ensures { Answers listing_view result (Ok (listing (map type_value fields.now))) }
 {

@@ -8,7 +8,7 @@ ghost use Rattle.pdb_types.specs.Layout.{HasGaps, field_value, layout_value};
 ghost use Rattle.pdb_types.specs.Part.{layout_of_type};
 ghost use Rattle.pdb_handles.specs.LayoutRow.{LaysOutOrLacks, bytes_row, field_name, field_entry, gap_entry, rows_of};
 ghost use Rattle.pdb_handles.specs.LayoutRow.{with_extent, entry_of_role};
-ghost use Rattle.pdb_handles.specs.Listing.{names_of, rows_from};
+ghost use Rattle.pdb_handles.specs.Listing.{ended_names, placed_rows};
 
 use crate::copied::{Listing, copy_both, push_name, write_nothing};
 use crate::fault::{Fault, NONE};
@@ -168,11 +168,11 @@ fn gap_row(gap: Gap) -> LayoutRow
 }
 
 /// Collects the entries of fields, and their names.
-#[tactic(auto, unfolding(crate::specs::Listing::rows_from))]
+#[tactic(auto, unfolding(crate::specs::Listing::placed_rows))]
 fn fields_listed(alloc: Global, fields: &[LayoutField<'_>]) -> Result<Listing<LayoutRow>>
     ensures rows { IfOk result (λ listed. listed.rows.items ≡
-        rows_from field_entry field_name 0 (map field_value fields.now)) }
-    ensures names { IfOk result (λ listed. listed.names.items ≡ names_of field_name (map field_value fields.now)) }
+        placed_rows field_entry field_name 0 (map field_value fields.now)) }
+    ensures names { IfOk result (λ listed. listed.names.items ≡ ended_names field_name (map field_value fields.now)) }
     ensures memory { FailsOnlyForMemory result }
 {
     let mut rows = Vec::new(alloc);
@@ -203,7 +203,7 @@ fn collect_entries(alloc: Global, layout: &Layout<'_>) -> Result<Listing<LayoutR
     ensures rows { IfOk result (λ listed. listed.rows.items ≡
         rows_of (layout_value layout.now).fields layout.now.gaps.items) }
     ensures names { IfOk result (λ listed. listed.names.items ≡
-        names_of field_name (layout_value layout.now).fields) }
+        ended_names field_name (layout_value layout.now).fields) }
     ensures memory { FailsOnlyForMemory result }
 {
     // A proof knows that a number fits its type once it is read: no gap ends behind the size.

@@ -7,8 +7,8 @@ ghost use Rattle.pdb_values.specs.TypeValue.{TypeValue, argument_list, field_lis
 ghost use Rattle.pdb_values.specs.{Text.text_bytes, TypeView.type_value, IdValue.id_value};
 ghost use Rattle.pdb_records.specs.Fields.{type_record};
 ghost use Rattle.pdb_tpi.specs.Record.{id_of, type_of};
-ghost use Rattle.pdb_handles.specs.Records.{id_info, method_info, methods_of, name_of, numbers_of, row_of};
-ghost use Rattle.pdb_handles.specs.Records.{said_view, unique_name_of, value_at};
+ghost use Rattle.pdb_handles.specs.Records.{id_info, method_info, said_methods, said_name, said_numbers, said_row};
+ghost use Rattle.pdb_handles.specs.Records.{said_view, said_unique_name, value_at};
 ghost use Rattle.pdb_handles.specs.Copied.{IsAnswerTold};
 ghost use Rattle.pdb_handles.specs.Row.{type_info};
 
@@ -178,7 +178,7 @@ pub fn said_at<'t>(alloc: Global, records: &'t Records, index: u32) -> Result<Sa
 
 /// Returns the `Row` of a type or of an id.
 pub fn row_of(said: &Said<'_>) -> Row
-    ensures { result ≡ row_of (said_view said.now) }
+    ensures { result ≡ said_row (said_view said.now) }
 {
     match said {
         Said::Type(value) => Row::of_type(value),
@@ -188,7 +188,7 @@ pub fn row_of(said: &Said<'_>) -> Row
 
 /// Returns the name of a type, or of an id that is a function, a method or a text.
 pub fn name_of<'t>(said: &Said<'t>) -> Option<RawString<'t>>
-    ensures { option_map text_bytes result ≡ name_of (said_view said.now) }
+    ensures { option_map text_bytes result ≡ said_name (said_view said.now) }
 {
     match said {
         Said::Type(value) => value.name(),
@@ -198,7 +198,7 @@ pub fn name_of<'t>(said: &Said<'t>) -> Option<RawString<'t>>
 
 /// Returns the unique name of a class, a union or an enumeration.
 pub fn unique_name_of<'t>(said: &Said<'t>) -> Option<RawString<'t>>
-    ensures { option_map text_bytes result ≡ unique_name_of (said_view said.now) }
+    ensures { option_map text_bytes result ≡ said_unique_name (said_view said.now) }
 {
     match said {
         Said::Type(TypeData::Class(class)) => class.unique_name,
@@ -224,7 +224,7 @@ pub(crate) fn numbers_in(alloc: Global, indexes: &[TypeIndex]) -> Result<Vec<u32
 /// # Errors
 /// Fails with `OutOfMemory` if an allocation fails.
 pub fn numbers_of(alloc: Global, said: &Said<'_>) -> Result<Option<Vec<u32>>>
-    ensures { Answers (option_map (λ numbers. numbers.items)) result (Ok (numbers_of (said_view said.now))) }
+    ensures { Answers (option_map (λ numbers. numbers.items)) result (Ok (said_numbers (said_view said.now))) }
 {
     match said {
         Said::Type(TypeData::ArgumentList(list)) => Ok(Some(numbers_in(alloc, &list.arguments)?)),
@@ -262,7 +262,7 @@ fn method_rows(alloc: Global, methods: &[MethodListEntry]) -> Result<Vec<Row>>
 /// # Errors
 /// Fails with `OutOfMemory` if an allocation fails.
 pub fn methods_of(alloc: Global, said: &Said<'_>) -> Result<Option<Vec<Row>>>
-    ensures { Answers (option_map (λ rows. rows.items)) result (Ok (methods_of (said_view said.now))) }
+    ensures { Answers (option_map (λ rows. rows.items)) result (Ok (said_methods (said_view said.now))) }
 {
     match said {
         Said::Type(TypeData::MethodList(list)) => Ok(Some(method_rows(alloc, &list.methods)?)),

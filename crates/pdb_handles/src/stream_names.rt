@@ -51,7 +51,7 @@ fn names_fit(streams: &StreamNames<'_>, limit: usize) -> bool
 }
 
 /// Collects a `NamedStream` for each named stream, and their names.
-#[tactic(auto, unfolding(crate::specs::Listing::rows_from))]
+#[tactic(auto, unfolding(crate::specs::Listing::placed_rows))]
 fn collect_names(alloc: Global, streams: &StreamNames<'_>) -> Result<Listing<NamedStream>>
     ensures { Answers listing_view result (Ok (named_listing streams.now)) }
 {

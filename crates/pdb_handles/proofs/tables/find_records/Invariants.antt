@@ -8,4 +8,5 @@ invariant-loop-index l = l.types ≡ l.fn.types
 
 abbrev pub invariant-loop-at : goal.invariant-loop-at
 invariant-loop-at l =
-    (take l.at l.room ≡ map (record_found l.fn.types.table) (take l.at l.indexes)) × (drop l.at l.room ≡ drop l.at l.fn.room)
+    (take l.at l.room ≡ map (record_found l.fn.types.table) (take l.at l.indexes))
+    × (drop l.at l.room ≡ drop l.at l.fn.room)
