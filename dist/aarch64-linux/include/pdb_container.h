@@ -1,38 +1,43 @@
 /* Program databases (PDB): streams, names, addresses, frames, types, their layouts, and ids.
  *
- * Every call that can fail returns a status of enum pdb_status, and writes the status and the
- * numbers that go with it to `fault`. pdb_status_text gives the text of a status.
- *
- * Texts that are copied, such as names and keys, have no NUL at their end.
+ * Every call that can fail returns a status of enum pdb_status. A call on a handle also leaves it
+ * in the handle, as `handle.fault`, with the numbers that go with it; a call that opens a handle
+ * leaves it there. pdb_fault_text gives the text of a fault in English.
  *
  * A call that writes an array takes the array, its length, and where to put the length of the
  * answer. Ask for the length, then fill:
  *
  *     size_t length = 0;
- *     uint32_t status = pdb_file_stream(&file, 2, SIZE_MAX, NULL, 0, &length, &fault);
- *     uint8_t *bytes = malloc(length);
- *     if (status == PDB_TOO_SMALL && bytes)
- *         status = pdb_file_stream(&file, 2, SIZE_MAX, bytes, length, &length, &fault);
+ *     uint32_t status = pdb_type_name(&types, index, NULL, 0, &length);
+ *     char *name = malloc(length + 1);
+ *     if (status == PDB_TOO_SMALL && name)
+ *         status = pdb_type_name(&types, index, name, length + 1, &length);
  *
- * With PDB_TOO_SMALL nothing is written but `fault` and the length, which is exact. With PDB_OK the
- * answer is at the start of the array, and the items after it are unchanged. With any other status,
- * lengths are 0, and arrays, structures and numbers are unchanged, except `fault` and the record of
- * pdb_types_next. pdb_types_read has no length to ask for: it writes as many records as there is
- * room for, also before PDB_END or an error.
+ * A text, in an array of char, has a NUL at its end, for which the array needs room too; its length
+ * doesn't count the NUL. With PDB_TOO_SMALL nothing is written but the length, which is exact. With
+ * PDB_OK the answer is at the start of the array, and the items after it are unchanged. With any
+ * other status, lengths are 0, and arrays, structures and numbers are unchanged. pdb_types_read has
+ * no length to ask for: it writes as many records as there is room for, also before PDB_END or an
+ * error. To ask costs as much as to fill, except for the bytes of a stream and where a call says
+ * so.
  *
  * The caller must ensure the following, which nothing checks:
- * - A pointer points to as many items as its length says. It may be null if that is 0.
- *   pdb_file_close, pdb_names_close and their like accept null, and no other pointer is null. What
- *   a call writes does not overlap anything else that it is given.
+ * - A pointer points to as many items as its length says. It may be null if that is 0. pdb_close
+ *   and pdb_file_close accept null, and no other pointer is null. What a call writes does not
+ *   overlap anything else that it is given.
  * - A handle, such as a pdb_file, is all zero before it is first opened. It is not copied. It may
- *   move to another thread, but two threads never use one handle at once. Different handles, and
- *   calls without one, share nothing.
+ *   move in memory and to another thread, but two threads never use one handle at once. Different
+ *   handles, and calls without one, share nothing.
  * - The bytes that a file is opened with stay where they are until the file is closed, and do not
  *   change during a call. A call after a change reads the changed bytes.
  * - A structure that a call writes is initialized before, such as with = {0}.
  * - malloc, realloc and free belong to one allocator, which aligns a block as C libraries do: at
- *   least to the largest power of two up to 16 that divides its size. No call is made from a
- *   signal handler, nor in the child of a fork of a process with threads. */
+ *   least to the largest power of two up to 16 that divides its size. No call is made from a signal
+ *   handler, nor in the child of a fork of a process with threads.
+ *
+ * Versions: while the major number is 0, structures and calls change only with the minor number, so
+ * compare pdb_version() / 100 with PDB_VERSION / 100. With the patch number, calls and constants
+ * may be added. */
 #ifndef PDB_CONTAINER_H
 #define PDB_CONTAINER_H
 
@@ -45,7 +50,7 @@ extern "C" {
 
 /* The version of this header, as pdb_version returns that of the library: 10,000 times the major
  * number, plus 100 times the minor one, plus the patch. */
-#define PDB_VERSION 100
+#define PDB_VERSION 200
 uint32_t pdb_version(void);
 
 /* ---- how a call ends */
@@ -64,13 +69,13 @@ enum pdb_status {
     PDB_STREAM_NOT_FOUND = 4,               /* there is no such stream [its number] */
     PDB_STREAM_NAME_NOT_FOUND = 5,          /* no stream has this name */
     PDB_INVALID_STREAM_LENGTH = 6,          /* not a multiple of the length of its records [which
-                                               stream: pdb_error_text says it] */
+                                               stream: pdb_fault_text says it] */
     PDB_IO_ERROR = 7,                       /* the file ends too soon [always 1] */
     PDB_UNEXPECTED_EOF = 8,                 /* the bytes end before the value that is to be read
                                                from them does */
     PDB_UNIMPLEMENTED_FEATURE = 9,          /* a part of the format that is not read [which:
-                                               pdb_error_text says it] */
-    PDB_INVALID_TYPE_INFORMATION_HEADER = 13, /* [what is wrong: pdb_error_text says it] */
+                                               pdb_fault_text says it] */
+    PDB_INVALID_TYPE_INFORMATION_HEADER = 13, /* [what is wrong: pdb_fault_text says it] */
     PDB_TYPE_TOO_SHORT = 14,                /* an item's length leaves no room for its kind */
     PDB_TYPE_NOT_FOUND = 15,                /* [the index] */
     PDB_UNIMPLEMENTED_TYPE_KIND = 17,       /* [the kind] */
@@ -84,8 +89,7 @@ enum pdb_status {
     PDB_ALREADY_OPEN = 100, /* the handle holds something already */
     PDB_NOT_OPEN = 101,     /* the handle holds nothing */
     PDB_TOO_SMALL = 102,    /* the array has no room for the answer */
-    PDB_TOO_LONG = 103,     /* the stream has 4,294,967,295 bytes or more */
-    PDB_NO_TEXT = 104,      /* pdb_error_text has no text for the fault */
+    PDB_NO_TEXT = 104,      /* pdb_fault_text has no text for the fault */
     PDB_END = 105,          /* the walk is at its end */
     PDB_NONE = 106,         /* there is no such value */
     PDB_UNMAPPED = 107      /* the table moves the address nowhere */
@@ -98,42 +102,9 @@ typedef struct pdb_fault {
     uint32_t second;
 } pdb_fault;
 
-/* Returns a text for every status. */
-static inline const char *pdb_status_text(uint32_t status) {
-    switch (status) {
-    case PDB_OK: return "success";
-    case PDB_UNRECOGNIZED_FILE_FORMAT: return "not a program database of version 7.00";
-    case PDB_PAGE_REFERENCE_OUT_OF_RANGE: return "a page number is out of range";
-    case PDB_INVALID_PAGE_SIZE: return "invalid page size";
-    case PDB_STREAM_NOT_FOUND: return "no such stream";
-    case PDB_STREAM_NAME_NOT_FOUND: return "no stream of this name";
-    case PDB_INVALID_STREAM_LENGTH: return "the stream's length is no multiple of its records'";
-    case PDB_IO_ERROR: return "IO error while reading PDB: the file ends too soon";
-    case PDB_UNEXPECTED_EOF: return "the bytes end too soon";
-    case PDB_UNIMPLEMENTED_FEATURE: return "a part of the format that is not read";
-    case PDB_INVALID_TYPE_INFORMATION_HEADER: return "invalid header of a table of types or ids";
-    case PDB_TYPE_TOO_SHORT: return "a record's length leaves no room for its kind";
-    case PDB_TYPE_NOT_FOUND: return "no type or id of this index";
-    case PDB_UNIMPLEMENTED_TYPE_KIND: return "a record kind that is not read";
-    case PDB_UNEXPECTED_NUMERIC_PREFIX: return "a number's prefix announces no width";
-    case PDB_ADDRESS_MAP_NOT_FOUND: return "no section headers, and so no address map";
-    case PDB_OUT_OF_MEMORY: return "an allocation failed";
-    case PDB_ALREADY_OPEN: return "the handle is open already";
-    case PDB_NOT_OPEN: return "the handle is not open";
-    case PDB_TOO_SMALL: return "the array has no room for the answer";
-    case PDB_TOO_LONG: return "the stream has 4,294,967,295 bytes or more";
-    case PDB_NO_TEXT: return "no text for this fault";
-    case PDB_END: return "the end of the walk";
-    case PDB_NONE: return "no such value";
-    case PDB_UNMAPPED: return "the address is moved nowhere";
-    default: return "unknown status";
-    }
-}
-
-/* Copies the text of the error in `about`, with its numbers, and no NUL. The status is PDB_NO_TEXT
- * for PDB_OK, for PDB_IO_ERROR and from PDB_ALREADY_OPEN on. */
-uint32_t pdb_error_text(const pdb_fault *about, uint8_t *room, size_t room_length, size_t *length,
-                        pdb_fault *fault);
+/* Copies the text of a fault in English, with its numbers. The status is PDB_NO_TEXT for a status
+ * that is none of enum pdb_status, or numbers that do not go with it. */
+uint32_t pdb_fault_text(const pdb_fault *fault, char *buffer, size_t buffer_length, size_t *length);
 
 /* ---- handles */
 
@@ -141,6 +112,7 @@ uint32_t pdb_error_text(const pdb_fault *about, uint8_t *room, size_t room_lengt
 typedef struct pdb_handle {
     void *held;
     uint32_t kind;
+    pdb_fault fault; /* how the last call on it ended */
 } pdb_handle;
 
 /* A file, whose bytes stay with the caller: its header and its directory are kept. */
@@ -170,100 +142,31 @@ typedef struct pdb_frames {
     pdb_handle handle;
 } pdb_frames;
 
-/* A table of types or of ids. */
+/* A table of types or of ids, a walk along it, and the definitions of its types once they are asked
+ * for. */
 typedef struct pdb_types {
     pdb_handle handle;
 } pdb_types;
 
-/* The definitions of a table of types. */
-typedef struct pdb_definitions {
-    pdb_handle handle;
-} pdb_definitions;
+/* Closes a handle, which isn't null, as pdb_close does. */
+void pdb_handle_close(pdb_handle *handle);
 
-/* Closes a handle, which isn't null, and frees what it held. A handle that holds nothing is left
- * unchanged. What was opened from a file may be used when the file is closed. */
-void pdb_close(pdb_handle *handle);
+/* Closes a handle of any kind but a file, such as &types.handle, and frees what it held. Null, and
+ * a handle that holds nothing, are left alone. What was opened from a file may be used when the
+ * file is closed. */
+static inline void pdb_close(pdb_handle *handle) {
+    if (handle) pdb_handle_close(handle);
+}
 
-/* These close each kind of handle. Like free, they accept NULL. */
+/* Closes a file in the same way. */
 static inline void pdb_file_close(pdb_file *file) {
     if (!file) return;
-    pdb_close(&file->handle);
+    pdb_handle_close(&file->handle);
     file->bytes = NULL;
     file->length = 0;
 }
-static inline void pdb_names_close(pdb_names *names) {
-    if (names) pdb_close(&names->handle);
-}
-static inline void pdb_omap_close(pdb_omap *omap) {
-    if (omap) pdb_close(&omap->handle);
-}
-static inline void pdb_address_map_close(pdb_address_map *map) {
-    if (map) pdb_close(&map->handle);
-}
-static inline void pdb_frames_close(pdb_frames *frames) {
-    if (frames) pdb_close(&frames->handle);
-}
-static inline void pdb_types_close(pdb_types *types) {
-    if (types) pdb_close(&types->handle);
-}
-static inline void pdb_definitions_close(pdb_definitions *definitions) {
-    if (definitions) pdb_close(&definitions->handle);
-}
 
-/* ---- which file it is, from its bytes alone */
-
-/* What identifies a file. */
-typedef struct pdb_identity {
-    uint32_t version;          /* the version of the format, such as 20000404 for version 7 */
-    uint32_t signature;        /* when the file was made, in seconds since 1970, or a hash */
-    uint32_t age;              /* the age in the key: debug_age, or information_age if there is no
-                                  debug information */
-    uint32_t information_age;  /* the age in stream 1: how often the file was written */
-    uint32_t has_debug_header; /* whether there is debug information, 0 or 1; if not, as in the
-                                  file of a type server, the next three numbers are 0 */
-    uint32_t debug_age;        /* the age of the debug information, in stream 3 */
-    uint16_t machine;          /* as in the header of an image, such as 0x8664 for x86-64 */
-    uint16_t flags;            /* values of enum pdb_identity_flag, added up */
-    uint8_t guid[16];          /* the bytes as they stand in the file, and in the image's debug
-                                  directory */
-    uint32_t has_features;     /* 1 if the features can be found; 0 if the table of stream names
-                                  before them is cut, and then the next number is 0 */
-    uint32_t features;         /* values of enum pdb_feature, added up */
-} pdb_identity;
-
-/* What the debug information says of the file. */
-enum pdb_identity_flag {
-    PDB_LINKED_INCREMENTALLY = 1,
-    PDB_PRIVATE_SYMBOLS_STRIPPED = 2,
-    PDB_TYPES_MAY_CONFLICT = 4
-};
-
-/* The features that the file tells of itself, in the numbers after the stream names in stream 1. If
- * VC110 is among them, those behind it are not read. */
-enum pdb_feature {
-    PDB_FEATURE_VC110 = 1,         /* in the format of Visual C++ 11, with a table of ids */
-    PDB_FEATURE_VC140 = 2,         /* in the format of Visual C++ 14, with a table of ids */
-    PDB_FEATURE_NO_TYPE_MERGE = 4, /* the types of the object files are not merged */
-    PDB_FEATURE_MINIMAL = 8        /* minimal debug information, as /DEBUG:FASTLINK makes it: the
-                                      rest is in the object files */
-};
-
-/* Writes what identifies a file. It reads streams 1 and 3 alone. */
-uint32_t pdb_identity_of(const uint8_t *file, size_t file_length, pdb_identity *identity,
-                         pdb_fault *fault);
-
-/* The forms of a key. */
-enum pdb_key_form {
-    PDB_KEY_UPPER = 0, /* as symbol stores and Breakpad have it: the GUID and then the age, in
-                          hexadecimal digits, in upper case */
-    PDB_KEY_LOWER = 1, /* the same in lower case, as SSQP has it */
-    PDB_KEY_GUID = 2   /* the GUID alone, in upper case and with hyphens */
-};
-
-/* Copies the key under which a symbol server stores a file, of at most 40 bytes. The form is a
- * value of enum pdb_key_form; for any other, the status is PDB_NONE. */
-uint32_t pdb_key(const pdb_identity *identity, uint32_t form, uint8_t *room, size_t room_length,
-                 size_t *length, pdb_fault *fault);
+/* ---- which format it is, from the first bytes */
 
 /* The formats that are told apart by the first bytes of a file. */
 enum pdb_format {
@@ -360,64 +263,57 @@ typedef struct pdb_finding {
 /* Writes what is wrong in a file. If `every` is 0, this is the first error of each part, or its
  * first warning if it has no error; otherwise it is everything. The file is whole exactly if no
  * finding is an error. That is about its types, ids, names, sections, addresses and frames; modules
- * and symbols are not read, only their sizes are checked. */
-uint32_t pdb_validate(const uint8_t *file, size_t file_length, uint32_t every, pdb_finding *room,
-                      size_t room_length, size_t *length, pdb_fault *fault);
+ * and symbols are not read, only their sizes are checked. Each call reads the whole file, so
+ * pass an array that is likely to be long enough at once. */
+uint32_t pdb_validate(const uint8_t *bytes, size_t bytes_length, uint32_t every,
+                      pdb_finding *findings, size_t findings_length, size_t *length);
 
 /* ---- the streams of a file */
 
 /* Streams whose numbers are fixed, and the number that stands for none. */
-enum pdb_stream_number { PDB_TYPES_STREAM = 2, PDB_IDS_STREAM = 4, PDB_NO_STREAM = 0xffff };
+enum pdb_stream_number { PDB_TYPES = 2, PDB_IDS = 4, PDB_NO_STREAM = 0xffff };
 
-/* Opens a file: reads its header and its directory. The bytes are not copied. The calls of this
- * section end with PDB_NOT_OPEN if the file isn't open. */
-uint32_t pdb_file_open(const uint8_t *bytes, size_t bytes_length, pdb_file *file,
-                       pdb_fault *fault);
+/* Opens a file: reads its header and its directory. The bytes are not copied. The calls that take a
+ * file end with PDB_NOT_OPEN if it isn't open. */
+uint32_t pdb_file_open(const uint8_t *bytes, size_t bytes_length, pdb_file *file);
 
-/* Writes the size of the file's pages in bytes, which is a power of two from 256 to 8,388,608. */
-uint32_t pdb_file_page_size(pdb_file *file, uint32_t *page_size, pdb_fault *fault);
+/* The sizes in a file. */
+typedef struct pdb_sizes {
+    uint32_t page_size;    /* in bytes, a power of two from 256 to 8,388,608 */
+    uint32_t stream_count; /* how many streams the directory has, including absent ones: their
+                              numbers are those below this count */
+} pdb_sizes;
 
-/* Writes how many streams the directory has, including absent ones. The streams' numbers are those
- * below this count. */
-uint32_t pdb_file_stream_count(pdb_file *file, uint32_t *count, pdb_fault *fault);
+/* Writes the sizes in a file. */
+uint32_t pdb_file_sizes(pdb_file *file, pdb_sizes *sizes);
 
 /* Writes the size of a stream in bytes, as the directory gives it. The status is
  * PDB_STREAM_NOT_FOUND if the stream is absent. Whether the stream's pages hold that many bytes is
  * checked only when the stream is copied. */
-uint32_t pdb_file_stream_size(pdb_file *file, uint32_t number, uint32_t *size, pdb_fault *fault);
+uint32_t pdb_file_stream_size(pdb_file *file, uint32_t number, uint32_t *size);
 
-/* Copies the bytes of a stream, at most `limit` of them. The limit may be SIZE_MAX. */
-uint32_t pdb_file_stream(pdb_file *file, uint32_t number, size_t limit, uint8_t *room,
-                         size_t room_length, size_t *length, pdb_fault *fault);
+/* Copies the bytes of a stream, at most `limit` of them. The limit may be SIZE_MAX. The length is
+ * that in the directory, so to ask for it reads nothing of the stream, unless the file has fewer
+ * bytes than that. */
+uint32_t pdb_file_stream(pdb_file *file, uint32_t number, size_t limit, uint8_t *buffer,
+                         size_t buffer_length, size_t *length);
 
 /* Copies the bytes of the first stream with this name, such as "/names". */
-uint32_t pdb_file_named_stream(pdb_file *file, const uint8_t *name, size_t name_length,
-                               uint8_t *room, size_t room_length, size_t *length,
-                               pdb_fault *fault);
+uint32_t pdb_file_named_stream(pdb_file *file, const char *name, size_t name_length,
+                               uint8_t *buffer, size_t buffer_length, size_t *length);
 
-/* The numbers in stream 1 of a file. */
-typedef struct pdb_information {
-    uint32_t version;   /* the version of the format, such as 20000404 for version 7 */
-    uint32_t signature; /* when the file was made, in seconds since 1970, or a hash */
-    uint32_t age;       /* how often the file was written */
-    uint8_t guid[16];   /* the bytes as they are in the file */
-} pdb_information;
-
-/* Writes the numbers in stream 1. */
-uint32_t pdb_file_information(pdb_file *file, pdb_information *information, pdb_fault *fault);
-
-/* A stream that has a name, and the length of the name in bytes. */
+/* A stream that has a name, and where its name is among the names. */
 typedef struct pdb_named_stream {
+    size_t name_offset;
     size_t name_length;
     uint32_t number; /* PDB_NO_STREAM if the file gives no stream for the name */
 } pdb_named_stream;
 
-/* Writes the streams that have names, in the order in which the file lists them, and the bytes of
- * their names, one name after another. The status is PDB_UNIMPLEMENTED_FEATURE if the names
- * together have more bytes than the file. That can only be if names overlap. */
+/* Writes the streams that have names, in the order in which the file lists them, and their names,
+ * each with a NUL at its end. The status is PDB_UNIMPLEMENTED_FEATURE if the names together have
+ * more bytes than the file. That can only be if names overlap. */
 uint32_t pdb_file_stream_names(pdb_file *file, pdb_named_stream *rows, size_t rows_length,
-                               size_t *count, uint8_t *names, size_t names_length, size_t *size,
-                               pdb_fault *fault);
+                               size_t *count, char *names, size_t names_length, size_t *size);
 
 /* The numbers of the streams in eleven roles, each PDB_NO_STREAM if the file has no such stream. */
 typedef struct pdb_roles {
@@ -435,42 +331,88 @@ typedef struct pdb_roles {
 } pdb_roles;
 
 /* Writes the numbers of the streams in their roles. */
-uint32_t pdb_file_roles(pdb_file *file, pdb_roles *roles, pdb_fault *fault);
+uint32_t pdb_file_roles(pdb_file *file, pdb_roles *roles);
 
-/* Opens the address map of a file. */
-uint32_t pdb_file_addresses(pdb_file *file, pdb_address_map *addresses, pdb_fault *fault);
+/* What identifies a file. */
+typedef struct pdb_identity {
+    uint32_t version;          /* the version of the format, such as 20000404 for version 7 */
+    uint32_t signature;        /* when the file was made, in seconds since 1970, or a hash */
+    uint32_t age;              /* the age in the key: debug_age, or information_age if there is no
+                                  debug information */
+    uint32_t information_age;  /* the age in stream 1: how often the file was written */
+    uint32_t has_debug_header; /* whether there is debug information, 0 or 1; if not, as in the
+                                  file of a type server, the next three numbers are 0 */
+    uint32_t debug_age;        /* the age of the debug information, in stream 3 */
+    uint16_t machine;          /* as in the header of an image, such as 0x8664 for x86-64 */
+    uint16_t flags;            /* values of enum pdb_identity_flag, added up */
+    uint8_t guid[16];          /* the bytes as they stand in the file, and in the image's debug
+                                  directory */
+    uint32_t has_features;     /* 1 if the features can be found; 0 if the table of stream names
+                                  before them is cut, and then the next number is 0 */
+    uint32_t features;         /* values of enum pdb_feature, added up */
+} pdb_identity;
 
-/* Opens the frame table of a file. */
-uint32_t pdb_file_frames(pdb_file *file, pdb_frames *frames, pdb_fault *fault);
+/* What the debug information says of the file. */
+enum pdb_identity_flag {
+    PDB_LINKED_INCREMENTALLY = 1,
+    PDB_PRIVATE_SYMBOLS_STRIPPED = 2,
+    PDB_TYPES_MAY_CONFLICT = 4
+};
+
+/* The features that the file tells of itself, in the numbers after the stream names in stream 1. If
+ * VC110 is among them, those behind it are not read. */
+enum pdb_feature {
+    PDB_FEATURE_VC110 = 1,         /* in the format of Visual C++ 11, with a table of ids */
+    PDB_FEATURE_VC140 = 2,         /* in the format of Visual C++ 14, with a table of ids */
+    PDB_FEATURE_NO_TYPE_MERGE = 4, /* the types of the object files are not merged */
+    PDB_FEATURE_MINIMAL = 8        /* minimal debug information, as /DEBUG:FASTLINK makes it: the
+                                      rest is in the object files */
+};
+
+/* Writes what identifies a file. It reads streams 1 and 3 alone. */
+uint32_t pdb_file_identity(pdb_file *file, pdb_identity *identity);
+
+/* The forms of a key. */
+enum pdb_key_form {
+    PDB_KEY_UPPER = 0, /* as symbol stores and Breakpad have it: the GUID and then the age, in
+                          hexadecimal digits, in upper case */
+    PDB_KEY_LOWER = 1, /* the same in lower case, as SSQP has it */
+    PDB_KEY_GUID = 2   /* the GUID alone, in upper case and with hyphens */
+};
+
+/* Copies the key under which a symbol server stores a file, of at most 40 bytes. The form is a
+ * value of enum pdb_key_form; for any other, the status is PDB_NONE. */
+uint32_t pdb_key(const pdb_identity *identity, uint32_t form, char *buffer, size_t buffer_length,
+                 size_t *length);
 
 /* ---- names */
 
-/* Opens the string table in a stream, such as the one named /names. The stream is copied. */
-uint32_t pdb_names_open(const uint8_t *stream, size_t stream_length, pdb_names *names,
-                        pdb_fault *fault);
+/* Opens the string table of a file, which is the stream named "/names". */
+uint32_t pdb_names_open(pdb_file *file, pdb_names *names);
 
-/* Where a name is in the stream of its table: how many bytes of the stream are before it, and how
+/* Copies the name at an offset. The first name is at offset 0, and each later one begins right
+ * after the NUL of the name before it; an offset within a name gives the rest of the name. The
+ * status is PDB_UNEXPECTED_EOF if no NUL follows. */
+uint32_t pdb_names_get(pdb_names *names, uint32_t offset, char *buffer, size_t buffer_length,
+                       size_t *length);
+
+/* Where a name is in the stream named "/names": how many bytes of the stream are before it, and how
  * many bytes it has without its NUL. */
 typedef struct pdb_name {
     size_t offset;
     size_t length;
 } pdb_name;
 
-/* Writes where the name at an offset is in the caller's stream. Nothing is copied. The first name
- * is at offset 0, and each later one begins right after the NUL of the name before it; an offset
- * within a name gives the rest of the name. The status is PDB_UNEXPECTED_EOF if no NUL follows. */
-uint32_t pdb_names_place(pdb_names *names, uint32_t offset, pdb_name *place, pdb_fault *fault);
-
-/* Writes where the name at each of some offsets is, in their order: what pdb_names_place writes, or
- * zeros if no name is there. For many names one such call takes less time than a call for each. */
+/* Writes where the name at each of some offsets is, in their order, or zeros if no name is there.
+ * For many names, with the bytes of the stream at hand, it takes less time than pdb_names_get for
+ * each. */
 uint32_t pdb_names_places(pdb_names *names, const uint32_t *offsets, size_t offsets_length,
-                          pdb_name *room, size_t room_length, size_t *length, pdb_fault *fault);
+                          pdb_name *places, size_t places_length, size_t *length);
 
 /* ---- addresses */
 
-/* Opens the OMAP table in a stream, which is copied. */
-uint32_t pdb_omap_open(const uint8_t *stream, size_t stream_length, pdb_omap *omap,
-                       pdb_fault *fault);
+/* Opens the OMAP table in a stream of a file, such as that of the role omap_from_src. */
+uint32_t pdb_omap_open(pdb_file *file, uint32_t number, pdb_omap *omap);
 
 /* A record of an OMAP table, which moves the addresses from its source up to the next record's. */
 typedef struct pdb_omap_record {
@@ -479,16 +421,16 @@ typedef struct pdb_omap_record {
 } pdb_omap_record;
 
 /* Writes the records of a table, in their order. */
-uint32_t pdb_omap_records(pdb_omap *omap, pdb_omap_record *room, size_t room_length,
-                          size_t *length, pdb_fault *fault);
+uint32_t pdb_omap_records(pdb_omap *omap, pdb_omap_record *records, size_t records_length,
+                          size_t *length);
 
 /* Writes 1 if no record has a source below that of the record before it, and 0 if one has. */
-uint32_t pdb_omap_is_sorted(pdb_omap *omap, uint32_t *is_sorted, pdb_fault *fault);
+uint32_t pdb_omap_is_sorted(pdb_omap *omap, uint32_t *is_sorted);
 
 /* Writes the address to which a table moves an address. The status is PDB_UNMAPPED if the table
  * moves it nowhere. If the table isn't sorted, the answer may come from whichever record has its
  * source at or below the address, or be PDB_UNMAPPED. */
-uint32_t pdb_omap_lookup(pdb_omap *omap, uint32_t address, uint32_t *target, pdb_fault *fault);
+uint32_t pdb_omap_lookup(pdb_omap *omap, uint32_t address, uint32_t *target);
 
 /* A range of addresses, its end excluded. */
 typedef struct pdb_span {
@@ -498,8 +440,8 @@ typedef struct pdb_span {
 
 /* Writes the ranges to which a table moves the addresses of a range: one for each record that moves
  * some of them. This needn't hold if the table isn't sorted. */
-uint32_t pdb_omap_ranges(pdb_omap *omap, uint32_t start, uint32_t end, pdb_span *room,
-                         size_t room_length, size_t *length, pdb_fault *fault);
+uint32_t pdb_omap_ranges(pdb_omap *omap, uint32_t start, uint32_t end, pdb_span *spans,
+                         size_t spans_length, size_t *length);
 
 /* The header of a section. */
 typedef struct pdb_section {
@@ -534,18 +476,22 @@ typedef struct pdb_section {
 #define PDB_SECTION_READ UINT32_C(0x40000000)
 #define PDB_SECTION_WRITE UINT32_C(0x80000000)
 
-/* Writes the headers of the sections that a stream holds. */
-uint32_t pdb_sections(const uint8_t *stream, size_t stream_length, pdb_section *room,
-                      size_t room_length, size_t *count, pdb_fault *fault);
+/* Writes the headers of the sections that a stream of a file holds, such as that of the role
+ * section_headers. */
+uint32_t pdb_file_sections(pdb_file *file, uint32_t number, pdb_section *sections,
+                           size_t sections_length, size_t *length);
 
-/* A place in a section of an image. Sections are counted from 1. */
-typedef struct pdb_place {
+/* Opens the address map of a file. */
+uint32_t pdb_address_map_open(pdb_file *file, pdb_address_map *map);
+
+/* An address as a section of an image and an offset in it. Sections are counted from 1. */
+typedef struct pdb_section_offset {
     uint32_t offset;
     uint32_t section;
-} pdb_place;
+} pdb_section_offset;
 
-/* The forms of an address or a place. An RVA is an address in the image as it is loaded, and an
- * internal RVA is one in the original image, to which the parts of a program database refer. */
+/* The forms of an address. An RVA is an address in the image as it is loaded, and an internal RVA
+ * is one in the original image, to which the parts of a program database refer. */
 enum pdb_address_form {
     PDB_RVA = 0,
     PDB_SECTION_OFFSET = 1,
@@ -553,36 +499,32 @@ enum pdb_address_form {
     PDB_INTERNAL_SECTION_OFFSET = 3
 };
 
-/* The four forms of an address or a place. A form that doesn't exist is 0, and so is its flag. */
+/* The four forms of an address. A form that doesn't exist is 0, and so is its flag. */
 typedef struct pdb_translation {
     uint32_t has_rva;
     uint32_t rva;
-    uint32_t has_place;
-    pdb_place place;
+    uint32_t has_section_offset;
+    pdb_section_offset section_offset;
     uint32_t has_internal_rva;
     uint32_t internal_rva;
-    uint32_t has_internal_place;
-    pdb_place internal_place;
+    uint32_t has_internal_section_offset;
+    pdb_section_offset internal_section_offset;
 } pdb_translation;
 
-/* Writes the four forms of an address or a place. `form` is the form that is given, a value of enum
- * pdb_address_form; for any other, the status is PDB_NONE. For an address, `offset` is the address,
- * and `section` doesn't count. If an OMAP table isn't sorted, the forms in the other image come
- * from some record at or below the address, or don't exist. */
-uint32_t pdb_translate(pdb_address_map *addresses, uint32_t form, uint16_t section, uint32_t offset,
-                       pdb_translation *translation, pdb_fault *fault);
+/* Writes the four forms of an address. `form` is the form that is given, a value of enum
+ * pdb_address_form; for any other, the status is PDB_NONE. For an RVA, `offset` is the address, and
+ * `section` doesn't count. If an OMAP table isn't sorted, the forms in the other image come from
+ * some record at or below the address, or don't exist. */
+uint32_t pdb_translate(pdb_address_map *map, uint32_t form, uint16_t section, uint32_t offset,
+                       pdb_translation *translation);
 
-/* Writes where the addresses of a range of the original image lie in the image as it is loaded.
- * Laid end to end, the ranges are what pdb_translate gives for each address in turn, without the
- * addresses that go nowhere or to 0xffffffff. This needn't hold if the OMAP table isn't sorted. */
-uint32_t pdb_rva_ranges(pdb_address_map *addresses, uint32_t start, uint32_t end, pdb_span *room,
-                        size_t room_length, size_t *length, pdb_fault *fault);
-
-/* Writes where the addresses of a range of the image as it is loaded lie in the original image, in
- * the same way. */
-uint32_t pdb_internal_rva_ranges(pdb_address_map *addresses, uint32_t start, uint32_t end,
-                                 pdb_span *room, size_t room_length, size_t *length,
-                                 pdb_fault *fault);
+/* Writes where the addresses of a range of one image lie in the other. With the form
+ * PDB_INTERNAL_RVA the range is one of the original image, and with PDB_RVA it is one of the image
+ * as it is loaded; for any other form, the status is PDB_NONE. Laid end to end, the ranges are what
+ * pdb_translate gives for each address in turn, without the addresses that go nowhere or to
+ * 0xffffffff. This needn't hold if the OMAP table isn't sorted. */
+uint32_t pdb_address_ranges(pdb_address_map *map, uint32_t form, uint32_t start, uint32_t end,
+                            pdb_span *spans, size_t spans_length, size_t *length);
 
 /* ---- frames */
 
@@ -615,72 +557,65 @@ typedef struct pdb_frame {
     uint32_t program; /* the offset of its unwind program in the string table, or 0 */
 } pdb_frame;
 
+/* Opens the frame table of a file. */
+uint32_t pdb_frames_open(pdb_file *file, pdb_frames *frames);
+
 /* Writes the frame for an address of the original image. A file has up to two streams of frames,
  * one in an old format and one in a new one. Each is searched for the frame that starts at the
  * address; or else for the last one that starts below it, if its code contains the address; or else
  * for the first above it. If frames are found in both, the one with the lower start is written. So
  * compare code_start and code_size with the address. The status is PDB_NONE if there is none. If
  * the starts of a stream don't increase, any of its frames may be found, or none. */
-uint32_t pdb_frames_at(pdb_frames *frames, uint32_t address, pdb_frame *frame, pdb_fault *fault);
+uint32_t pdb_frames_at(pdb_frames *frames, uint32_t address, pdb_frame *frame);
 
 /* Writes all frames, ordered by their starts. If records of both formats start at one address, only
  * the newer format's is written. */
-uint32_t pdb_frames_list(pdb_frames *frames, pdb_frame *room, size_t room_length, size_t *length,
-                         pdb_fault *fault);
+uint32_t pdb_frames_list(pdb_frames *frames, pdb_frame *rows, size_t rows_length, size_t *length);
 
 /* ---- tables of types and of ids */
 
-/* Opens the table of types or of ids in a stream, such as PDB_TYPES_STREAM or PDB_IDS_STREAM. The
- * stream is copied. A walk along the table begins at its first item. */
-uint32_t pdb_types_open(const uint8_t *stream, size_t stream_length, pdb_types *table,
-                        pdb_fault *fault);
+/* Opens the table of types of a file with the number PDB_TYPES, or the table of ids with PDB_IDS.
+ * It reads the stream, which may have any number: what PDB_IDS holds are ids, and any other stream
+ * holds types. A walk along the table begins at its first item. */
+uint32_t pdb_types_open(pdb_file *file, uint32_t number, pdb_types *types);
 
-/* Writes the index of the first item. */
-uint32_t pdb_types_first_index(pdb_types *table, uint32_t *index, pdb_fault *fault);
+/* The indexes that the header of a table counts: those from the first on that are below the end.
+ * The walk may yield fewer items, or more. */
+typedef struct pdb_index_range {
+    uint32_t first;
+    uint32_t end;
+} pdb_index_range;
 
-/* Writes the number of indexes that the header counts. The walk may yield fewer items, or more. */
-uint32_t pdb_types_count(pdb_types *table, uint32_t *count, pdb_fault *fault);
+/* Writes the indexes that the header of a table counts. */
+uint32_t pdb_types_range(pdb_types *types, pdb_index_range *range);
 
-/* Where a record is in the stream of its table. The calls on records take the bytes there, of the
- * caller's stream. */
+/* Where a record is in the stream of its table. */
 typedef struct pdb_record {
     uint32_t index;
     uint32_t offset; /* the number of bytes of the stream before the record */
     uint32_t length; /* the number of bytes of the record and its padding, at most 65,535 */
 } pdb_record;
 
-/* Writes where the record of an index is. The table remembers where each block of eight items
- * begins, as far as it was scanned. A call scans on from there if the index lies beyond, and
- * otherwise reads at most eight lengths; the walk of pdb_types_next stays where it is. An index
- * below the first one (in a table of types, that of a primitive type) has no record in the stream,
- * so the status is PDB_NONE. */
-uint32_t pdb_types_find(pdb_types *table, uint32_t index, pdb_record *record, pdb_fault *fault);
-
 /* What was found of the record of an index. */
 typedef struct pdb_found_record {
-    pdb_record place; /* the index, and where the record is, or zeros if it isn't found */
-    pdb_fault fault;  /* PDB_OK, or why it isn't found */
+    pdb_record position; /* the index, and where the record is, or zeros if it isn't found */
+    pdb_fault fault;     /* PDB_OK, or why it isn't found */
 } pdb_found_record;
 
-/* Writes what pdb_types_find finds for each of some indexes, in their order. For many records one
- * such call takes less time than a call for each. */
-uint32_t pdb_types_find_all(pdb_types *table, const uint32_t *indexes, size_t indexes_length,
-                            pdb_found_record *room, size_t room_length, size_t *length,
-                            pdb_fault *fault);
-
-/* Writes the index of the next record of the walk along the table, and where it is. The status is
- * PDB_END after the last record, and the error if the walk stops before. In both cases the index is
- * the one at which the walk stopped, and the offset and the length are 0. */
-uint32_t pdb_types_next(pdb_types *table, pdb_record *record, pdb_fault *fault);
-
-/* Moves the walk back to before the first item. */
-uint32_t pdb_types_rewind(pdb_types *table, pdb_fault *fault);
+/* Writes where the record of each of some indexes is, in their order. An index below the first one
+ * (in a table of types, that of a primitive type) has no record in the stream, so its status is
+ * PDB_NONE. The table remembers where each block of eight items begins, as far as it was scanned:
+ * an index beyond is scanned for, and for any other at most eight lengths are read. The walk of
+ * pdb_types_read stays where it is. */
+uint32_t pdb_types_find(pdb_types *types, const uint32_t *indexes, size_t indexes_length,
+                        pdb_found_record *records, size_t records_length, size_t *length);
 
 /* ---- what a record says */
 
-/* The shapes of types. */
+/* tools/bindings writes from here */
+/* The shapes of types and of ids. */
 enum pdb_shape {
-    PDB_PRIMITIVE = 0,
+    PDB_PRIMITIVE = 0, /* a type without a record */
     PDB_CLASS = 1,
     PDB_MEMBER = 2,
     PDB_MEMBER_FUNCTION = 3,
@@ -700,20 +635,17 @@ enum pdb_shape {
     PDB_UNION = 17,
     PDB_BITFIELD = 18,
     PDB_FIELD_LIST = 19,
-    PDB_ARGUMENT_LIST = 20,
-    PDB_METHOD_LIST = 21,
-    PDB_VIRTUAL_TABLE_SHAPE = 22
+    PDB_ARGUMENT_LIST = 20, /* pdb_type_numbers writes its arguments */
+    PDB_METHOD_LIST = 21, /* pdb_type_methods writes its methods */
+    PDB_VIRTUAL_TABLE_SHAPE = 22,
+    PDB_FUNCTION_ID = 32,
+    PDB_MEMBER_FUNCTION_ID = 33,
+    PDB_BUILD_INFO_ID = 34, /* pdb_type_numbers writes its ids */
+    PDB_STRING_LIST_ID = 35, /* pdb_type_numbers writes its ids */
+    PDB_STRING_ID = 36,
+    PDB_TYPE_SOURCE_ID = 37
 };
-
-/* The shapes of ids. */
-enum pdb_id_shape {
-    PDB_ID_FUNCTION = 0,
-    PDB_ID_MEMBER_FUNCTION = 1,
-    PDB_ID_BUILD_INFO = 2,
-    PDB_ID_STRING_LIST = 3,
-    PDB_ID_STRING = 4,
-    PDB_ID_TYPE_SOURCE = 5
-};
+/* to here */
 
 /* The bits of `has`, which say which numbers a record has. The other numbers are 0. The second
  * group names the same bits by what the number is in shapes where it may be absent. */
@@ -824,8 +756,8 @@ enum pdb_modifier_bit {
 /* The numbers of any shape under common names, laid out as in each structure of pdb_type_info, for
  * languages without unions. */
 typedef struct pdb_row {
-    uint32_t shape;
-    uint32_t has;
+    uint32_t shape; /* a value of enum pdb_shape */
+    uint32_t has;   /* values of enum pdb_has, added up */
     uint64_t number;
     uint32_t kind;
     uint32_t attributes;
@@ -838,176 +770,235 @@ typedef struct pdb_row {
     uint32_t extra;
 } pdb_row;
 
-/* What the record of a type or an id says besides names and lists: the structure of its shape. What
- * is unused is 0. */
+/* tools/bindings writes from here */
+/* a class, a structure or an interface. `kind` is a value of enum pdb_class_kind; `count` counts
+ * fields, and each overload of a method */
+typedef struct pdb_class {
+    uint32_t shape, has;
+    uint64_t size;
+    uint32_t kind, reserved_1, properties, count, reserved_2, derived_from, vtable_shape, fields;
+} pdb_class;
+
+typedef struct pdb_member {
+    uint32_t shape, has;
+    uint64_t offset;
+    uint32_t reserved_1, attributes, reserved_2, reserved_3, field_type;
+} pdb_member;
+
+typedef struct pdb_member_function {
+    uint32_t shape, has;
+    uint64_t reserved;
+    uint32_t reserved_1, attributes, reserved_2, parameter_count, return_type, class_type,
+        this_pointer_type, argument_list, this_adjustment;
+} pdb_member_function;
+
+typedef struct pdb_overloaded_method {
+    uint32_t shape, has;
+    uint64_t reserved;
+    uint32_t reserved_1, reserved_2, reserved_3, count, reserved_4, reserved_5, reserved_6,
+        method_list;
+} pdb_overloaded_method;
+
+typedef struct pdb_method {
+    uint32_t shape, has;
+    uint64_t reserved;
+    uint32_t reserved_1, attributes, reserved_2, reserved_3, method_type, reserved_4, reserved_5,
+        reserved_6, vtable_offset;
+} pdb_method;
+
+typedef struct pdb_static_member {
+    uint32_t shape, has;
+    uint64_t reserved;
+    uint32_t reserved_1, attributes, reserved_2, reserved_3, field_type;
+} pdb_static_member;
+
+typedef struct pdb_nested {
+    uint32_t shape, has;
+    uint64_t reserved;
+    uint32_t reserved_1, attributes, reserved_2, reserved_3, nested_type;
+} pdb_nested;
+
+/* `kind` is a value of enum pdb_class_kind */
+typedef struct pdb_base_class {
+    uint32_t shape, has;
+    uint64_t offset;
+    uint32_t kind, attributes, reserved_1, reserved_2, base_class;
+} pdb_base_class;
+
+typedef struct pdb_virtual_base_class {
+    uint32_t shape, has;
+    uint64_t base_pointer_offset;
+    uint32_t is_direct, attributes, reserved_1, reserved_2, base_class, base_pointer, reserved_3,
+        reserved_4, virtual_base_offset;
+} pdb_virtual_base_class;
+
+typedef struct pdb_virtual_function_table_pointer {
+    uint32_t shape, has;
+    uint64_t reserved;
+    uint32_t reserved_1, reserved_2, reserved_3, reserved_4, table;
+} pdb_virtual_function_table_pointer;
+
+typedef struct pdb_procedure {
+    uint32_t shape, has;
+    uint64_t reserved;
+    uint32_t reserved_1, attributes, reserved_2, parameter_count, return_type, reserved_3,
+        reserved_4, argument_list;
+} pdb_procedure;
+
+typedef struct pdb_pointer {
+    uint32_t shape, has;
+    uint64_t reserved;
+    uint32_t reserved_1, attributes, reserved_2, reserved_3, underlying_type, containing_class;
+} pdb_pointer;
+
+/* `modifiers` are values of enum pdb_modifier_bit, added up */
+typedef struct pdb_modifier {
+    uint32_t shape, has;
+    uint64_t reserved;
+    uint32_t modifiers, reserved_1, reserved_2, reserved_3, underlying_type;
+} pdb_modifier;
+
+typedef struct pdb_enumeration {
+    uint32_t shape, has;
+    uint64_t reserved;
+    uint32_t reserved_1, reserved_2, properties, count, underlying_type, reserved_3, reserved_4,
+        fields;
+} pdb_enumeration;
+
+/* `value` is in two's complement if it is signed; `width` is the number of its bytes in the
+ * record, and `is_signed` says whether these have a sign. pdb_enumerator_typed gives those of the
+ * type */
+typedef struct pdb_enumerate {
+    uint32_t shape, has;
+    uint64_t value;
+    uint32_t is_signed, attributes, reserved_1, width;
+} pdb_enumerate;
+
+/* pdb_type_numbers writes its dimensions */
+typedef struct pdb_array {
+    uint32_t shape, has;
+    uint64_t reserved;
+    uint32_t reserved_1, reserved_2, reserved_3, reserved_4, element_type, indexing_type,
+        reserved_5, reserved_6, stride;
+} pdb_array;
+
+typedef struct pdb_union {
+    uint32_t shape, has;
+    uint64_t size;
+    uint32_t reserved_1, reserved_2, properties, count, reserved_3, reserved_4, reserved_5, fields;
+} pdb_union;
+
+/* `length` is in bits, `position` its lowest bit */
+typedef struct pdb_bitfield {
+    uint32_t shape, has;
+    uint64_t reserved;
+    uint32_t reserved_1, reserved_2, reserved_3, length, underlying_type, reserved_4, reserved_5,
+        reserved_6, position;
+} pdb_bitfield;
+
+/* pdb_type_fields writes its fields */
+typedef struct pdb_field_list {
+    uint32_t shape, has;
+    uint64_t reserved;
+    uint32_t reserved_1, reserved_2, reserved_3, reserved_4, reserved_5, reserved_6, reserved_7,
+        continuation;
+} pdb_field_list;
+
+typedef struct pdb_virtual_table_shape {
+    uint32_t shape, has;
+    uint64_t reserved;
+    uint32_t reserved_1, reserved_2, reserved_3, count;
+} pdb_virtual_table_shape;
+
+typedef struct pdb_function_id {
+    uint32_t shape, has;
+    uint64_t reserved;
+    uint32_t reserved_1, reserved_2, reserved_3, reserved_4, function_type, scope;
+} pdb_function_id;
+
+typedef struct pdb_member_function_id {
+    uint32_t shape, has;
+    uint64_t reserved;
+    uint32_t reserved_1, reserved_2, reserved_3, reserved_4, function_type, reserved_5, parent;
+} pdb_member_function_id;
+
+typedef struct pdb_string_id {
+    uint32_t shape, has;
+    uint64_t reserved;
+    uint32_t reserved_1, reserved_2, reserved_3, reserved_4, reserved_5, reserved_6, reserved_7,
+        substrings;
+} pdb_string_id;
+
+/* `file_name`, with PDB_HAS_MODULE, is the offset of the name in the string table */
+typedef struct pdb_type_source_id {
+    uint32_t shape, has;
+    uint64_t file_name;
+    uint32_t reserved_1, reserved_2, reserved_3, reserved_4, udt, file_id, module, reserved_5, line;
+} pdb_type_source_id;
+
+/* What the record of a type or an id says besides names and lists: the structure of its shape.
+ * What it lacks or reserves is 0. */
 typedef union pdb_type_info {
-    struct {
-        uint32_t shape; /* a value of enum pdb_shape, or for an id of enum pdb_id_shape */
-        uint32_t has;   /* values of enum pdb_has, added up */
-    } any;
     pdb_row row;
-    struct {
-        uint32_t shape, has;
-        uint64_t size;
-        uint32_t kind, unused, properties, count, unused_2, derived_from, vtable_shape, fields;
-    } class_type; /* `kind` is a value of enum pdb_class_kind; `count` counts fields, and each
-                   * overload of a method */
-    struct {
-        uint32_t shape, has;
-        uint64_t offset;
-        uint32_t unused, attributes, unused_2, unused_3, field_type;
-    } member;
-    struct {
-        uint32_t shape, has;
-        uint64_t unused;
-        uint32_t unused_2, attributes, unused_3, parameter_count, return_type, class_type;
-        uint32_t this_pointer_type, argument_list, this_adjustment;
-    } member_function;
-    struct {
-        uint32_t shape, has;
-        uint64_t unused;
-        uint32_t unused_2, unused_3, unused_4, count, unused_5, unused_6, unused_7, method_list;
-    } overloaded_method;
-    struct {
-        uint32_t shape, has;
-        uint64_t unused;
-        uint32_t unused_2, attributes, unused_3, unused_4, method_type;
-        uint32_t unused_5, unused_6, unused_7, vtable_offset;
-    } method;
-    struct {
-        uint32_t shape, has;
-        uint64_t unused;
-        uint32_t unused_2, attributes, unused_3, unused_4, field_type;
-    } static_member;
-    struct {
-        uint32_t shape, has;
-        uint64_t unused;
-        uint32_t unused_2, attributes, unused_3, unused_4, nested_type;
-    } nested;
-    struct {
-        uint32_t shape, has;
-        uint64_t offset;
-        uint32_t kind, attributes, unused, unused_2, base_class;
-    } base_class; /* `kind` is a value of enum pdb_class_kind */
-    struct {
-        uint32_t shape, has;
-        uint64_t base_pointer_offset;
-        uint32_t is_direct, attributes, unused, unused_2, base_class, base_pointer;
-        uint32_t unused_3, unused_4, virtual_base_offset;
-    } virtual_base_class;
-    struct {
-        uint32_t shape, has;
-        uint64_t unused;
-        uint32_t unused_2, unused_3, unused_4, unused_5, table;
-    } virtual_function_table_pointer;
-    struct {
-        uint32_t shape, has;
-        uint64_t unused;
-        uint32_t unused_2, attributes, unused_3, parameter_count, return_type;
-        uint32_t unused_4, unused_5, argument_list;
-    } procedure;
-    struct {
-        uint32_t shape, has;
-        uint64_t unused;
-        uint32_t unused_2, attributes, unused_3, unused_4, underlying_type, containing_class;
-    } pointer;
-    struct {
-        uint32_t shape, has;
-        uint64_t unused;
-        uint32_t modifiers, unused_2, unused_3, unused_4, underlying_type;
-    } modifier; /* `modifiers` are values of enum pdb_modifier_bit, added up */
-    struct {
-        uint32_t shape, has;
-        uint64_t unused;
-        uint32_t unused_2, unused_3, properties, count, underlying_type;
-        uint32_t unused_4, unused_5, fields;
-    } enumeration;
-    struct {
-        uint32_t shape, has;
-        union {
-            int64_t as_signed;
-            uint64_t as_unsigned;
-        } value;
-        uint32_t is_signed, attributes, unused, width;
-    } enumerate; /* `width` is the number of bytes of the value in the record, and `is_signed` says
-                  * whether these have a sign; pdb_enumerator_typed gives that of the type */
-    struct {
-        uint32_t shape, has;
-        uint64_t unused;
-        uint32_t unused_2, unused_3, unused_4, unused_5, element_type, indexing_type;
-        uint32_t unused_6, unused_7, stride;
-    } array; /* pdb_type_dimensions writes its dimensions */
-    struct {
-        uint32_t shape, has;
-        uint64_t size;
-        uint32_t unused, unused_2, properties, count, unused_3, unused_4, unused_5, fields;
-    } union_type;
-    struct {
-        uint32_t shape, has;
-        uint64_t unused;
-        uint32_t unused_2, unused_3, unused_4, length, underlying_type;
-        uint32_t unused_5, unused_6, unused_7, position;
-    } bitfield; /* `length` is in bits, `position` its lowest bit */
-    struct {
-        uint32_t shape, has;
-        uint64_t unused;
-        uint32_t unused_2, unused_3, unused_4, unused_5, unused_6, unused_7, unused_8;
-        uint32_t continuation;
-    } field_list; /* pdb_types_fields writes its fields and those of its continuations */
-    struct {
-        uint32_t shape, has;
-        uint64_t unused;
-        uint32_t unused_2, unused_3, unused_4, count;
-    } virtual_table_shape;
-    struct {
-        uint32_t shape, has;
-        uint64_t unused;
-        uint32_t unused_2, unused_3, unused_4, unused_5, function_type, scope;
-    } function_id;
-    struct {
-        uint32_t shape, has;
-        uint64_t unused;
-        uint32_t unused_2, unused_3, unused_4, unused_5, function_type, unused_6, parent;
-    } member_function_id;
-    struct {
-        uint32_t shape, has;
-        uint64_t unused;
-        uint32_t unused_2, unused_3, unused_4, unused_5, unused_6, unused_7, unused_8;
-        uint32_t substrings;
-    } string_id;
-    struct {
-        uint32_t shape, has;
-        uint64_t file_name; /* with PDB_HAS_MODULE: the offset of the name in the string table */
-        uint32_t unused, unused_2, unused_3, unused_4, udt, file_id, module, unused_5, line;
-    } type_source_id;
+    pdb_class class_type;
+    pdb_member member;
+    pdb_member_function member_function;
+    pdb_overloaded_method overloaded_method;
+    pdb_method method;
+    pdb_static_member static_member;
+    pdb_nested nested;
+    pdb_base_class base_class;
+    pdb_virtual_base_class virtual_base_class;
+    pdb_virtual_function_table_pointer virtual_function_table_pointer;
+    pdb_procedure procedure;
+    pdb_pointer pointer;
+    pdb_modifier modifier;
+    pdb_enumeration enumeration;
+    pdb_enumerate enumerate;
+    pdb_array array;
+    pdb_union union_type;
+    pdb_bitfield bitfield;
+    pdb_field_list field_list;
+    pdb_virtual_table_shape virtual_table_shape;
+    pdb_function_id function_id;
+    pdb_member_function_id member_function_id;
+    pdb_string_id string_id;
+    pdb_type_source_id type_source_id;
 } pdb_type_info;
+/* to here */
 
-/* Writes what the record of the type of an index says, given the record's bytes. An index below
- * 0x1000 is that of a primitive type, whatever the bytes are. */
-uint32_t pdb_type_parse(const uint8_t *record, size_t record_length, uint32_t index,
-                        pdb_type_info *info, pdb_fault *fault);
+/* A record of a table, and what it says. */
+typedef struct pdb_type {
+    pdb_record position; /* its index, and where it is in the stream of the table */
+    pdb_fault fault;     /* PDB_OK, or why the record can't be read */
+    pdb_type_info info;  /* what it says, or zeros if it can't be read */
+} pdb_type;
 
-/* The indexes from this one on are those of types that have a record. */
+/* Writes the next records of the walk along a table, in order. It writes as many as the array has
+ * room for, or as are left before the walk stops, and sets `count` to their number. The status is
+ * PDB_OK if the array is full; if not, it is PDB_END after the last record, and the error if the
+ * walk stops before. A record that can't be read does not stop the walk. Records behind the indexes
+ * that the header counts can't be asked for by index. */
+uint32_t pdb_types_read(pdb_types *types, pdb_type *rows, size_t rows_length, size_t *count);
+
+/* Moves the walk back to before the first item. */
+uint32_t pdb_types_rewind(pdb_types *types);
+
+/* Writes what the type or the id of an index is. The calls below end with PDB_TYPE_NOT_FOUND for an
+ * index from the end of pdb_types_range on. */
+uint32_t pdb_type_parse(pdb_types *types, uint32_t index, pdb_type_info *info);
+
+/* Copies the bytes of the record of an index, without the length before it. The status is PDB_NONE
+ * for a primitive type, which has no record. */
+uint32_t pdb_type_record(pdb_types *types, uint32_t index, uint8_t *buffer, size_t buffer_length,
+                         size_t *length);
+
+/* The indexes from this one on are those of types that have a record. An index below is that of a
+ * primitive type: its lowest byte is the kind, a number of TYPE_ENUM_e of cvinfo.h such as 0x74 for
+ * a signed integer of 32 bits, and the bits above are the indirection, a number of CV_prmode_e: 0
+ * for the type itself, 4 for a pointer of 32 bits to it, 6 for one of 64 bits. pdb_type_parse ends
+ * with PDB_TYPE_NOT_FOUND if no primitive type has the index. */
 enum { PDB_FIRST_RECORD = 0x1000 };
-
-/* Writes the kind of a primitive type, a number of TYPE_ENUM_e of cvinfo.h such as 0x74 for a
- * signed integer of 32 bits, and its indirection, a number of CV_prmode_e: 0 for the type itself,
- * 4 for a pointer of 32 bits to it, 6 for one of 64 bits. The status is PDB_NONE if the index is
- * not below 0x1000, and PDB_TYPE_NOT_FOUND if no primitive type has it. */
-static inline uint32_t pdb_primitive(uint32_t index, uint32_t *kind, uint32_t *indirection,
-                                     pdb_fault *fault) {
-    pdb_type_info info = {{0, 0}};
-    if (index >= PDB_FIRST_RECORD) {
-        fault->status = PDB_NONE;
-        fault->first = fault->second = 0;
-        return PDB_NONE;
-    }
-    if (pdb_type_parse(NULL, 0, index, &info, fault) == PDB_OK) {
-        *kind = index & 0xff;
-        *indirection = index >> 8;
-    }
-    return fault->status;
-}
 
 /* Returns the name of a kind of primitive type in C++, or NULL if there is no such kind. */
 static inline const char *pdb_primitive_name(uint32_t kind) {
@@ -1058,124 +1049,82 @@ static inline const char *pdb_primitive_name(uint32_t kind) {
     }
 }
 
-/* A record of a table of types, and what it says. */
-typedef struct pdb_type {
-    pdb_record place;   /* its index, and where it is in the stream of the table */
-    pdb_fault fault;    /* PDB_OK, or why the record can't be read */
-    pdb_type_info info; /* what it says, or zeros if it can't be read */
-} pdb_type;
+/* Copies the name of a type, or of an id: of a function, a method or a text. The status is PDB_NONE
+ * if it has none. */
+uint32_t pdb_type_name(pdb_types *types, uint32_t index, char *buffer, size_t buffer_length,
+                       size_t *length);
 
-/* Writes the next records of the walk along a table of types, in order: what pdb_types_next and
- * then pdb_type_parse write for each. It writes as many as the array has room for, or as are left
- * before the walk stops, and sets `count` to their number. The status is PDB_OK if the array is
- * full; if not, it is PDB_END after the last record, and the error if the walk stops before. A
- * record that can't be read does not stop the walk. */
-uint32_t pdb_types_read(pdb_types *table, pdb_type *types, size_t types_length, size_t *count,
-                        pdb_fault *fault);
+/* Copies the unique name of a class, a union or an enumeration. The status is PDB_NONE if there is
+ * none. */
+uint32_t pdb_type_unique_name(pdb_types *types, uint32_t index, char *buffer, size_t buffer_length,
+                              size_t *length);
 
-/* Copies the name of a type. The status is PDB_NONE if it has none. */
-uint32_t pdb_type_name(const uint8_t *record, size_t record_length, uint32_t index, uint8_t *room,
-                       size_t room_length, size_t *length, pdb_fault *fault);
-
-/* Copies the unique name of a class, a union or an enumeration. The status is PDB_NONE if the type
- * has none. */
-uint32_t pdb_type_unique_name(const uint8_t *record, size_t record_length, uint32_t index,
-                              uint8_t *room, size_t room_length, size_t *length, pdb_fault *fault);
-
-/* Copies the types of the arguments in a list of arguments. The status is PDB_NONE for any other
- * type. */
-uint32_t pdb_type_arguments(const uint8_t *record, size_t record_length, uint32_t index,
-                            uint32_t *room, size_t room_length, size_t *length, pdb_fault *fault);
-
-/* Copies the sizes in bytes that the record of an array holds. Compilers write one, that of the
- * whole array: an `int[3][4]` has 48, and its element type `int[4]` has 16. If there are several,
- * the innermost is first. The status is PDB_NONE for any other type. */
-uint32_t pdb_type_dimensions(const uint8_t *record, size_t record_length, uint32_t index,
-                             uint32_t *room, size_t room_length, size_t *length, pdb_fault *fault);
+/* Copies the numbers that a record lists: the types of the arguments in a list of arguments; the
+ * ids in the build information of a module or of the parts of a text; or the sizes in bytes in the
+ * record of an array. Compilers write one size, that of the whole array: an `int[3][4]` has 48, and
+ * its element type `int[4]` has 16. If there are several, the innermost is first. The status is
+ * PDB_NONE for any other type or id. */
+uint32_t pdb_type_numbers(pdb_types *types, uint32_t index, uint32_t *numbers,
+                          size_t numbers_length, size_t *length);
 
 /* Writes the methods in a list of methods, each of the shape PDB_METHOD. The status is PDB_NONE for
  * any other type. */
-uint32_t pdb_type_methods(const uint8_t *record, size_t record_length, uint32_t index,
-                          pdb_type_info *room, size_t room_length, size_t *length,
-                          pdb_fault *fault);
+uint32_t pdb_type_methods(pdb_types *types, uint32_t index, pdb_type_info *methods,
+                          size_t methods_length, size_t *length);
 
-/* A field: what it says, and the length of its name in bytes. */
+/* A field: what it says, and where its name is among the names. */
 typedef struct pdb_field {
     pdb_type_info info;
+    size_t name_offset;
     size_t name_length;
-    uint32_t has_name; /* 0 or 1 */
+    uint32_t has_name; /* 0 or 1; a field without a name has an empty one */
 } pdb_field;
 
-/* Writes the fields in the record of a list of fields, and the bytes of their names, one name after
- * another. The status is PDB_NONE for any other type. The continuation of a list is the index of
- * another list, which has to be below the list's own index. */
-uint32_t pdb_type_fields(const uint8_t *record, size_t record_length, uint32_t index,
-                         pdb_field *rows, size_t rows_length, size_t *count, uint8_t *names,
-                         size_t names_length, size_t *size, pdb_fault *fault);
-
-/* Writes the fields of the list of an index in an open table, and of the lists in which it
- * continues, as pdb_type_fields writes those of one list. Each of these lists has an index below
- * that of the list before it. The status is PDB_UNIMPLEMENTED_TYPE_KIND, with the kind, if a type
- * that should be a list of fields is none. */
-uint32_t pdb_types_fields(pdb_types *table, uint32_t index, pdb_field *rows, size_t rows_length,
-                          size_t *count, uint8_t *names, size_t names_length, size_t *size,
-                          pdb_fault *fault);
+/* Writes the fields of a list of fields, and their names, each with a NUL at its end. If `whole` is
+ * 0, these are the fields of its record alone, and the status is PDB_NONE for any other type.
+ * Otherwise the fields of the lists in which it continues follow. Each of these lists has an index
+ * below that of the list before it, and the status is PDB_UNIMPLEMENTED_TYPE_KIND, with the kind,
+ * if a type that should be a list of fields is none. */
+uint32_t pdb_type_fields(pdb_types *types, uint32_t index, uint32_t whole, pdb_field *rows,
+                         size_t rows_length, size_t *count, char *names, size_t names_length,
+                         size_t *size);
 
 /* Converts the value of an enumerator (PDB_ENUMERATE) to the sign and the width of the type under
- * its enumeration. A record stores a value in as few bytes as it needs. pdb_type_parse takes one
- * byte (LF_CHAR) as unsigned, so 0x80 is 128. This call takes it as signed: 0x80 becomes -128 if
- * the type is `int`, and 0xffffff80 if it is `unsigned int`. Nothing changes if the type is no
- * primitive integer of at most 64 bits, or the record is no enumerator. */
+ * its enumeration. A record stores a value in as few bytes as it needs, and one byte (LF_CHAR) is
+ * taken as unsigned, so 0x80 is 128. This call takes it as signed: 0x80 becomes -128 if the type is
+ * `int`, and 0xffffff80 if it is `unsigned int`. Nothing changes if the type is no primitive
+ * integer of at most 64 bits, or the record is no enumerator. */
 void pdb_enumerator_typed(pdb_type_info *info, uint32_t underlying_type);
-
-/* Writes what the record of an id says, given the record's bytes. */
-uint32_t pdb_id_parse(const uint8_t *record, size_t record_length, pdb_type_info *info,
-                      pdb_fault *fault);
-
-/* Copies the name of a function, a method or a text. The status is PDB_NONE for any other id. */
-uint32_t pdb_id_name(const uint8_t *record, size_t record_length, uint8_t *room, size_t room_length,
-                     size_t *length, pdb_fault *fault);
-
-/* Copies the ids in the build information of a module, or those of the parts of a text. The status
- * is PDB_NONE for any other id. */
-uint32_t pdb_id_list(const uint8_t *record, size_t record_length, uint32_t *room,
-                     size_t room_length, size_t *length, pdb_fault *fault);
 
 /* ---- definitions of types, their sizes and layouts
  *
- * A definition is a class, a union or an enumeration that is not only declared. A type that is
- * only declared (PDB_PROPERTY_FORWARD_REFERENCE) is defined by the first definition in the table
- * that has its unique name, or its name if it has no unique name. */
-
-/* Opens the table of types in a stream, which is copied, and finds its definitions in one walk. The
- * table has to end where the stream does; a record that can't be read defines nothing. */
-uint32_t pdb_definitions_open(const uint8_t *stream, size_t stream_length,
-                              pdb_definitions *definitions,
-                              pdb_fault *fault);
+ * A definition is a class, a union or an enumeration that is not only declared. A type that is only
+ * declared (PDB_PROPERTY_FORWARD_REFERENCE) is defined by the first definition in the table that
+ * has its unique name, or its name if it has no unique name.
+ *
+ * The first of these calls on a handle finds the definitions in one walk along the table, and keeps
+ * them. The table has to end where the stream does, or else each of the calls ends with the error
+ * at which the walk stops; a record that can't be read defines nothing. */
 
 /* Copies the indexes of all definitions of a name, in increasing order. The name is the one in the
  * source, with its scopes, such as "Outer::Inner", byte by byte. There may be none, and then the
  * length is 0. */
-uint32_t pdb_definitions_named(pdb_definitions *definitions, const uint8_t *name,
-                               size_t name_length, uint32_t *room, size_t room_length,
-                               size_t *length, pdb_fault *fault);
+uint32_t pdb_types_named(pdb_types *types, const char *name, size_t name_length, uint32_t *indexes,
+                         size_t indexes_length, size_t *length);
 
 /* Writes the index of the definition of a type, which is its own index if it is a definition. The
  * status is PDB_NONE if the table doesn't define it, or it is no class, union or enumeration. */
-uint32_t pdb_definition_of(pdb_definitions *definitions, uint32_t index, uint32_t *definition,
-                           pdb_fault *fault);
+uint32_t pdb_type_definition(pdb_types *types, uint32_t index, uint32_t *definition);
 
 /* Writes the size of a type in bytes. A type that is only declared is as large as its definition.
  * The status is PDB_NONE if nothing says the size, as of void, of a function or of a list. */
-uint32_t pdb_type_size(pdb_definitions *definitions, uint32_t index, uint64_t *size,
-                       pdb_fault *fault);
+uint32_t pdb_type_size(pdb_types *types, uint32_t index, uint64_t *size);
 
 /* Copies the C++ text that declares a name, which may be any text, with the type of an index, such
  * as "int (*compare)(char)", or the text of the type alone if the name is empty. It has at most
  * 65,536 bytes, and ends with ".." if it is cut. What the text says is tested, and not proved. */
-uint32_t pdb_type_text(pdb_definitions *definitions, uint32_t index, const uint8_t *name,
-                       size_t name_length, uint8_t *room, size_t room_length, size_t *length,
-                       pdb_fault *fault);
+uint32_t pdb_type_text(pdb_types *types, uint32_t index, const char *name, size_t name_length,
+                       char *buffer, size_t buffer_length, size_t *length);
 
 /* What a row of a layout is. */
 enum pdb_layout_kind {
@@ -1201,7 +1150,8 @@ enum pdb_extent {
 typedef struct pdb_layout_row {
     uint64_t offset;        /* the byte where it begins, counted from the start of the class */
     uint64_t size;          /* if the extent is bytes: how many it takes */
-    size_t name_length;     /* of a member: the length of its name in bytes */
+    size_t name_offset;     /* of a member: where its name is among the names */
+    size_t name_length;
     uint32_t kind;          /* a value of enum pdb_layout_kind */
     uint32_t extent;        /* a value of enum pdb_extent */
     uint32_t bit;           /* if the extent is bits: the first, counted from the lowest bit of the
@@ -1216,14 +1166,13 @@ typedef struct pdb_layout_row {
 /* Writes the layout of a class, a structure, an interface or a union: a row for each base class,
  * pointer to a table and data member (none for methods, static members and nested types), in the
  * order of their records, and then rows for the bits that none of these fields takes. It also
- * writes the bytes of the members' names, one name after another. Each bit of the class (8 times
+ * writes the members' names, each with a NUL at its end. Each bit of the class (8 times
  * its size) is in a field, or else in exactly one of the other rows. Fields may overlap, as those
  * of a union do, and in a damaged file they may go beyond the size. The row of a base class ends
  * before its virtual bases, which the class holds elsewhere. The status is PDB_NONE if the type has
  * no definition, or its definition is an enumeration. */
-uint32_t pdb_layout(pdb_definitions *definitions, uint32_t index, pdb_layout_row *rows,
-                    size_t rows_length, size_t *count, uint8_t *names, size_t names_length,
-                    size_t *size, pdb_fault *fault);
+uint32_t pdb_type_layout(pdb_types *types, uint32_t index, pdb_layout_row *rows, size_t rows_length,
+                         size_t *count, char *names, size_t names_length, size_t *size);
 
 #ifdef __cplusplus
 }

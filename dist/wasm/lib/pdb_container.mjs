@@ -13,11 +13,15 @@
 
 const OK = 0, TOO_SMALL = 102, NOT_THERE = [4, 5];
 const ALL = 2n ** 64n - 1n;
+/** The bytes of the largest handle, pdb_file, and those before the fault in any. */
+const HANDLE_SIZE = 40, BEFORE_FAULT = 12n;
+/** The calls that are given no handle. */
+const WITHOUT_HANDLE = ["pdb_key", "pdb_validate"];
 
 /** How a call failed: `status` of enum pdb_status, and the numbers that go with it. */
 export class PdbError extends Error {
   constructor(text, status, first = 0, second = 0) {
-    super(text || `status ${status}`);
+    super(text);
     Object.assign(this, { name: "PdbError", status, first, second });
   }
 }
@@ -76,24 +80,45 @@ class Library {
     return new DataView(this.calls.memory.buffer).getBigUint64(Number(at), true);
   }
 
-  /** The error that a structure pdb_fault reports. */
-  error(fault) {
-    const [status, first, second] = [0n, 4n, 8n].map((offset) => this.number(fault + offset));
-    const text = this.with(1024 + 20, (room) => {
-      const length = room + 1024n, told = length + 8n;
-      const failed = this.calls.pdb_error_text(fault, room, 1024n, length, told);
-      return failed ? "" : new TextDecoder().decode(this.bytes(room, this.long(length)));
+  /** The error of a status and of the numbers that go with it. */
+  error(status, first = 0, second = 0) {
+    return this.with(24 + 1024, (fault) => {
+      new Uint32Array(this.calls.memory.buffer, Number(fault), 3).set([status, first, second]);
+      const length = fault + 16n, text = fault + 24n;
+      this.calls.pdb_fault_text(fault, text, 1024n, length);
+      return new PdbError(new TextDecoder().decode(this.bytes(text, this.long(length))), status, first, second);
     });
-    return new PdbError(text, status, first, second);
   }
 
-  /** Makes a call whose last argument is the fault, and throws its error. Returns its status where that is allowed. */
+  /** The error that a call left in a handle. */
+  errorIn(handle) {
+    return this.error(...[0n, 4n, 8n].map((offset) => this.number(handle + BEFORE_FAULT + offset)));
+  }
+
+  /** Makes a call, and throws its error. Returns its status where that is allowed. */
   call(name, words, allowed = []) {
-    return this.with(12, (fault) => {
-      const status = this.calls[name](...words, fault);
-      if (status !== OK && !allowed.includes(status)) throw this.error(fault);
-      return status;
-    });
+    const status = this.calls[name](...words);
+    if (status === OK || allowed.includes(status)) return status;
+    if (WITHOUT_HANDLE.includes(name)) throw this.error(status);
+    throw this.errorIn(name.endsWith("_open") ? words.at(-1) : words[0]);
+  }
+
+  /** The handle that a call opens. */
+  opened(name, ...words) {
+    const handle = this.room(HANDLE_SIZE);
+    try {
+      this.call(name, [...words, handle]);
+      return handle;
+    } catch (error) {
+      this.free(handle);
+      throw error;
+    }
+  }
+
+  /** Closes a handle. */
+  close(handle) {
+    this.calls.pdb_handle_close(handle);
+    this.free(handle);
   }
 
   /** Opens a file. */
@@ -111,28 +136,28 @@ class File {
   constructor(library, data) {
     this.#library = library;
     this.#bytes = library.place(data);
-    this.#handle = library.room(32);
     try {
-      library.call("pdb_file_open", [this.#bytes, BigInt(data.length), this.#handle]);
+      this.#handle = library.opened("pdb_file_open", this.#bytes, BigInt(data.length));
     } catch (error) {
-      this.close();
+      library.free(this.#bytes);
       throw error;
     }
   }
 
-  #count(name) {
-    return this.#library.with(4, (room) => {
-      this.#library.call(name, [this.#handle, room]);
-      return this.#library.number(room);
+  /** A number of structure pdb_sizes. */
+  #size(offset) {
+    return this.#library.with(8, (sizes) => {
+      this.#library.call("pdb_file_sizes", [this.#handle, sizes]);
+      return this.#library.number(sizes + offset);
     });
   }
 
   get pageSize() {
-    return this.#count("pdb_file_page_size");
+    return this.#size(0n);
   }
 
   get streamCount() {
-    return this.#count("pdb_file_stream_count");
+    return this.#size(4n);
   }
 
   /** The bytes that a call writes into an array; undefined where there is no such stream. */
@@ -170,8 +195,7 @@ class File {
 
   close() {
     if (!this.#handle) return;
-    this.#library.calls.pdb_close(this.#handle);
-    this.#library.free(this.#handle);
+    this.#library.close(this.#handle);
     this.#library.free(this.#bytes);
     this.#handle = undefined;
   }
