@@ -548,12 +548,12 @@ static void ask_refused_table(pdb_types *types) {
     told("layout of no type", &types->handle, pdb_type_layout(types, 0x2000, &row, 1, &count, text, ROOM, &length));
 }
 
-// The text of each fault that a call can leave, and of some that none leaves.
+// The text of each fault that a call can leave, and of some that no call leaves.
 static void ask_texts(void) {
     static const uint32_t faults[][2] = {
         {0, 0}, {1, 0}, {2, 7}, {3, 7}, {4, 7}, {5, 0}, {6, 1}, {6, 2}, {6, 3}, {7, 1}, {8, 0}, {9, 4}, {9, 5}, {9, 6}, {9, 7}, {9, 8}, {9, 9},
         {9, 14}, {9, 15}, {9, 16}, {9, 17}, {9, 18}, {13, 10}, {13, 11}, {13, 12}, {13, 13}, {14, 0}, {15, 7}, {17, 7}, {20, 7}, {21, 0}, {28, 0},
-        {100, 0}, {101, 0}, {102, 0}, {104, 0}, {105, 0}, {106, 0}, {107, 0}, {5, 1}, {6, 0}, {7, 0}, {17, 0x10000}, {29, 0}, {103, 0}, {108, 0},
+        {100, 0}, {101, 0}, {102, 0}, {104, 0}, {105, 0}, {106, 0}, {107, 0}, {5, 1}, {7, 0}, {6, 0}, {17, 0x10000}, {29, 0}, {103, 0}, {108, 0},
     };
     for (size_t i = 0; i < sizeof faults / sizeof *faults; i++) {
         pdb_fault fault = {faults[i][0], faults[i][1], 0};
