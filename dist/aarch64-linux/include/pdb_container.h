@@ -103,7 +103,8 @@ typedef struct pdb_fault {
 } pdb_fault;
 
 /* Copies the text of a fault in English, with its numbers. The status is PDB_NO_TEXT for a status
- * that is none of enum pdb_status, or numbers that do not go with it. */
+ * that is none of enum pdb_status, and where the text would say what a number stands for that does
+ * not go with the status. */
 uint32_t pdb_fault_text(const pdb_fault *fault, char *buffer, size_t buffer_length, size_t *length);
 
 /* ---- handles */
