@@ -14,36 +14,14 @@ use Rattle.pdbdump_rows.specs.declared.form.Form.TheVariants as forms
 use Rattle.pdbdump_rows.specs.Line.{AddsText, IsRow}
 use Rattle.pdbdump_rows.specs.Lines.{row_text}
 use Rattle.pdbdump_rows.specs.Row.{ShownRow}
-use Rattle.pdbdump_rows.specs.Rows.{AreLines, AreRows}
+use Rattle.pdbdump_rows.specs.Rows.{AreRows, WritesLines}
 use Rattle.pdb_base.specs.declared.error.Error.TheVariants.{OutOfMemory}
 use Rattle.pdb_output.proofs.lemmas.Written.{lacks_all}
-use Rattle.pdb_output.specs.Output.{OutputState}
+use Rattle.pdb_output.specs.Output.{OutputState, Writes}
+use Rattle.std.proofs.KnownBytes.{Appends-nil}
 use Rattle.pdbdump_rows.specs.declared.form.Form.{Form}
 use Rattle.pdbdump_cli.specs.Validated.{AreFindingsWritten, AreRowsIn, HasPassed, IsJudged}
 use Rattle.std.specs.Prelude.{OnOk}
-
--- the line of one row more
-pub row_more : (old new : List ℕ) (result : Result (Unit {0}) Error) (front : ShownRow)
-    → AddsText (IsRow (row_text forms.Json) front) old new result
-    → OnOk result (AreLines forms.Json old → AreLines forms.Json new)
-row_more old new (Ok done) front adds = λ before. record {
-  fronts = before.fronts ++ front ∷ [];
-  rows = subst (λ text. AreRows forms.Json (before.fronts ++ front ∷ []) text) (sym adds.added)
-      (rows_joined forms.Json before.fronts (front ∷ []) old adds.text before.rows
-      (row_alone forms.Json front adds.text adds.holds));
-}
-row_more old new (Err e) front adds = tt
-
--- adding to a text fails only for memory
-pub adds_for_memory : (Holds : List ℕ → Type 0) (old new : List ℕ) (result : Result (Unit {0}) Error)
-    → AddsText Holds old new result → FailsOnlyForMemory result
-adds_for_memory Holds old new (Ok done) adds = tt
-adds_for_memory Holds old new (Err e) adds = adds
-
--- no rows
-pub no_rows : (form : Form) → AreRowsIn form []
-no_rows forms.Text = tt
-no_rows forms.Json = record { fronts = []; rows = AreRows.none }
 
 -- the number of warnings with one finding more
 pub warnings_more : (findings : List Finding) (i : ℕ) (d : Finding) → i < length findings
@@ -78,3 +56,19 @@ findings_lack false forms.Json old e want = record {
   lines = record { fronts = []; rows = AreRows.none };
   writes = lacks_all old [] e want;
 }
+
+-- nothing is written if only the status is wanted
+pub findings_none : (form : Form) (old : OutputState) → AreFindingsWritten true form old old (Ok tt)
+findings_none form old =
+    record { text = []; lines = refl; writes = record { holds = refl; added = Appends-nil old.contents } }
+
+-- the lines of a text
+pub findings_text : (text : List ℕ) (old new : OutputState) (result : Result (Unit {0}) Error)
+    → Writes text old new result → AreFindingsWritten false forms.Text old new result
+findings_text text old new result writes = record { text = text; lines = tt; writes = writes }
+
+-- the rows of JSON
+pub findings_rows : (old new : OutputState) (result : Result (Unit {0}) Error) → WritesLines forms.Json old new result
+    → AreFindingsWritten false forms.Json old new result
+findings_rows old new result writes =
+    record { text = writes.text; lines = writes.holds; writes = writes.written }

@@ -29,10 +29,6 @@ abbrev pub AreRowsIn : Form → List ℕ → Type 0
 AreRowsIn forms.Text text = ⊤
 AreRowsIn forms.Json text = AreLines forms.Json text
 
--- it is so with what was appended to it, if it was so before
-abbrev pub StayRows : Form → List ℕ → List ℕ → Type 0
-StayRows form old new = AreRowsIn form old → AreRowsIn form new
-
 -- what is written of a file: nothing, if only the status is wanted, and in JSON lines of rows
 abbrev pub AreFindingLines : Bool → Form → List ℕ → Type 0
 AreFindingLines true form text = text ≡ []

@@ -14,7 +14,7 @@ use crate::question::{is_line_end, query_in};
 use pdb_cli::MOST_READS;
 use pdb_container::{BigMSF, OpenTables, Reply, Result, Source, open_msf};
 use pdb_output::Output;
-use pdbdump_rows::{Form, Line};
+use pdbdump_rows::{Form, Rows};
 use std::alloc::Global;
 use std::io;
 use std::io::{ErrorKind, Read, Write};
@@ -31,7 +31,6 @@ pub struct AskedFile<S: Source> {
     file: BigMSF<S>,
     tables: OpenTables,
     rest: Vec<u8>,
-    line: Line,
 }
 
 /// Reads the next bytes of an input into a block, and returns how many they are: none at its end.
@@ -85,14 +84,9 @@ impl<S: Source> AskedFile<S> {
             return Ok(true);
         }
         let reply = self.reply()?;
-        write_answered(
-            self.alloc,
-            self.form,
-            &self.rest,
-            reply.as_ref(),
-            &mut self.line,
-            out,
-        )?;
+        let mut rows = Rows::new(self.alloc, self.form, out);
+        write_answered(&mut rows, &self.rest, reply.as_ref());
+        rows.finish()?;
         self.rest.clear();
         Ok(is_answer(reply.as_ref()))
     }
@@ -182,7 +176,6 @@ pub fn ask<S: Source + Drop, Q: Read, W: Write>(
         file,
         tables: OpenTables::default(),
         rest: Vec::new(alloc),
-        line: Line::new(alloc),
     };
     asked.answer_all(questions, &mut block, out)
 }

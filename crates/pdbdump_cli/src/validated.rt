@@ -2,10 +2,10 @@
 
 ghost use Rattle.std.specs.Prelude.{◌↔◌, map, IsTrue};
 ghost use Rattle.pdb_validation.specs.Finding.{finding_view};
-ghost use Rattle.pdbdump_cli.specs.Validated.{AreFindingsWritten, HasPassed, IsConcluded, IsValidatedIn};
+ghost use Rattle.pdbdump_cli.specs.Validated.{HasPassed, IsConcluded, IsValidatedIn};
 
 use crate::command::ValidateOptions;
-use crate::finding_lines::{counts_of, validate_lines};
+use crate::finding_lines::{counts_of, write_findings};
 use crate::input_file::InputFile;
 use crate::sentences::tell;
 use crate::served::end;
@@ -15,21 +15,6 @@ use pdb_validation::{Finding, validate};
 use pdbdump_rows::Form;
 use std::alloc::Global;
 use std::io::Write;
-
-/// Writes what was found in the file at a path.
-fn write_findings<W: Write>(
-    alloc: Global,
-    is_quiet: bool,
-    form: Form,
-    path: &str,
-    findings: &[Finding],
-    out: &mut Output<W>,
-) -> Result<()>
-    ensures { AreFindingsWritten is_quiet form out.old out.new result }
-{
-    let lines = validate_lines(alloc, is_quiet, form, path, findings)?;
-    out.write(&lines)
-}
 
 /// Returns whether there is no error among what was found, and no warning either where that counts
 /// too.

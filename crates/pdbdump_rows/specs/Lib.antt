@@ -3,4 +3,5 @@ pub mod Text
 pub mod Lines
 pub mod Line
 pub mod Rows
+pub mod Sink
 pub mod Laws

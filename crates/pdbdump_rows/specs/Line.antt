@@ -1,5 +1,5 @@
 -- A line as it is written, field by field.
-use Rattle.std.specs.Prelude.{◌≡◌, ⊤, ℕ, if◌then◌else◌, Bool, true, false, List, [], ◌∷◌, ◌++◌, codes, Result, Ok, Err}
+use Rattle.std.specs.Prelude.{◌≡◌, ⊤, ℕ, IsTrue, if◌then◌else◌, Bool, true, false, List, [], ◌∷◌, ◌++◌, codes, Result, Ok, Err}
 use Rattle.std.specs.declared.alloc.AllocError.{AllocError}
 use Rattle.pdb_base.specs.declared.error.Error.{Error}
 use Rattle.pdb_base.specs.declared.error.Error.TheVariants.{OutOfMemory}
@@ -10,20 +10,22 @@ use Rattle.pdbdump_rows.specs.Lines.{field_line, field_text, full_text, is_shown
 use Rattle.pdbdump_rows.specs.Row.{ShownField, ShownRow, hexadecimal, number}
 use Rattle.pdbdump_rows.specs.declared.names.TheConstants.{INDEX, NUMBER, SOURCE_ADDRESS}
 
--- A line so far: its form, whether each field has a line of its own, the bytes, and whether it shows no field yet.
+-- A line so far: its form, whether each field has a line of its own, the bytes, whether it shows no field yet, and
+-- whether each allocation since it began succeeded.
 pub record LineState : Type 0 where
   pub form : Form
   pub is_full : Bool
   pub bytes : List ℕ
   pub is_empty : Bool
+  pub is_whole : Bool
 
 -- a line before its first field
 abbrev pub begun : Form → LineState
-begun form = record { form = form; is_full = false; bytes = []; is_empty = true }
+begun form = record { form = form; is_full = false; bytes = []; is_empty = true; is_whole = true }
 
 -- the same, where text has a line for each field
 abbrev pub begun_full : Form → LineState
-begun_full Text = record { form = Text; is_full = true; bytes = []; is_empty = true }
+begun_full Text = record { form = Text; is_full = true; bytes = []; is_empty = true; is_whole = true }
 begun_full Json = begun Json
 
 -- what stands before the first field, and behind the last
@@ -52,6 +54,7 @@ add_field line field = if is_shown line.form field
       bytes = line.bytes
           ++ field_bytes line field;
       is_empty = false;
+      is_whole = line.is_whole;
     }
     else line
 
@@ -69,9 +72,13 @@ unfoldable pub line_bytes : LineState → List ℕ
 line_bytes line = line.bytes ++ end_bytes line
 
 -- A field was added to a line; or memory ran out.
-abbrev pub ShowsField : ShownField → LineState → LineState → Result (Unit {0}) AllocError → Type 0
-ShowsField field old new (Ok done) = new ≡ add_field old field
-ShowsField field old new (Err e) = ⊤
+abbrev pub PutsField : ShownField → LineState → LineState → Result (Unit {0}) AllocError → Type 0
+PutsField field old new (Ok done) = new ≡ add_field old field
+PutsField field old new (Err e) = ⊤
+
+-- A field was added to a line, unless memory ran out.
+abbrev pub AddsField : ShownField → LineState → LineState → Type 0
+AddsField field old new = IsTrue new.is_whole → new ≡ add_field old field
 
 -- the field that a row of an index begins with, and that of a number
 abbrev pub indexed : ℕ → ShownRow
@@ -89,10 +96,9 @@ pub record HasRow (front : ShownRow) (old new : LineState) : Type 0 where
   pub rest : ShownRow
   pub shown : new ≡ all_shown (all_shown old front) rest
 
--- The same; or memory ran out.
-abbrev pub ShowsRow : ShownRow → LineState → LineState → Result (Unit {0}) AllocError → Type 0
-ShowsRow front old new (Ok done) = HasRow front old new
-ShowsRow front old new (Err e) = ⊤
+-- The same, unless memory ran out.
+unfoldable pub AddsRow : ShownRow → LineState → LineState → Type 0
+AddsRow front old new = IsTrue new.is_whole → HasRow front old new
 
 -- A line has ended with this text; or memory ran out.
 abbrev pub EndsLine : List ℕ → LineState → Result (Unit {0}) AllocError → Type 0
@@ -128,22 +134,18 @@ AddsText Holds old new (Ok done) = HasText Holds old new
 AddsText Holds old new (Err e) = e ≡ OutOfMemory
 
 -- The row that was added to a line has ended, as one line or in full; or memory ran out.
-pub record IsLineEnded (old : LineState) (added : Result (Unit {0}) AllocError) (new : LineState)
-    (result : Result (Unit {0}) AllocError) : Type 0 where
-  pub row : (form : Form) (start : LineState) (front : ShownRow) → ShowsRow front start old added → start ≡ begun form
+pub record IsLineEnded (old new : LineState) (result : Result (Unit {0}) AllocError) : Type 0 where
+  pub row : (form : Form) (start : LineState) (front : ShownRow) → AddsRow front start old → start ≡ begun form
       → EndsRow (row_text form) front new result
-  pub full : (form : Form) (start : LineState) (front : ShownRow) → ShowsRow front start old added → start
-      ≡ begun_full form
+  pub full : (form : Form) (start : LineState) (front : ShownRow) → AddsRow front start old → start ≡ begun_full form
       → EndsRow (full_text form) front new result
 
 -- The line of the row that was added to it was written; or it was cut short.
-pub record IsLineWritten (line : LineState) (added : Result (Unit {0}) AllocError) (old new : OutputState)
-    (result : Result (Unit {0}) Error) : Type 0 where
-  pub row : (form : Form) (start : LineState) (front : ShownRow) → ShowsRow front start line added → start ≡ begun form
+pub record IsLineWritten (line : LineState) (old new : OutputState) (result : Result (Unit {0}) Error) : Type 0 where
+  pub row : (form : Form) (start : LineState) (front : ShownRow) → AddsRow front start line → start ≡ begun form
       → WritesWhat (IsRow (row_text form) front) old new result
 
 -- The line of the row that was added to it was appended to a text; or memory ran out.
-pub record IsLineAppended (line : LineState) (added : Result (Unit {0}) AllocError) (old new : List ℕ)
-    (result : Result (Unit {0}) Error) : Type 0 where
-  pub row : (form : Form) (start : LineState) (front : ShownRow) → ShowsRow front start line added → start ≡ begun form
+pub record IsLineAppended (line : LineState) (old new : List ℕ) (result : Result (Unit {0}) Error) : Type 0 where
+  pub row : (form : Form) (start : LineState) (front : ShownRow) → AddsRow front start line → start ≡ begun form
       → AddsText (IsRow (row_text form) front) old new result

@@ -3,9 +3,9 @@
 #![tactic(auto, using(crate::proofs::lemmas::Line::adding))]
 
 ghost use Rattle.std.specs.Prelude.{[]};
-ghost use Rattle.pdbdump_rows.specs.Line.{ShowsRow};
+ghost use Rattle.pdbdump_rows.specs.Line.{AddsRow};
 
-use crate::line::{Line, LineResult};
+use crate::line::Line;
 use crate::type_rows::show_fields;
 use pdb_values::constants::{
     LF_ARGLIST, LF_ARRAY, LF_BCLASS, LF_BINTERFACE, LF_BITFIELD, LF_CLASS, LF_ENUM, LF_ENUMERATE,
@@ -14,7 +14,6 @@ use pdb_values::constants::{
     LF_STRUCTURE, LF_UNION, LF_VBCLASS, LF_VFUNCTAB, LF_VTSHAPE,
 };
 use pdb_values::{BaseClassType, ClassKind, TypeData, VirtualBaseClassType};
-use std::alloc::Global;
 
 /// Returns the record kind of a class of this kind.
 fn class_leaf(kind: ClassKind) -> u16 {
@@ -69,11 +68,8 @@ fn leaf_of(data: &TypeData<'_>) -> u16 {
 
 /// Adds the fields of an entry of a list of fields. Its kind is the record kind that today's
 /// compilers write for it.
-///
-/// # Errors
-/// Fails if an allocation fails.
-pub fn show_entry(alloc: Global, line: &mut Line, data: &TypeData<'_>) -> LineResult
-    ensures { ShowsRow [] line.old line.new result }
+pub fn show_entry(line: &mut Line, data: &TypeData<'_>)
+    ensures { AddsRow [] line.old line.new }
 {
-    show_fields(alloc, line, leaf_of(data), data)
+    show_fields(line, leaf_of(data), data)
 }

@@ -14,6 +14,7 @@ mod number;
 mod omap_rows;
 mod push;
 mod refused;
+mod rows;
 mod section_rows;
 mod text;
 mod type_fields;
@@ -26,11 +27,14 @@ pub use entry_rows::show_entry;
 pub use form::Form;
 pub use frame_rows::show_frame;
 pub use id_rows::show_id;
-pub use line::{Line, LineResult, append_line, write_line};
+pub use line::{Line, append_line, write_line};
 pub use omap_rows::show_omap;
 pub use refused::{error_text, show_error};
+pub use rows::Rows;
 pub use section_rows::show_section;
 pub use text::push_text;
 pub use type_rows::{show_listed_method, show_type};
 pub use type_texts::TypeTexts;
-pub use value::{Flag, Value, optional_hexadecimal, optional_number, optional_text, optional_word};
+pub use value::{
+    Field, Flag, Value, optional_hexadecimal, optional_number, optional_text, optional_word,
+};

@@ -2,21 +2,17 @@
 
 #![tactic(auto, using(crate::proofs::lemmas::Line::adding))]
 
-ghost use Rattle.pdbdump_rows.specs.Line.{ShowsRow, moved_from};
+ghost use Rattle.pdbdump_rows.specs.Line.{AddsRow, moved_from};
 
-use crate::line::{Line, LineResult};
+use crate::line::Line;
 use crate::names::{SOURCE_ADDRESS, TARGET_ADDRESS};
 use crate::value::Value;
 use pdb_space::OMAPRecord;
 
 /// Adds the fields of a record of an OMAP table.
-///
-/// # Errors
-/// Fails if an allocation fails.
-pub fn show_omap(line: &mut Line, mapping: OMAPRecord) -> LineResult
-    ensures { ShowsRow (moved_from mapping.source) line.old line.new result }
+pub fn show_omap(line: &mut Line, mapping: OMAPRecord)
+    ensures { AddsRow (moved_from mapping.source) line.old line.new }
 {
-    line.field(SOURCE_ADDRESS, Value::Hexadecimal(mapping.source_address()))?;
-    line.field(TARGET_ADDRESS, Value::Hexadecimal(mapping.target_address()))?;
-    Ok(())
+    line.front(SOURCE_ADDRESS, Value::Hexadecimal(mapping.source_address()));
+    line.field(TARGET_ADDRESS, Value::Hexadecimal(mapping.target_address()));
 }

@@ -3,12 +3,11 @@
 #![tactic(auto, using(crate::proofs::lemmas::Line::adding))]
 
 ghost use Rattle.std.specs.Prelude.{[]};
-ghost use Rattle.pdbdump_rows.specs.Line.{ShowsRow};
+ghost use Rattle.pdbdump_rows.specs.Line.{AddsRow};
 
-use crate::line::{Line, LineResult};
+use crate::line::Line;
 use crate::names::ERROR;
-use crate::value::Value;
-use pdb_base::{Error, RawString};
+use pdb_base::Error;
 use std::alloc::{AllocError, Global};
 
 /// Returns the text of an error. The text of an I/O error says only that it is one.
@@ -23,13 +22,9 @@ pub fn error_text(alloc: Global, error: &Error) -> Result<Vec<u8>, AllocError> {
 }
 
 /// Adds the field with the text of an error.
-///
-/// # Errors
-/// Fails if an allocation fails.
-pub fn show_error(alloc: Global, line: &mut Line, error: &Error) -> LineResult
-    ensures { ShowsRow [] line.old line.new result }
+pub fn show_error(line: &mut Line, error: &Error)
+    ensures { AddsRow [] line.old line.new }
 {
-    let text = error_text(alloc, error)?;
-    line.field(ERROR, Value::Text(RawString::from(text.as_slice())))?;
-    Ok(())
+    let alloc = line.alloc;
+    line.made_text(ERROR, error_text(alloc, error));
 }

@@ -2,9 +2,9 @@
 
 #![tactic(auto, using(crate::proofs::lemmas::Line::adding))]
 
-ghost use Rattle.pdbdump_rows.specs.Line.{ShowsRow, numbered};
+ghost use Rattle.pdbdump_rows.specs.Line.{AddsRow, numbered};
 
-use crate::line::{Line, LineResult};
+use crate::line::Line;
 use crate::names::{
     ALIGNMENT, CHARACTERISTICS, NAME, NUMBER, NUMBER_OF_LINE_NUMBERS, NUMBER_OF_RELOCATIONS,
     POINTER_TO_LINE_NUMBERS, POINTER_TO_RAW_DATA, POINTER_TO_RELOCATIONS, SIZE_OF_RAW_DATA,
@@ -32,43 +32,43 @@ fn alignment<'t>(multiple: Option<u16>) -> Value<'t> {
 }
 
 /// Adds the fields of the section header with this number.
-///
-/// # Errors
-/// Fails if an allocation fails.
-pub fn show_section(line: &mut Line, number: u32, header: &ImageSectionHeader) -> LineResult
-    ensures { ShowsRow (numbered number) line.old line.new result }
+pub fn show_section(line: &mut Line, number: u32, header: &ImageSectionHeader)
+    ensures { AddsRow (numbered number) line.old line.new }
 {
     let name = RawString::from(name_bytes(header));
-    let characteristics = section_flags(header.characteristics);
-    line.field(NUMBER, Value::Number(number as u64))?;
-    line.field(NAME, Value::Text(name))?;
-    line.field(VIRTUAL_ADDRESS, Value::Hexadecimal(header.virtual_address))?;
-    line.field(VIRTUAL_SIZE, Value::Number(header.virtual_size as u64))?;
+    line.front(NUMBER, Value::Number(number as u64));
+    line.fields(&[
+        (NAME, Value::Text(name)),
+        (VIRTUAL_ADDRESS, Value::Hexadecimal(header.virtual_address)),
+        (VIRTUAL_SIZE, Value::Number(header.virtual_size as u64)),
+        (
+            POINTER_TO_RAW_DATA,
+            Value::Hexadecimal(header.pointer_to_raw_data),
+        ),
+        (
+            SIZE_OF_RAW_DATA,
+            Value::Number(header.size_of_raw_data as u64),
+        ),
+        (
+            POINTER_TO_RELOCATIONS,
+            Value::Hexadecimal(header.pointer_to_relocations),
+        ),
+        (
+            NUMBER_OF_RELOCATIONS,
+            Value::Number(header.number_of_relocations as u64),
+        ),
+        (
+            POINTER_TO_LINE_NUMBERS,
+            Value::Hexadecimal(header.pointer_to_line_numbers),
+        ),
+        (
+            NUMBER_OF_LINE_NUMBERS,
+            Value::Number(header.number_of_line_numbers as u64),
+        ),
+    ]);
     line.field(
-        POINTER_TO_RAW_DATA,
-        Value::Hexadecimal(header.pointer_to_raw_data),
-    )?;
-    line.field(
-        SIZE_OF_RAW_DATA,
-        Value::Number(header.size_of_raw_data as u64),
-    )?;
-    line.field(
-        POINTER_TO_RELOCATIONS,
-        Value::Hexadecimal(header.pointer_to_relocations),
-    )?;
-    line.field(
-        NUMBER_OF_RELOCATIONS,
-        Value::Number(header.number_of_relocations as u64),
-    )?;
-    line.field(
-        POINTER_TO_LINE_NUMBERS,
-        Value::Hexadecimal(header.pointer_to_line_numbers),
-    )?;
-    line.field(
-        NUMBER_OF_LINE_NUMBERS,
-        Value::Number(header.number_of_line_numbers as u64),
-    )?;
-    line.field(CHARACTERISTICS, Value::Words(&characteristics))?;
-    line.field(ALIGNMENT, alignment(header.characteristics.alignment()))?;
-    Ok(())
+        CHARACTERISTICS,
+        Value::Words(&section_flags(header.characteristics)),
+    );
+    line.field(ALIGNMENT, alignment(header.characteristics.alignment()));
 }

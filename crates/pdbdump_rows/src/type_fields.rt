@@ -3,10 +3,10 @@
 #![tactic(auto, using(crate::proofs::lemmas::Line::adding))]
 
 ghost use Rattle.std.specs.Prelude.{[]};
-ghost use Rattle.pdbdump_rows.specs.Line.{ShowsRow};
+ghost use Rattle.pdbdump_rows.specs.Line.{AddsRow};
 
 use crate::form::Form;
-use crate::line::{Line, LineResult};
+use crate::line::Line;
 use crate::lists::type_numbers;
 use crate::number::push_hexadecimal;
 use crate::type_texts::TypeTexts;
@@ -26,13 +26,8 @@ pub(crate) struct TypeField {
 }
 
 /// Adds a field with the index of a type, and what is shown of the type beside it, if that is known.
-fn show_beside(
-    line: &mut Line,
-    field: TypeField,
-    index: TypeIndex,
-    text: Option<&[u8]>,
-) -> LineResult
-    ensures { ShowsRow [] line.old line.new result }
+fn show_beside(line: &mut Line, field: TypeField, index: TypeIndex, text: Option<&[u8]>)
+    ensures { AddsRow [] line.old line.new }
 {
     let Some(text) = text else {
         return line.field(field.name, Value::Hexadecimal(index.0));
@@ -40,41 +35,31 @@ fn show_beside(
     match line.form() {
         Form::Text => line.field(field.name, Value::Text(RawString::from(text))),
         Form::Json => {
-            line.field(field.name, Value::Hexadecimal(index.0))?;
-            line.field(field.text_name, Value::Text(RawString::from(text)))
+            line.fields(&[
+                (field.name, Value::Hexadecimal(index.0)),
+                (field.text_name, Value::Text(RawString::from(text))),
+            ]);
         }
     }
 }
 
 /// Adds a field with the index of a type.
-///
-/// # Errors
-/// Fails if an allocation fails.
-pub(crate) fn show_type_field(line: &mut Line, field: TypeField, index: TypeIndex) -> LineResult
-    ensures { ShowsRow [] line.old line.new result }
+pub(crate) fn show_type_field(line: &mut Line, field: TypeField, index: TypeIndex)
+    ensures { AddsRow [] line.old line.new }
 {
     let Some(mut texts) = line.texts.take() else {
         return show_beside(line, field, index, None);
     };
-    let added = show_beside(line, field, index, texts.take(index));
+    show_beside(line, field, index, texts.take(index));
     line.texts = Some(texts);
-    added
 }
 
 /// Adds a field with the index of a type, if there is one.
-///
-/// # Errors
-/// Fails if an allocation fails.
-pub(crate) fn show_optional_type(
-    line: &mut Line,
-    field: TypeField,
-    index: Option<TypeIndex>,
-) -> LineResult
-    ensures { ShowsRow [] line.old line.new result }
+pub(crate) fn show_optional_type(line: &mut Line, field: TypeField, index: Option<TypeIndex>)
+    ensures { AddsRow [] line.old line.new }
 {
-    match index {
-        Some(index) => show_type_field(line, field, index),
-        None => Ok(()),
+    if let Some(index) = index {
+        show_type_field(line, field, index);
     }
 }
 
@@ -111,21 +96,13 @@ fn list_text(
 }
 
 /// Adds a field with a list of the indexes of types. JSON shows no texts of these.
-///
-/// # Errors
-/// Fails if an allocation fails.
-pub(crate) fn show_type_list(
-    alloc: Global,
-    line: &mut Line,
-    name: &'static str,
-    indexes: &[TypeIndex],
-) -> LineResult
-    ensures { ShowsRow [] line.old line.new result }
+pub(crate) fn show_type_list(line: &mut Line, name: &'static str, indexes: &[TypeIndex])
+    ensures { AddsRow [] line.old line.new }
 {
+    let alloc = line.alloc;
     if let (Form::Text, Some(texts)) = (line.form(), &mut line.texts) {
-        let list = list_text(alloc, indexes, texts)?;
-        return line.field(name, Value::Text(RawString::from(list.as_slice())));
+        let list = list_text(alloc, indexes, texts);
+        return line.made_text(name, list);
     }
-    let numbers = type_numbers(alloc, indexes)?;
-    line.field(name, Value::Indexes(&numbers))
+    line.indexes(name, type_numbers(alloc, indexes));
 }

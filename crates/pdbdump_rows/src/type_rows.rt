@@ -3,7 +3,7 @@
 #![tactic(auto, using(crate::proofs::lemmas::Line::adding))]
 
 ghost use Rattle.std.specs.Prelude.{[]};
-ghost use Rattle.pdbdump_rows.specs.Line.{ShowsRow, indexed};
+ghost use Rattle.pdbdump_rows.specs.Line.{AddsRow, indexed};
 
 mod base_class;
 mod class;
@@ -15,7 +15,7 @@ mod method;
 mod pointer;
 mod primitive;
 
-use crate::line::{Line, LineResult};
+use crate::line::Line;
 use crate::names::{INDEX, KIND};
 use crate::type_rows::base_class::{show_base_class, show_table_pointer, show_virtual_base};
 use crate::type_rows::class::{show_class, show_union};
@@ -31,11 +31,10 @@ use crate::type_rows::pointer::{show_bitfield, show_modifier, show_pointer};
 use crate::type_rows::primitive::show_primitive;
 use crate::value::Value;
 use pdb_values::TypeData;
-use std::alloc::Global;
 
 /// Adds the fields of what a type holds.
-fn show_value(alloc: Global, line: &mut Line, data: &TypeData<'_>) -> LineResult
-    ensures { ShowsRow [] line.old line.new result }
+fn show_value(line: &mut Line, data: &TypeData<'_>)
+    ensures { AddsRow [] line.old line.new }
 {
     match data {
         TypeData::Primitive(primitive) => show_primitive(line, *primitive),
@@ -58,38 +57,24 @@ fn show_value(alloc: Global, line: &mut Line, data: &TypeData<'_>) -> LineResult
         TypeData::Union(union_type) => show_union(line, union_type),
         TypeData::Bitfield(bitfield) => show_bitfield(line, *bitfield),
         TypeData::FieldList(list) => show_field_list(line, list),
-        TypeData::ArgumentList(list) => show_argument_list(alloc, line, list),
-        TypeData::MethodList(list) => show_method_list(alloc, line, list),
-        TypeData::VirtualTableShape(shape) => show_table_shape(alloc, line, *shape),
+        TypeData::ArgumentList(list) => show_argument_list(line, list),
+        TypeData::MethodList(list) => show_method_list(line, list),
+        TypeData::VirtualTableShape(shape) => show_table_shape(line, *shape),
     }
 }
 
 /// Adds the fields of a type whose record is of this kind.
-pub(crate) fn show_fields(
-    alloc: Global,
-    line: &mut Line,
-    leaf: u16,
-    data: &TypeData<'_>,
-) -> LineResult
-    ensures { ShowsRow [] line.old line.new result }
+pub(crate) fn show_fields(line: &mut Line, leaf: u16, data: &TypeData<'_>)
+    ensures { AddsRow [] line.old line.new }
 {
-    line.field(KIND, Value::Kind(leaf))?;
-    show_value(alloc, line, data)
+    line.field(KIND, Value::Kind(leaf));
+    show_value(line, data)
 }
 
 /// Adds the fields of the type of this index, whose record is of this kind.
-///
-/// # Errors
-/// Fails if an allocation fails.
-pub fn show_type(
-    alloc: Global,
-    line: &mut Line,
-    index: u32,
-    leaf: u16,
-    data: &TypeData<'_>,
-) -> LineResult
-    ensures { ShowsRow (indexed index) line.old line.new result }
+pub fn show_type(line: &mut Line, index: u32, leaf: u16, data: &TypeData<'_>)
+    ensures { AddsRow (indexed index) line.old line.new }
 {
-    line.field(INDEX, Value::Hexadecimal(index))?;
-    show_fields(alloc, line, leaf, data)
+    line.front(INDEX, Value::Hexadecimal(index));
+    show_fields(line, leaf, data)
 }

@@ -44,6 +44,9 @@ pub enum Value<'t> {
     Absent,
 }
 
+/// A field of a line: its name, and what it holds.
+pub type Field<'t> = (&'static str, Value<'t>);
+
 /// Returns the value of a number shown in hexadecimal, or `Absent` if there is none.
 pub fn optional_hexadecimal<'t>(number: Option<u32>) -> Value<'t> {
     match number {

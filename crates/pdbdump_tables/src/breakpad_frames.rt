@@ -3,7 +3,7 @@
 #![tactic(auto, using(pdbdump_rows::proofs::lemmas::Line::adding, pdbdump_rows::proofs::lemmas::Rows::listing))]
 
 ghost use Rattle.std.specs.Prelude.{[]};
-ghost use Rattle.pdbdump_rows.specs.Line.{ShowsRow};
+ghost use Rattle.pdbdump_rows.specs.Line.{AddsRow};
 ghost use Rattle.pdbdump_rows.specs.Rows.{WritesLines};
 ghost use Rattle.pdbdump_tables.specs.Listing.{ListsLines};
 
@@ -14,7 +14,7 @@ use pdb_frames::{FrameData, FrameTable, FrameType};
 use pdb_msf::Source;
 use pdb_output::Output;
 use pdb_space::{AddressMap, Rva};
-use pdbdump_rows::{Form, Line, LineResult, Value, write_line};
+use pdbdump_rows::{Form, Line, Value, write_line};
 use std::alloc::{AllocError, Global};
 use std::io::Write;
 
@@ -79,10 +79,10 @@ fn frame_text(
 }
 
 /// Adds the text of a frame.
-fn show_text(line: &mut Line, text: &[u8]) -> LineResult
-    ensures { ShowsRow [] line.old line.new result }
+fn show_text(line: &mut Line, text: &[u8])
+    ensures { AddsRow [] line.old line.new }
 {
-    line.field("name", Value::Text(RawString::from(text)))
+    line.field("name", Value::Text(RawString::from(text)));
 }
 
 /// Writes the line of a frame.
@@ -98,8 +98,8 @@ fn write_frame<W: Write>(
 {
     let text = frame_text(alloc, frame, start, program)?;
     line.begin(Form::Text);
-    let added = show_text(line, &text);
-    write_line(added, line, out)
+    show_text(line, &text);
+    write_line(line, out)
 }
 
 /// Writes the line of each frame of a table that has an address in the image as it is loaded.

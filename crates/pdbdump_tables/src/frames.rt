@@ -31,8 +31,8 @@ pub(crate) fn write_frames<W: Write>(
     while let Ok(Some(frame)) = frames.next() {
         line.begin(form);
         let program = programs.known_text(frame.program);
-        let added = show_frame(&mut line, &frame, program);
-        write_line(added, &mut line, out)?;
+        show_frame(&mut line, &frame, program);
+        write_line(&mut line, out)?;
     }
     Ok(())
 }

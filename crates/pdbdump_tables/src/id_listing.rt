@@ -12,9 +12,10 @@ use pdb_base::{Error, FallibleIterator, IdIndex, Result, Stream};
 use pdb_output::Output;
 use pdb_tpi::{IdInformation, OpenTable};
 use pdb_values::IdData;
-use pdbdump_rows::{Form, Line, LineResult, show_id};
-use std::alloc::Global;
+use pdbdump_rows::{Form, Line, show_id};
+use std::alloc::{AllocError, Global};
 use std::io::Write;
+use std::result;
 
 /// Writes a line for each id of a table.
 fn list_ids<W: Write>(
@@ -70,18 +71,17 @@ pub fn ids<W: Write>(
 /// Makes the text of an id in full.
 #[tactic(auto, using(pdbdump_rows::proofs::lemmas::Line::showing))]
 fn make_full(
-    alloc: Global,
     form: Form,
     index: u32,
     leaf: u16,
     value: &IdData<'_>,
     line: &mut Line,
-) -> LineResult
+) -> result::Result<(), AllocError>
     ensures { EndsRow (full_text form) (indexed index) line.new result }
 {
     line.begin_full(form);
-    let added = show_id(alloc, line, index, leaf, value);
-    line.finish(added)
+    show_id(line, index, leaf, value);
+    line.finish()
 }
 
 /// Writes an id in full.
@@ -96,7 +96,7 @@ fn write_value<W: Write>(
     ensures { IsShown form index (Ok (Ok tt)) out.old out.new result }
 {
     let mut line = Line::new(alloc);
-    make_full(alloc, form, index, leaf, value, &mut line)?;
+    make_full(form, index, leaf, value, &mut line)?;
     out.write(line.as_bytes())?;
     Ok(())
 }

@@ -3,7 +3,7 @@
 #![tactic(auto, using(pdbdump_rows::proofs::lemmas::Line::adding))]
 
 ghost use Rattle.std.specs.Prelude.{◌≡◌, ◌↔◌, [], string_bytes, IsTrue, IfOk};
-ghost use Rattle.pdbdump_rows.specs.Line.{IsRow, ShowsRow, WritesWhat};
+ghost use Rattle.pdbdump_rows.specs.Line.{IsRow, AddsRow, WritesWhat};
 ghost use Rattle.pdbdump_rows.specs.Lines.{row_text};
 ghost use Rattle.pdb_identity.specs.Key.{upper_key};
 ghost use Rattle.pdbdump_tables.specs.Identity.{IsIdentity, IsKey};
@@ -12,7 +12,7 @@ use pdb_base::{Error, RawString};
 use pdb_file::Features;
 use pdb_identity::{Identity, LowerKey, UpperKey};
 use pdb_output::Output;
-use pdbdump_rows::{Flag, Form, Line, LineResult, Value, optional_text, push_text, write_line};
+use pdbdump_rows::{Flag, Form, Line, Value, optional_text, push_text, write_line};
 use std::alloc::{AllocError, Global};
 use std::io::Write;
 use uuid::Uuid;
@@ -179,8 +179,8 @@ fn feature_flags(features: Features) -> [Flag; 4] {
 }
 
 /// Adds the features, if there are any to be found.
-fn show_features(line: &mut Line, features: Option<Features>) -> LineResult
-    ensures { ShowsRow [] line.old line.new result }
+fn show_features(line: &mut Line, features: Option<Features>)
+    ensures { AddsRow [] line.old line.new }
 {
     match features {
         Some(features) => line.field(FEATURES, Value::Words(&feature_flags(features))),
@@ -195,26 +195,23 @@ fn show_identity(
     identity: &Identity,
     guid: &str,
     key: &str,
-) -> LineResult
-    ensures { ShowsRow [] line.old line.new result }
+)
+    ensures { AddsRow [] line.old line.new }
 {
-    line.field(NAME, optional_text(name.map(RawString::from)))?;
-    line.field(FORMAT, Value::Word("MSF 7.00"))?;
-    line.field(GUID, Value::Text(RawString::from(guid)))?;
-    line.field(AGE, Value::Number(identity.age() as u64))?;
-    line.field(AGE_FROM, Value::Word(age_source(identity)))?;
-    line.field(
-        INFORMATION_AGE,
-        Value::Number(identity.information_age as u64),
-    )?;
-    line.field(SIGNATURE, Value::Number(identity.signature as u64))?;
-    line.field(VERSION, Value::Number(identity.version as u64))?;
-    show_features(line, identity.features)?;
-    line.field(MACHINE, optional_machine(identity.machine()))?;
-    line.field(CPU, Value::Word(identity.cpu()))?;
-    line.field(STRIPPED, optional_flag(identity.is_stripped()))?;
-    line.field(KEY, Value::Text(RawString::from(key)))?;
-    Ok(())
+    let age = identity.information_age;
+    line.field(NAME, optional_text(name.map(RawString::from)));
+    line.field(FORMAT, Value::Word("MSF 7.00"));
+    line.field(GUID, Value::Text(RawString::from(guid)));
+    line.field(AGE, Value::Number(identity.age() as u64));
+    line.field(AGE_FROM, Value::Word(age_source(identity)));
+    line.field(INFORMATION_AGE, Value::Number(age as u64));
+    line.field(SIGNATURE, Value::Number(identity.signature as u64));
+    line.field(VERSION, Value::Number(identity.version as u64));
+    show_features(line, identity.features);
+    line.field(MACHINE, optional_machine(identity.machine()));
+    line.field(CPU, Value::Word(identity.cpu()));
+    line.field(STRIPPED, optional_flag(identity.is_stripped()));
+    line.field(KEY, Value::Text(RawString::from(key)));
 }
 
 /// Writes all that identifies a file as an object of JSON.
@@ -231,8 +228,8 @@ fn write_object<W: Write>(
     let key = key_text(alloc, identity.key())?;
     let mut line = Line::new(alloc);
     line.begin(Form::Json);
-    let added = show_identity(&mut line, name, identity, guid, &key);
-    write_line(added, &mut line, out)
+    show_identity(&mut line, name, identity, guid, &key);
+    write_line(&mut line, out)
 }
 
 /// Writes the line of a file's identity in a style.

@@ -3,7 +3,7 @@
 #![tactic(auto, using(pdbdump_rows::proofs::lemmas::Line::adding, pdbdump_rows::proofs::lemmas::Rows::listing))]
 
 ghost use Rattle.std.specs.Prelude.{◌↔◌, [], IsTrue, IfOk};
-ghost use Rattle.pdbdump_rows.specs.Line.{IsRow, ShowsRow, WritesWhat};
+ghost use Rattle.pdbdump_rows.specs.Line.{IsRow, AddsRow, WritesWhat};
 ghost use Rattle.pdbdump_rows.specs.Lines.{row_text};
 ghost use Rattle.pdbdump_tables.specs.Identity.{IsIdentity, IsKeyOf};
 
@@ -11,24 +11,23 @@ use crate::identity::{AGE, CPU, FORMAT, GUID, KEY, KeyStyle, MACHINE, NAME, key_
 use pdb_base::{Error, RawString};
 use pdb_identity::CodeView;
 use pdb_output::Output;
-use pdbdump_rows::{Form, Line, LineResult, Value, write_line};
+use pdbdump_rows::{Form, Line, Value, write_line};
 use std::alloc::{AllocError, Global};
 use std::io::Write;
 
 /// Adds the fields of what an image says of its database, with the texts of the GUID and of the key.
-fn show_image(line: &mut Line, name: &str, image: &CodeView, guid: &str, key: &str) -> LineResult
-    ensures { ShowsRow [] line.old line.new result }
+fn show_image(line: &mut Line, name: &str, image: &CodeView, guid: &str, key: &str)
+    ensures { AddsRow [] line.old line.new }
 {
-    line.field(NAME, Value::Text(RawString::from(name)))?;
-    line.field(FORMAT, Value::Word("PE"))?;
-    line.field("image", Value::Flag(true))?;
-    line.field("path", Value::Text(RawString::from(image.path.as_slice())))?;
-    line.field(GUID, Value::Text(RawString::from(guid)))?;
-    line.field(AGE, Value::Number(image.age as u64))?;
-    line.field(MACHINE, Value::Number(image.machine as u64))?;
-    line.field(CPU, Value::Word(image.cpu()))?;
-    line.field(KEY, Value::Text(RawString::from(key)))?;
-    Ok(())
+    line.field(NAME, Value::Text(RawString::from(name)));
+    line.field(FORMAT, Value::Word("PE"));
+    line.field("image", Value::Flag(true));
+    line.field("path", Value::Text(RawString::from(image.path.as_slice())));
+    line.field(GUID, Value::Text(RawString::from(guid)));
+    line.field(AGE, Value::Number(image.age as u64));
+    line.field(MACHINE, Value::Number(image.machine as u64));
+    line.field(CPU, Value::Word(image.cpu()));
+    line.field(KEY, Value::Text(RawString::from(key)));
 }
 
 /// Writes what an image says of its database as an object of JSON.
@@ -45,8 +44,8 @@ fn write_object<W: Write>(
     let key = key_text(alloc, image.key())?;
     let mut line = Line::new(alloc);
     line.begin(Form::Json);
-    let added = show_image(&mut line, name, image, guid, &key);
-    write_line(added, &mut line, out)
+    show_image(&mut line, name, image, guid, &key);
+    write_line(&mut line, out)
 }
 
 /// Writes the line of the key of an image's database in a style.

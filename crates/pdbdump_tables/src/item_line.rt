@@ -3,15 +3,16 @@
 #![tactic(auto, using(pdbdump_rows::proofs::lemmas::Line::adding))]
 
 ghost use Rattle.pdb_tpi.specs.Item.{index_of};
-ghost use Rattle.pdbdump_rows.specs.Line.{EndsRow, ShowsRow, indexed};
+ghost use Rattle.pdbdump_rows.specs.Line.{EndsRow, AddsRow, indexed};
 ghost use Rattle.pdbdump_rows.specs.Lines.{row_text};
 
 use crate::refused_record::{ItemPlace, show_refused};
 use pdb_base::{Error, IdIndex, Result, TypeIndex};
 use pdb_tpi::Item;
 use pdb_values::{IdData, TypeData};
-use pdbdump_rows::{Form, Line, LineResult, show_id, show_type};
+use pdbdump_rows::{Form, Line, show_id, show_type};
 use std::alloc::{AllocError, Global};
+use std::result;
 
 /// The head of a record, and where it is.
 #[derive(Clone, Copy)]
@@ -27,26 +28,22 @@ pub(crate) struct RecordHead {
 }
 
 /// Adds the fields of the type of a record, or of why it can't be parsed. Then `is_whole` becomes
-/// false.
-///
-/// # Errors
-/// Fails if an allocation fails, or if that is why.
+/// false, unless the reason is want of memory.
 pub(crate) fn show_parsed_type(
-    alloc: Global,
     head: RecordHead,
     parsed: &Result<TypeData<'_>>,
     is_whole: &mut bool,
     line: &mut Line,
-) -> LineResult
-    ensures { ShowsRow (indexed head.index) line.old line.new result }
+)
+    ensures { AddsRow (indexed head.index) line.old line.new }
 {
     let RecordHead { index, leaf, place } = head;
     match parsed {
-        Ok(value) => show_type(alloc, line, index, leaf, value),
-        Err(Error::OutOfMemory) => Err(AllocError),
+        Ok(value) => show_type(line, index, leaf, value),
+        Err(Error::OutOfMemory) => line.lack(),
         Err(fault) => {
             *is_whole = false;
-            show_refused(alloc, line, index, leaf, place, fault)
+            show_refused(line, index, leaf, place, fault);
         }
     }
 }
@@ -58,8 +55,8 @@ fn show_type_item(
     place: ItemPlace,
     is_whole: &mut bool,
     line: &mut Line,
-) -> LineResult
-    ensures { ShowsRow (indexed (index_of item.now).0) line.old line.new result }
+)
+    ensures { AddsRow (indexed (index_of item.now).0) line.old line.new }
 {
     let head = RecordHead {
         index: item.index().0,
@@ -67,7 +64,7 @@ fn show_type_item(
         place,
     };
     let parsed = item.parse(alloc);
-    show_parsed_type(alloc, head, &parsed, is_whole, line)
+    show_parsed_type(head, &parsed, is_whole, line)
 }
 
 /// Makes the line of a type.
@@ -82,35 +79,31 @@ pub(crate) fn make_type(
     place: ItemPlace,
     is_whole: &mut bool,
     line: &mut Line,
-) -> LineResult
+) -> result::Result<(), AllocError>
     ensures { EndsRow (row_text form) (indexed (index_of item.now).0) line.new result }
 {
     line.begin(form);
-    let added = show_type_item(alloc, item, place, is_whole, line);
-    line.finish(added)
+    show_type_item(alloc, item, place, is_whole, line);
+    line.finish()
 }
 
 /// Adds the fields of the id of a record, or of why it can't be parsed. Then `is_whole` becomes
-/// false.
-///
-/// # Errors
-/// Fails if an allocation fails, or if that is why.
+/// false, unless the reason is want of memory.
 pub(crate) fn show_parsed_id(
-    alloc: Global,
     head: RecordHead,
     parsed: &Result<IdData<'_>>,
     is_whole: &mut bool,
     line: &mut Line,
-) -> LineResult
-    ensures { ShowsRow (indexed head.index) line.old line.new result }
+)
+    ensures { AddsRow (indexed head.index) line.old line.new }
 {
     let RecordHead { index, leaf, place } = head;
     match parsed {
-        Ok(value) => show_id(alloc, line, index, leaf, value),
-        Err(Error::OutOfMemory) => Err(AllocError),
+        Ok(value) => show_id(line, index, leaf, value),
+        Err(Error::OutOfMemory) => line.lack(),
         Err(fault) => {
             *is_whole = false;
-            show_refused(alloc, line, index, leaf, place, fault)
+            show_refused(line, index, leaf, place, fault);
         }
     }
 }
@@ -122,8 +115,8 @@ fn show_id_item(
     place: ItemPlace,
     is_whole: &mut bool,
     line: &mut Line,
-) -> LineResult
-    ensures { ShowsRow (indexed (index_of item.now).0) line.old line.new result }
+)
+    ensures { AddsRow (indexed (index_of item.now).0) line.old line.new }
 {
     let head = RecordHead {
         index: item.index().0,
@@ -131,7 +124,7 @@ fn show_id_item(
         place,
     };
     let parsed = item.parse(alloc);
-    show_parsed_id(alloc, head, &parsed, is_whole, line)
+    show_parsed_id(head, &parsed, is_whole, line)
 }
 
 /// Makes the line of an id.
@@ -146,10 +139,10 @@ pub(crate) fn make_id(
     place: ItemPlace,
     is_whole: &mut bool,
     line: &mut Line,
-) -> LineResult
+) -> result::Result<(), AllocError>
     ensures { EndsRow (row_text form) (indexed (index_of item.now).0) line.new result }
 {
     line.begin(form);
-    let added = show_id_item(alloc, item, place, is_whole, line);
-    line.finish(added)
+    show_id_item(alloc, item, place, is_whole, line);
+    line.finish()
 }

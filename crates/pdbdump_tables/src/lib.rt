@@ -1,10 +1,8 @@
-//! What `pdbdump` lists of a program database: its tables, a line for each record or one record in full, what an
-//! address
-//! map makes of an address, which file it is, and a summary of its parts.
+//! What `pdbdump` lists of a program database: its tables, a line for each record or one record in
+//! full, what an address map makes of an address, which file it is, and a summary of its parts.
 #![tactic(auto)]
 
 mod breakpad_frames;
-mod conversions;
 mod extraction;
 mod file_tables;
 mod frame_programs;
@@ -19,7 +17,6 @@ mod item_line;
 mod kinds;
 mod map;
 mod map_lines;
-mod map_places;
 mod map_source;
 mod matching;
 mod members;
@@ -45,7 +42,6 @@ mod type_listing;
 mod used_types;
 
 pub use breakpad_frames::list_breakpad_frames;
-pub use conversions::{OfInternal, OfLoaded, conversions_of_internal, conversions_of_loaded};
 pub use extraction::{stream_meant, write_part};
 pub use file_tables::{list_frames, list_frames_in, list_names, list_sections};
 pub use hex_dump::write_dump;

@@ -1,22 +1,21 @@
 //! Lists what a file's address map makes of addresses.
 
-ghost use Rattle.pdbdump_rows.specs.Rows.{WritesLines};
+#![tactic(auto, using(pdbdump_rows::proofs::lemmas::Sink::adding_lines))]
+
+ghost use Rattle.pdbdump_rows.specs.{Rows.WritesLines, Sink.AddsLines};
 ghost use Rattle.pdbdump_tables.specs.Given.{map_in};
 ghost use Rattle.pdbdump_tables.specs.Reading.{Reads, WritesRead};
 
-use crate::conversions::{
-    conversions_of_internal, conversions_of_internal_place, conversions_of_loaded,
-    conversions_of_place,
+use crate::map_lines::{
+    write_of_internal_place, write_of_internal_rva, write_of_place, write_of_rva,
 };
-use crate::map_lines::write_made;
-use crate::map_places::write_made_of_place;
 use crate::map_source::{MapStreams, map_in};
 use pdb_base::Result;
 use pdb_file::PDB;
 use pdb_msf::Source;
 use pdb_output::Output;
 use pdb_space::{AddressMap, PdbInternalRva, PdbInternalSectionOffset, Rva, SectionOffset};
-use pdbdump_rows::{Form, Line};
+use pdbdump_rows::{Form, Rows};
 use std::alloc::Global;
 use std::io::Write;
 
@@ -43,65 +42,31 @@ pub struct AskedAddress<'w> {
     pub word: &'w str,
 }
 
-/// Writes what a map makes of a number, first as an address of the image as it is loaded, and then
-/// as one of the original image.
-fn write_number<W: Write>(
-    alloc: Global,
-    map: &AddressMap,
-    address: u32,
-    word: Option<&str>,
-    form: Form,
-    out: &mut Output<W>,
-) -> Result<()>
-    ensures { WritesLines form out.old out.new result }
-{
-    let loaded = conversions_of_loaded(map, Rva(address));
-    let internal = conversions_of_internal(map, PdbInternalRva(address));
-    write_made(&loaded, &internal, word, form, &mut Line::new(alloc), out)
-}
-
-/// Writes what a map makes of a place in a section, first of the image as it is loaded, and then of
-/// the original image.
-fn write_section_place<W: Write>(
-    alloc: Global,
-    map: &AddressMap,
-    place: SectionOffset,
-    word: Option<&str>,
-    form: Form,
-    out: &mut Output<W>,
-) -> Result<()>
-    ensures { WritesLines form out.old out.new result }
-{
-    let SectionOffset { offset, section } = place;
-    let loaded = conversions_of_place(map, place);
-    let internal = PdbInternalSectionOffset::new(section, offset);
-    let internal = conversions_of_internal_place(map, internal);
-    write_made_of_place(&loaded, &internal, word, form, &mut Line::new(alloc), out)
-}
-
-/// Writes what a map makes of an address. The lines have the word of the address if there is one.
-fn write_address_of<W: Write>(
-    alloc: Global,
+/// Writes what a map makes of an address, first as one of the image as it is loaded, and then as one
+/// of the original image. The lines have the word of the address if there is one.
+fn write_made<W: Write>(
+    rows: &mut Rows<'_, W>,
     map: &AddressMap,
     address: Address,
     word: Option<&str>,
-    form: Form,
-    out: &mut Output<W>,
-) -> Result<()>
-    ensures { WritesLines form out.old out.new result }
+)
+    ensures { AddsLines rows.old rows.new }
 {
     match address {
-        Address::Rva(address) => write_number(alloc, map, address, word, form, out),
+        Address::Rva(address) => {
+            write_of_rva(rows, map, Rva(address), word);
+            write_of_internal_rva(rows, map, PdbInternalRva(address), word);
+        }
         Address::Place { section, offset } => {
-            let place = SectionOffset::new(section, offset);
-            write_section_place(alloc, map, place, word, form, out)
+            let internal = PdbInternalSectionOffset::new(section, offset);
+            write_of_place(rows, map, SectionOffset::new(section, offset), word);
+            write_of_internal_place(rows, map, internal, word);
         }
     }
 }
 
 /// Writes what a map makes of addresses. If there are several, each line has the word of its
 /// address.
-#[tactic(auto, using(pdbdump_rows::proofs::lemmas::Rows::listing))]
 fn write_map<W: Write>(
     alloc: Global,
     map: &AddressMap,
@@ -112,11 +77,12 @@ fn write_map<W: Write>(
     ensures { WritesLines form out.old out.new result }
 {
     let are_several = addresses.len() > 1;
+    let mut rows = Rows::new(alloc, form, out);
     for asked in addresses {
         let word = are_several.then_some(asked.word);
-        write_address_of(alloc, map, asked.address, word, form, out)?;
+        write_made(&mut rows, map, asked.address, word);
     }
-    Ok(())
+    rows.finish()
 }
 
 /// Lists what an address map makes of addresses, with a line for each conversion, even if it has no

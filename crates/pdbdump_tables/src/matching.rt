@@ -3,7 +3,7 @@
 #![tactic(auto, using(pdbdump_rows::proofs::lemmas::Line::adding, pdbdump_rows::proofs::lemmas::Rows::listing))]
 
 ghost use Rattle.std.specs.Prelude.{[]};
-ghost use Rattle.pdbdump_rows.specs.Line.{IsRow, ShowsRow, WritesWhat};
+ghost use Rattle.pdbdump_rows.specs.Line.{IsRow, AddsRow, WritesWhat};
 ghost use Rattle.pdbdump_rows.specs.Lines.{row_text};
 ghost use Rattle.pdbdump_tables.specs.Identity.{IsIdentity};
 
@@ -11,7 +11,7 @@ use crate::identity::{KEY, key_text};
 use pdb_base::{Error, RawString};
 use pdb_identity::{CodeView, Identity};
 use pdb_output::Output;
-use pdbdump_rows::{Form, Line, LineResult, Value, push_text, write_line};
+use pdbdump_rows::{Form, Line, Value, push_text, write_line};
 use std::alloc::{AllocError, Global};
 use std::io::Write;
 
@@ -48,15 +48,14 @@ fn match_text(alloc: Global, pair: &Pair<'_>) -> Result<Vec<u8>, AllocError> {
 }
 
 /// Adds the fields of whether the database belongs to the image, with the texts of both keys.
-fn show_match(line: &mut Line, pair: &Pair<'_>, key: &str, image_key: &str) -> LineResult
-    ensures { ShowsRow [] line.old line.new result }
+fn show_match(line: &mut Line, pair: &Pair<'_>, key: &str, image_key: &str)
+    ensures { AddsRow [] line.old line.new }
 {
-    line.field("file", Value::Text(RawString::from(pair.path)))?;
-    line.field("image", Value::Text(RawString::from(pair.image_path)))?;
-    line.field("belongs", Value::Flag(pair.image.is_of(pair.identity)))?;
-    line.field(KEY, Value::Text(RawString::from(key)))?;
-    line.field("image_key", Value::Text(RawString::from(image_key)))?;
-    Ok(())
+    line.field("file", Value::Text(RawString::from(pair.path)));
+    line.field("image", Value::Text(RawString::from(pair.image_path)));
+    line.field("belongs", Value::Flag(pair.image.is_of(pair.identity)));
+    line.field(KEY, Value::Text(RawString::from(key)));
+    line.field("image_key", Value::Text(RawString::from(image_key)));
 }
 
 /// Writes whether the database belongs to the image as an object of JSON.
@@ -67,8 +66,8 @@ fn write_object<W: Write>(alloc: Global, pair: &Pair<'_>, out: &mut Output<W>) -
     let image_key = key_text(alloc, pair.image.key())?;
     let mut line = Line::new(alloc);
     line.begin(Form::Json);
-    let added = show_match(&mut line, pair, &key, &image_key);
-    write_line(added, &mut line, out)
+    show_match(&mut line, pair, &key, &image_key);
+    write_line(&mut line, out)
 }
 
 /// Writes whether the database belongs to the image as a line.

@@ -4,7 +4,7 @@
 ghost use Rattle.std.specs.Prelude.{◌≡◌, []};
 ghost use Rattle.std.specs.Option.{option_map};
 ghost use Rattle.pdb_values.specs.TypeView.{type_value};
-ghost use Rattle.pdbdump_rows.specs.Line.{AddsText, IsRow, ShowsRow};
+ghost use Rattle.pdbdump_rows.specs.Line.{AddsText, IsRow, AddsRow};
 ghost use Rattle.pdbdump_rows.specs.Lines.{row_text};
 ghost use Rattle.pdbdump_rows.specs.Rows.{AreLines};
 ghost use Rattle.pdbdump_tables.specs.Listed.{Pushes};
@@ -14,18 +14,17 @@ use pdb_base::{Result, TypeIndex};
 use pdb_tpi::OpenTable;
 use pdb_types::enumerator_value;
 use pdb_values::{EnumerateType, MethodListEntry, TypeData};
-use pdbdump_rows::{Form, Line, LineResult, append_line, show_entry, show_listed_method};
+use pdbdump_rows::{Form, Line, append_line, show_entry, show_listed_method};
 use std::alloc::Global;
 
 /// Adds the fields of a field. The value of an enumerator is a number of the type under its
 /// enumeration, if that is given.
 fn show_typed(
-    alloc: Global,
     field: &TypeData<'_>,
     underlying_type: Option<TypeIndex>,
     line: &mut Line,
-) -> LineResult
-    ensures { ShowsRow [] line.old line.new result }
+)
+    ensures { AddsRow [] line.old line.new }
 {
     match (field, underlying_type) {
         (TypeData::Enumerate(enumerator), Some(underlying_type)) => {
@@ -35,16 +34,15 @@ fn show_typed(
                 attributes: enumerator.attributes,
                 name: enumerator.name,
             });
-            show_entry(alloc, line, &typed)
+            show_entry(line, &typed);
         }
-        _ => show_entry(alloc, line, field),
+        _ => show_entry(line, field),
     }
 }
 
 /// Appends the line of a field.
 #[tactic(auto, using(pdbdump_rows::proofs::lemmas::Line::showing))]
 fn push_entry(
-    alloc: Global,
     form: Form,
     field: &TypeData<'_>,
     underlying_type: Option<TypeIndex>,
@@ -54,14 +52,13 @@ fn push_entry(
     ensures { AddsText (IsRow (row_text form) []) lines.old.items lines.new.items result }
 {
     line.begin(form);
-    let added = show_typed(alloc, field, underlying_type, line);
-    append_line(added, line, lines)
+    show_typed(field, underlying_type, line);
+    append_line(line, lines)
 }
 
 /// Appends a line for each field.
 #[tactic(auto, using(pdbdump_rows::proofs::lemmas::Rows::lines_none_added, pdbdump_rows::proofs::lemmas::Rows::line_added))]
 fn push_entries(
-    alloc: Global,
     form: Form,
     fields: &[TypeData<'_>],
     underlying_type: Option<TypeIndex>,
@@ -71,7 +68,7 @@ fn push_entries(
     ensures { AddsText (AreLines form) lines.old.items lines.new.items result }
 {
     for field in fields {
-        push_entry(alloc, form, field, underlying_type, line, lines)?;
+        push_entry(form, field, underlying_type, line, lines)?;
     }
     Ok(())
 }
@@ -87,8 +84,8 @@ fn push_method(
     ensures { AddsText (IsRow (row_text form) []) lines.old.items lines.new.items result }
 {
     line.begin(form);
-    let added = show_listed_method(line, method);
-    append_line(added, line, lines)
+    show_listed_method(line, method);
+    append_line(line, lines)
 }
 
 /// Appends a line for each method.
@@ -121,7 +118,7 @@ fn push_list(
     ensures { Pushes form result lines.old.items lines.new.items (fields_end types.now.table list.0) }
 {
     let fields = types.fields(alloc, list)?;
-    push_entries(alloc, form, fields.as_slice(), underlying_type, line, lines)?;
+    push_entries(form, fields.as_slice(), underlying_type, line, lines)?;
     Ok(())
 }
 

@@ -3,14 +3,14 @@
 #![tactic(auto, using(pdbdump_rows::proofs::lemmas::Line::adding))]
 
 ghost use Rattle.std.specs.Prelude.{◌≡◌};
-ghost use Rattle.pdbdump_rows.specs.Line.{ShowsRow};
+ghost use Rattle.pdbdump_rows.specs.Line.{AddsRow};
 ghost use Rattle.pdbdump_tables.specs.Listing.{IsListed, whole};
 ghost use Rattle.pdbdump_tables.specs.Tables.{all_names, name_rows, placed_at, next_place};
 
 use pdb_base::{RawString, Result};
 use pdb_output::Output;
 use pdb_space::{StringRef, StringTable};
-use pdbdump_rows::{Form, Line, LineResult, Value, write_line};
+use pdbdump_rows::{Form, Line, Value, write_line};
 use std::alloc::Global;
 use std::io::Write;
 
@@ -24,12 +24,11 @@ fn next_place(place: u32, size: usize) -> Option<u32>
 }
 
 /// Adds the fields of a name: its offset and its text.
-fn show_name(line: &mut Line, place: u32, name: RawString<'_>) -> LineResult
-    ensures { ShowsRow (placed_at place) line.old line.new result }
+fn show_name(line: &mut Line, place: u32, name: RawString<'_>)
+    ensures { AddsRow (placed_at place) line.old line.new }
 {
-    line.field("offset", Value::Hexadecimal(place))?;
-    line.field("name", Value::Text(name))?;
-    Ok(())
+    line.front("offset", Value::Hexadecimal(place));
+    line.field("name", Value::Text(name));
 }
 
 /// Writes the names of a table, each with its offset.
@@ -48,8 +47,8 @@ pub(crate) fn write_table<W: Write>(
             return Ok(());
         };
         line.begin(form);
-        let added = show_name(&mut line, place, name);
-        write_line(added, &mut line, out)?;
+        show_name(&mut line, place, name);
+        write_line(&mut line, out)?;
         let Some(next) = next_place(place, name.len()) else {
             return Ok(());
         };

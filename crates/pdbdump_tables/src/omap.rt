@@ -25,8 +25,8 @@ fn write_records<W: Write>(
 {
     for record in table.records() {
         line.begin(form);
-        let added = show_omap(line, record);
-        write_line(added, line, out)?;
+        show_omap(line, record);
+        write_line(line, out)?;
     }
     Ok(())
 }
@@ -47,8 +47,8 @@ fn write_order<W: Write>(
     ensures { WritesWhat (IsRow (row_text form) []) out.old out.new result }
 {
     line.begin(form);
-    let added = line.field("is_sorted", Value::Flag(is_sorted));
-    write_line(added, line, out)
+    line.field("is_sorted", Value::Flag(is_sorted));
+    write_line(line, out)
 }
 
 /// Writes the records of a table, and then whether their sources never decrease.

@@ -4,7 +4,7 @@
 
 ghost use Rattle.std.specs.Prelude.{None};
 ghost use Rattle.pdb_msf.specs.File.{ReadsFile, stream_of};
-ghost use Rattle.pdbdump_rows.specs.Line.{IsRow, ShowsRow, WritesWhat};
+ghost use Rattle.pdbdump_rows.specs.Line.{IsRow, AddsRow, WritesWhat};
 ghost use Rattle.pdbdump_rows.specs.Lines.{row_text};
 ghost use Rattle.pdbdump_tables.specs.Files.{AreBothListed, IsOmapListed, role_listing, role_shown};
 ghost use Rattle.pdbdump_tables.specs.Listing.{IsListed};
@@ -14,17 +14,16 @@ use pdb_base::{Result, Stream};
 use pdb_file::{DBIExtraStreams, PDB};
 use pdb_msf::{Msf, Source};
 use pdb_output::Output;
-use pdbdump_rows::{Form, Line, LineResult, Value, optional_number, write_line};
+use pdbdump_rows::{Form, Line, Value, optional_number, write_line};
 use std::alloc::Global;
 use std::io::Write;
 
 /// Adds the fields of the role of the table that follows, and the number of its stream.
-fn show_role(line: &mut Line, role: &'static str, number: Option<u32>) -> LineResult
-    ensures { ShowsRow (role_shown role.now) line.old line.new result }
+fn show_role(line: &mut Line, role: &'static str, number: Option<u32>)
+    ensures { AddsRow (role_shown role.now) line.old line.new }
 {
-    line.field("role", Value::Word(role))?;
-    line.field("stream", optional_number(number))?;
-    Ok(())
+    line.front("role", Value::Word(role));
+    line.field("stream", optional_number(number));
 }
 
 /// Writes the role of the table that follows, and the number of its stream.
@@ -40,8 +39,8 @@ fn write_role<W: Write>(
 {
     let mut line = Line::new(alloc);
     line.begin(form);
-    let added = show_role(&mut line, role, number);
-    write_line(added, &mut line, out)
+    show_role(&mut line, role, number);
+    write_line(&mut line, out)
 }
 
 /// Lists the records of the OMAP table in the stream that has a role, after a line that says which

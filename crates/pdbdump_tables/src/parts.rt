@@ -1,15 +1,13 @@
 //! Parts of a file that have an error.
 
-#![tactic(auto, using(pdbdump_rows::proofs::lemmas::Line::adding, pdbdump_rows::proofs::lemmas::Rows::listing))]
+#![tactic(auto, using(pdbdump_rows::proofs::lemmas::Line::adding, pdbdump_rows::proofs::lemmas::Sink::adding_lines))]
 
 ghost use Rattle.std.specs.Prelude.{◌≡◌, [], false};
-ghost use Rattle.pdbdump_rows.specs.Line.{ShowsRow};
-ghost use Rattle.pdbdump_rows.specs.Rows.{WritesLines};
+ghost use Rattle.pdbdump_rows.specs.Line.{AddsRow};
+ghost use Rattle.pdbdump_rows.specs.Sink.{AddsLines};
 
-use pdb_base::{Error, Result};
-use pdb_output::Output;
-use pdbdump_rows::{Form, Line, LineResult, Value, show_error, write_line};
-use std::alloc::Global;
+use pdb_base::Error;
+use pdbdump_rows::{Line, Rows, Value, show_error};
 use std::io::Write;
 
 /// A part of a file.
@@ -28,8 +26,8 @@ pub enum Part {
 }
 
 /// Adds the field that names a part.
-fn show_part(line: &mut Line, part: Part) -> LineResult
-    ensures { ShowsRow [] line.old line.new result }
+fn show_part(line: &mut Line, part: Part)
+    ensures { AddsRow [] line.old line.new }
 {
     match part {
         Part::Directory => line.field("part", Value::Word("directory")),
@@ -40,29 +38,19 @@ fn show_part(line: &mut Line, part: Part) -> LineResult
     }
 }
 
-/// Adds the fields of a part that has an error.
-fn show_refused(alloc: Global, line: &mut Line, part: Part, error: &Error) -> LineResult
-    ensures { ShowsRow [] line.old line.new result }
+/// Writes which part has an error, and which error, and notes that not all parts are whole. Want of
+/// memory is no error of a part.
+pub fn write_refused<W: Write>(rows: &mut Rows<'_, W>, part: Part, error: &Error)
+    ensures lines { AddsLines rows.old rows.new }
+    ensures noted { rows.new.is_whole ≡ false }
 {
-    show_part(line, part)?;
-    show_error(alloc, line, error)
-}
-
-/// Writes which part has an error, and which error, and notes that not all parts are whole.
-pub fn write_refused<W: Write>(
-    alloc: Global,
-    part: Part,
-    error: &Error,
-    form: Form,
-    out: &mut Output<W>,
-    is_whole: &mut bool,
-) -> Result<()>
-    ensures lines { WritesLines form out.old out.new result }
-    ensures noted { is_whole.new ≡ false }
-{
-    *is_whole = false;
-    let mut line = Line::new(alloc);
-    line.begin(form);
-    let added = show_refused(alloc, &mut line, part, error);
-    write_line(added, &mut line, out)
+    if let Error::OutOfMemory = error {
+        rows.lack();
+    } else {
+        rows.begin();
+        show_part(&mut rows.line, part);
+        show_error(&mut rows.line, error);
+        rows.end();
+    }
+    rows.is_whole = false;
 }

@@ -1,18 +1,18 @@
 //! What the bytes of a file belong to, a line for each.
 
-#![tactic(auto, using(pdbdump_rows::proofs::lemmas::Line::adding, pdbdump_rows::proofs::lemmas::Rows::listing))]
+#![tactic(auto, using(pdbdump_rows::proofs::lemmas::Line::adding, pdbdump_rows::proofs::lemmas::Sink::adding_lines))]
 
 ghost use Rattle.std.specs.Prelude.{◌<◌, []};
 ghost use Rattle.pdb_base.specs.Memory.{FailsOnlyForMemory};
-ghost use Rattle.pdbdump_rows.specs.Line.{ShowsRow};
-ghost use Rattle.pdbdump_rows.specs.Rows.{WritesLines};
+ghost use Rattle.pdbdump_rows.specs.Line.{AddsRow};
+ghost use Rattle.pdbdump_rows.specs.{Rows.WritesLines, Sink.AddsLines};
 
 use crate::roles::fixed_role;
 use crate::streams::NO_STREAM;
 use pdb_base::{Error, Result};
 use pdb_msf::{CountedSource, Layout, Source};
 use pdb_output::Output;
-use pdbdump_rows::{Form, Line, LineResult, Value, optional_word, write_line};
+use pdbdump_rows::{Form, Line, Rows, Value, optional_word};
 use std::alloc::Global;
 use std::io::Write;
 
@@ -136,51 +136,50 @@ impl FilePages {
     }
 }
 
+/// Returns the value of a flag, or `Absent` if it isn't set.
+fn set_flag<'t>(is_set: bool) -> Value<'t> {
+    if is_set {
+        Value::Flag(true)
+    } else {
+        Value::Absent
+    }
+}
+
 /// Adds what a byte belongs to. A byte behind the end of the stream in its last page is unused.
-fn show_owner(line: &mut Line, place: Place) -> LineResult
-    ensures { ShowsRow [] line.old line.new result }
+fn show_owner(line: &mut Line, place: Place)
+    ensures { AddsRow [] line.old line.new }
 {
     match place {
         Place::Named(name) => line.field("role", Value::Word(name)),
         Place::InStream { number, byte, size } => {
-            line.field("stream", Value::Number(number as u64))?;
-            line.field("byte", Value::Number(byte))?;
-            line.field("role", optional_word(fixed_role(number)))?;
-            if byte < size as u64 {
-                return Ok(());
-            }
-            line.field("unused", Value::Flag(true))
+            let is_unused = byte >= size as u64;
+            line.fields(&[
+                ("stream", Value::Number(number as u64)),
+                ("byte", Value::Number(byte)),
+                ("role", optional_word(fixed_role(number))),
+                ("unused", set_flag(is_unused)),
+            ]);
         }
     }
 }
 
-/// Adds the fields of a byte: its offset, its page, and what it belongs to.
-fn show_place(line: &mut Line, offset: u32, page: u32, place: Place) -> LineResult
-    ensures { ShowsRow [] line.old line.new result }
-{
-    line.field("offset", Value::Hexadecimal(offset))?;
-    line.field("page", Value::Number(page as u64))?;
-    show_owner(line, place)
-}
-
-/// Writes the line of a byte by its offset.
-fn write_place<W: Write>(
-    alloc: Global,
-    pages: &FilePages,
-    offset: u32,
-    form: Form,
-    line: &mut Line,
-    out: &mut Output<W>,
-) -> Result<()>
-    ensures { WritesLines form out.old out.new result }
+/// Writes the line of a byte by its offset: its page, and what it belongs to.
+fn write_place<W: Write>(rows: &mut Rows<'_, W>, pages: &FilePages, offset: u32)
+    ensures { AddsLines rows.old rows.new }
 {
     let page_size = pages.layout.page_size();
     let page = offset.checked_div(page_size).unwrap_or(0);
     let byte = offset.checked_rem(page_size).unwrap_or(0);
-    let place = pages.place(alloc, page, byte)?;
-    line.begin(form);
-    let added = show_place(line, offset, page, place);
-    write_line(added, line, out)
+    match pages.place(rows.alloc(), page, byte) {
+        Ok(place) => {
+            rows.begin();
+            rows.line.field("offset", Value::Hexadecimal(offset));
+            rows.line.field("page", Value::Number(page as u64));
+            show_owner(&mut rows.line, place);
+            rows.end();
+        }
+        Err(_) => rows.lack(),
+    }
 }
 
 /// Writes for each offset of a byte in a file which page and which stream the byte belongs to, and
@@ -197,9 +196,9 @@ pub fn list_places<W: Write>(
 ) -> Result<()>
     ensures { WritesLines form out.old out.new result }
 {
-    let mut line = Line::new(alloc);
+    let mut rows = Rows::new(alloc, form, out);
     for offset in offsets {
-        write_place(alloc, pages, *offset, form, &mut line, out)?;
+        write_place(&mut rows, pages, *offset);
     }
-    Ok(())
+    rows.finish()
 }

@@ -6,7 +6,7 @@ ghost use Rattle.std.specs.Prelude.{◌≡◌, Ok};
 ghost use Rattle.pdb_base.specs.Refusal.{refusal_of};
 ghost use Rattle.pdb_tpi.specs.Finder.{item_of};
 ghost use Rattle.pdb_tpi.specs.Item.{item_bytes, index_of};
-ghost use Rattle.pdbdump_rows.specs.Line.{EndsRow, ShowsRow, indexed};
+ghost use Rattle.pdbdump_rows.specs.Line.{EndsRow, AddsRow, indexed};
 ghost use Rattle.pdbdump_rows.specs.Lines.{full_text};
 ghost use Rattle.pdbdump_tables.specs.Records.{item_byte, refused_in_full};
 ghost use Rattle.pdbdump_tables.specs.Listed.{IsShown};
@@ -14,9 +14,10 @@ ghost use Rattle.pdbdump_tables.specs.Listed.{IsShown};
 use pdb_base::{Error, ItemIndex, Result};
 use pdb_output::Output;
 use pdb_tpi::{Item, OpenTable};
-use pdbdump_rows::{Form, Line, LineResult, Value, show_error};
-use std::alloc::Global;
+use pdbdump_rows::{Form, Line, Value, show_error};
+use std::alloc::{AllocError, Global};
 use std::io::Write;
+use std::result;
 
 /// How many bytes the length before a record takes.
 const LENGTH_SIZE: u32 = 2;
@@ -31,43 +32,39 @@ pub(crate) struct ItemPlace {
 
 /// Adds the fields of a record that can't be parsed: its index, its kind, the error, and where the
 /// record is.
-///
-/// # Errors
-/// Fails if an allocation fails.
 pub(crate) fn show_refused(
-    alloc: Global,
     line: &mut Line,
     index: u32,
     leaf: u16,
     place: ItemPlace,
     fault: &Error,
-) -> LineResult
-    ensures { ShowsRow (indexed index) line.old line.new result }
+)
+    ensures { AddsRow (indexed index) line.old line.new }
 {
-    line.field("index", Value::Hexadecimal(index))?;
-    line.field("kind", Value::Kind(leaf))?;
-    show_error(alloc, line, fault)?;
-    line.field("stream", Value::Number(place.stream as u64))?;
-    line.field("byte", Value::Hexadecimal(place.byte))?;
-    Ok(())
+    line.front("index", Value::Hexadecimal(index));
+    line.field("kind", Value::Kind(leaf));
+    show_error(line, fault);
+    line.fields(&[
+        ("stream", Value::Number(place.stream as u64)),
+        ("byte", Value::Hexadecimal(place.byte)),
+    ]);
 }
 
 /// Makes the text in full of a record that can't be parsed.
 #[tactic(auto, using(pdbdump_rows::proofs::lemmas::Line::showing))]
 fn make_refused(
-    alloc: Global,
     form: Form,
     index: u32,
     leaf: u16,
     place: ItemPlace,
     fault: &Error,
     line: &mut Line,
-) -> LineResult
+) -> result::Result<(), AllocError>
     ensures { EndsRow (full_text form) (indexed index) line.new result }
 {
     line.begin_full(form);
-    let added = show_refused(alloc, line, index, leaf, place, fault);
-    line.finish(added)
+    show_refused(line, index, leaf, place, fault);
+    line.finish()
 }
 
 /// Returns the byte of its stream at which the record of an item begins, or None for an item of a
@@ -107,15 +104,7 @@ pub(crate) fn write_unread<I: ItemIndex, W: Write>(
     let index: u32 = item.index().into();
     let mut line = Line::new(alloc);
     let place = ItemPlace { stream, byte };
-    make_refused(
-        alloc,
-        form,
-        index,
-        item.raw_kind(),
-        place,
-        &fault,
-        &mut line,
-    )?;
+    make_refused(form, index, item.raw_kind(), place, &fault, &mut line)?;
     out.write(line.as_bytes())?;
     Err(fault)
 }

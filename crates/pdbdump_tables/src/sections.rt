@@ -32,8 +32,8 @@ pub fn write_sections<W: Write>(
     for place in 0..size / HEADER_SIZE {
         let header = ImageSectionHeader::parse(&mut buffer)?;
         line.begin(form);
-        let added = show_section(&mut line, place as u32 + 1, &header);
-        write_line(added, &mut line, out)?;
+        show_section(&mut line, place as u32 + 1, &header);
+        write_line(&mut line, out)?;
     }
     if size % HEADER_SIZE == 0 {
         Ok(())

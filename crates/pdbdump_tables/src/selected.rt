@@ -31,8 +31,8 @@ fn write_type<W: Write>(
     ensures { WritesWhat (IsRow (row_text form) (indexed head.index)) out.old out.new result }
 {
     line.begin(form);
-    let added = show_parsed_type(alloc, head, parsed, is_whole, line);
-    write_line(added, line, out)
+    show_parsed_type(head, parsed, is_whole, line);
+    write_line(line, out)
 }
 
 /// Returns whether the type of a record is listed.
@@ -128,8 +128,8 @@ fn write_id<W: Write>(
     ensures { WritesWhat (IsRow (row_text form) (indexed head.index)) out.old out.new result }
 {
     line.begin(form);
-    let added = show_parsed_id(alloc, head, parsed, is_whole, line);
-    write_line(added, line, out)
+    show_parsed_id(head, parsed, is_whole, line);
+    write_line(line, out)
 }
 
 /// Returns whether the id of a record is listed.

@@ -1,24 +1,24 @@
 //! The streams of a file, one line for each.
 
-#![tactic(auto, using(pdbdump_rows::proofs::lemmas::Line::adding, pdbdump_rows::proofs::lemmas::Rows::listing))]
+#![tactic(auto, using(pdbdump_rows::proofs::lemmas::Line::adding, pdbdump_rows::proofs::lemmas::Sink::adding_lines))]
 
 ghost use Rattle.std.specs.Prelude.{[]};
 ghost use Rattle.pdb_msf.specs.File.{stream_of};
-ghost use Rattle.pdbdump_rows.specs.Line.{ShowsRow};
-ghost use Rattle.pdbdump_rows.specs.Rows.{WritesLines};
+ghost use Rattle.pdbdump_rows.specs.Line.{AddsRow};
+ghost use Rattle.pdbdump_rows.specs.Sink.{AddsLines};
 ghost use Rattle.pdbdump_tables.specs.Reading.{Reads};
 
 use crate::headers::Headers;
 use crate::parts::{Part, write_refused};
 use crate::roles::role_of;
 use crate::stream_names::{ShownName, ShownNames};
-use pdb_base::{Error, RawString, Result, Stream};
+use pdb_base::{Error, Result, Stream};
 use pdb_file::{DBIExtraStreams, PDB};
 use pdb_msf::{BigMSF, Source};
-use pdb_output::Output;
-use pdbdump_rows::{Form, Line, LineResult, Value, optional_word, write_line};
-use std::alloc::Global;
+use pdbdump_rows::{Line, Rows, Value, optional_word};
+use std::alloc::{AllocError, Global};
 use std::io::Write;
+use std::result;
 
 /// The number of 16 bits that names no stream.
 pub const NO_STREAM: u32 = 0xffff;
@@ -32,8 +32,6 @@ pub struct Known<'n> {
     pub headers: Headers,
     /// The names of the streams.
     pub names: ShownNames<'n>,
-    /// Whether each part so far could be read.
-    pub is_whole: bool,
 }
 
 /// Reads the stream with this number as `BigMSF::into_stream` does: it consumes the file. If that is
@@ -55,99 +53,81 @@ fn pages_held<'t>(page_size: u32, size: u32) -> Value<'t> {
     Value::Number((size as u64).div_ceil(page_size as u64))
 }
 
-/// Adds the name of a stream, behind which `..` stands if its end is cut off.
-fn show_name(alloc: Global, line: &mut Line, name: Option<ShownName<'_>>) -> LineResult
-    ensures { ShowsRow [] line.old line.new result }
+/// Returns a name whose end is cut off, with `..` behind it.
+fn cut_text(alloc: Global, name: ShownName<'_>) -> result::Result<Vec<u8>, AllocError> {
+    let mut text = Vec::new(alloc);
+    text.extend_from_slice(name.text.as_bytes())?;
+    text.extend_from_slice(b"..")?;
+    Ok(text)
+}
+
+/// Adds the name of a stream.
+fn show_name(alloc: Global, line: &mut Line, name: ShownName<'_>)
+    ensures { AddsRow [] line.old line.new }
 {
-    match name {
-        Some(name) if name.is_cut => {
-            let mut text = Vec::new(alloc);
-            text.extend_from_slice(name.text.as_bytes())?;
-            text.extend_from_slice(b"..")?;
-            line.field("name", Value::Text(RawString::from(text.as_slice())))?;
-            line.field("cut", Value::Flag(true))
-        }
-        Some(name) => line.field("name", Value::Text(name.text)),
-        None => Ok(()),
+    if name.is_cut {
+        line.made_text("name", cut_text(alloc, name));
+        line.field("cut", Value::Flag(true));
+    } else {
+        line.field("name", Value::Text(name.text));
     }
 }
 
-/// Adds the fields of a stream: its number, its size in bytes, how many pages hold it, its role and
+/// Writes the line of a stream: its number, its size in bytes, how many pages hold it, its role and
 /// its name.
-fn show_stream(
-    alloc: Global,
-    line: &mut Line,
-    page_size: u32,
-    number: u32,
-    size: u32,
-    role: Option<&'static str>,
-    name: Option<ShownName<'_>>,
-) -> LineResult
-    ensures { ShowsRow [] line.old line.new result }
-{
-    line.field("stream", Value::Number(number as u64))?;
-    line.field("bytes", Value::Number(size as u64))?;
-    line.field("pages", pages_held(page_size, size))?;
-    line.field("role", optional_word(role))?;
-    show_name(alloc, line, name)
-}
-
-/// Writes the line of a stream with this number and this size in bytes.
 fn write_size<W: Write>(
-    alloc: Global,
+    rows: &mut Rows<'_, W>,
+    known: &mut Known<'_>,
     page_size: u32,
     number: u32,
     size: u32,
-    known: &mut Known<'_>,
-    form: Form,
-    out: &mut Output<W>,
-) -> Result<()>
-    ensures { WritesLines form out.old out.new result }
+)
+    ensures { AddsLines rows.old rows.new }
 {
-    let role = role_of(&known.roles, &known.headers, number);
-    let name = known.names.show(number);
-    let mut line = Line::new(alloc);
-    line.begin(form);
-    let added = show_stream(alloc, &mut line, page_size, number, size, role, name);
-    write_line(added, &mut line, out)
+    let alloc = rows.alloc();
+    rows.begin();
+    rows.line.fields(&[
+        ("stream", Value::Number(number as u64)),
+        ("bytes", Value::Number(size as u64)),
+        ("pages", pages_held(page_size, size)),
+        ("role", optional_word(role_of(&known.roles, &known.headers, number))),
+    ]);
+    if let Some(name) = known.names.show(number) {
+        show_name(alloc, &mut rows.line, name);
+    }
+    rows.end();
 }
 
 /// Writes the line of the stream with this number, if there is one. If its size can't be read, the
 /// line has the error.
 fn write_stream<S: Source, W: Write>(
-    alloc: Global,
+    rows: &mut Rows<'_, W>,
+    known: &mut Known<'_>,
     file: &mut BigMSF<S>,
     number: u32,
-    known: &mut Known<'_>,
-    form: Form,
-    out: &mut Output<W>,
-) -> Result<()>
-    ensures { WritesLines form out.old out.new result }
+)
+    ensures { AddsLines rows.old rows.new }
 {
-    match file.stream_size(alloc, number) {
-        Ok(size) => write_size(alloc, file.page_size(), number, size, known, form, out),
-        Err(Error::OutOfMemory) => Err(Error::OutOfMemory),
-        Err(Error::StreamNotFound(_)) => Ok(()),
-        Err(error) => {
-            let part = Part::Stream(number);
-            write_refused(alloc, part, &error, form, out, &mut known.is_whole)
-        }
+    match file.stream_size(rows.alloc(), number) {
+        Ok(size) => write_size(rows, known, file.page_size(), number, size),
+        Err(Error::StreamNotFound(_)) => {}
+        Err(error) => write_refused(rows, Part::Stream(number), &error),
     }
 }
 
 /// Writes a line for each of the first `count` streams.
 pub fn write_streams<S: Source, W: Write>(
-    alloc: Global,
+    rows: &mut Rows<'_, W>,
+    known: &mut Known<'_>,
     file: &mut BigMSF<S>,
     count: u32,
-    known: &mut Known<'_>,
-    form: Form,
-    out: &mut Output<W>,
-) -> Result<()>
-    ensures { WritesLines form out.old out.new result }
+)
+    ensures { AddsLines rows.old rows.new }
 {
     for number in 0..count {
-        write_stream(alloc, file, number, known, form, out)?;
+        if rows.has_failed() {
+            return;
+        }
+        write_stream(rows, known, file, number);
     }
-    Ok(())
 }

@@ -1,90 +1,65 @@
 //! The summary of a file.
 
-#![tactic(auto, using(pdbdump_rows::proofs::lemmas::Line::adding, pdbdump_rows::proofs::lemmas::Rows::listing))]
+#![tactic(auto, using(pdbdump_rows::proofs::lemmas::Sink::adding_lines))]
 
-ghost use Rattle.std.specs.Prelude.{[]};
 ghost use Rattle.pdb_output.specs.Output.{done_of};
-ghost use Rattle.pdbdump_rows.specs.Line.{ShowsRow};
-ghost use Rattle.pdbdump_rows.specs.Rows.{WritesLines};
+ghost use Rattle.pdbdump_rows.specs.{Rows.WritesLines, Sink.AddsLines};
 
 use crate::headers::headers_of;
 use crate::parts::{Part, write_refused};
 use crate::stream_names::ShownNames;
 use crate::streams::{Known, NO_STREAM, write_streams};
 use crate::table_summary::{walk_last_table, walk_table, write_table};
-use pdb_base::{Error, Result};
+use pdb_base::Result;
 use pdb_file::{DBIExtraStreams, ID_STREAM, PDB, PDBInformation, TYPE_STREAM};
 use pdb_msf::Source;
 use pdb_output::Output;
-use pdbdump_rows::{Form, Line, LineResult, Value, write_line};
-use std::alloc::Global;
+use pdbdump_rows::{Form, Rows, Value};
+use std::alloc::{AllocError, Global};
 use std::io::Write;
+use std::result;
 
-/// Adds the fields of a file: the size of its pages in bytes, how many pages it uses, and its own
+/// Writes the line of a file: the size of its pages in bytes, how many pages it uses, and its own
 /// size in bytes.
-fn show_pages(line: &mut Line, page_size: u32, pages: u32, size: u64) -> LineResult
-    ensures { ShowsRow [] line.old line.new result }
+fn write_pages<W: Write>(rows: &mut Rows<'_, W>, page_size: u32, pages: u32, size: u64)
+    ensures { AddsLines rows.old rows.new }
 {
-    line.field("page_size", Value::Number(page_size as u64))?;
-    line.field("pages", Value::Number(pages as u64))?;
-    line.field("bytes", Value::Number(size))?;
-    Ok(())
-}
-
-/// Writes the line of a file.
-fn write_pages<W: Write>(
-    alloc: Global,
-    page_size: u32,
-    pages: u32,
-    size: u64,
-    form: Form,
-    out: &mut Output<W>,
-) -> Result<()>
-    ensures { WritesLines form out.old out.new result }
-{
-    let mut line = Line::new(alloc);
-    line.begin(form);
-    let added = show_pages(&mut line, page_size, pages, size);
-    write_line(added, &mut line, out)
+    rows.row(&[
+        ("page_size", Value::Number(page_size as u64)),
+        ("pages", Value::Number(pages as u64)),
+        ("bytes", Value::Number(size)),
+    ]);
 }
 
 /// Returns the roles of streams that stream 3 gives. If these can't be read, writes the error, and
 /// returns that no stream has a role.
 fn known_roles<S: Source, W: Write>(
-    alloc: Global,
+    rows: &mut Rows<'_, W>,
     file: &mut PDB<S>,
-    form: Form,
-    out: &mut Output<W>,
-    is_whole: &mut bool,
-) -> Result<DBIExtraStreams>
-    ensures { WritesLines form out.old out.new (done_of result) }
+) -> DBIExtraStreams
+    ensures { AddsLines rows.old rows.new }
 {
-    match file.extra_streams(alloc) {
-        Ok(roles) => Ok(roles),
-        Err(Error::OutOfMemory) => Err(Error::OutOfMemory),
+    match file.extra_streams(rows.alloc()) {
+        Ok(roles) => roles,
         Err(error) => {
-            write_refused(alloc, Part::Roles, &error, form, out, is_whole)?;
-            Ok(DBIExtraStreams::default())
+            write_refused(rows, Part::Roles, &error);
+            DBIExtraStreams::default()
         }
     }
 }
 
 /// Returns the information in stream 1. If it can't be read, writes the error, and returns None.
 fn known_information<S: Source, W: Write>(
-    alloc: Global,
+    rows: &mut Rows<'_, W>,
     file: &mut PDB<S>,
-    form: Form,
-    out: &mut Output<W>,
-    is_whole: &mut bool,
-) -> Result<Option<PDBInformation>>
-    ensures { WritesLines form out.old out.new (done_of result) }
+) -> Option<PDBInformation>
+    ensures { AddsLines rows.old rows.new }
 {
-    match file.pdb_information(alloc) {
-        Ok(information) => Ok(Some(information)),
-        Err(Error::OutOfMemory) => Err(Error::OutOfMemory),
+    match file.pdb_information(rows.alloc()) {
+        Ok(information) => Some(information),
         Err(error) => {
-            write_refused(alloc, Part::Names, &error, form, out, is_whole)?;
-            Ok(None)
+            write_refused(rows, Part::Names, &error);
+            None
         }
     }
 }
@@ -93,95 +68,73 @@ fn known_information<S: Source, W: Write>(
 /// the error, and returns that no stream has a name. All names together are shown with no more bytes
 /// than they take in stream 1.
 fn known_names<'i, W: Write>(
-    alloc: Global,
+    rows: &mut Rows<'_, W>,
     information: Option<&'i PDBInformation>,
     count: u32,
-    form: Form,
-    out: &mut Output<W>,
-    is_whole: &mut bool,
-) -> Result<ShownNames<'i>>
-    ensures { WritesLines form out.old out.new (done_of result) }
+) -> result::Result<ShownNames<'i>, AllocError>
+    ensures { AddsLines rows.old rows.new }
 {
+    let alloc = rows.alloc();
     let Some(information) = information else {
-        return Ok(ShownNames::new(alloc, &[], count, 0)?);
+        return ShownNames::new(alloc, &[], count, 0);
     };
     match information.stream_names(alloc) {
-        Ok(names) => Ok(ShownNames::new(alloc, names.as_slice(), count, information.names_size)?),
-        Err(Error::OutOfMemory) => Err(Error::OutOfMemory),
+        Ok(names) => ShownNames::new(alloc, names.as_slice(), count, information.names_size),
         Err(error) => {
-            write_refused(alloc, Part::Names, &error, form, out, is_whole)?;
-            Ok(ShownNames::new(alloc, &[], count, 0)?)
+            write_refused(rows, Part::Names, &error);
+            ShownNames::new(alloc, &[], count, 0)
         }
     }
 }
 
 /// Writes the tables of types and of ids. The walk over the types is the last, since it consumes the
 /// file: in most files, they are the largest stream.
-fn write_tables<S: Source + Drop, W: Write>(
-    alloc: Global,
-    mut file: PDB<S>,
-    form: Form,
-    out: &mut Output<W>,
-    is_whole: &mut bool,
-) -> Result<()>
-    ensures { WritesLines form out.old out.new result }
+fn write_tables<S: Source + Drop, W: Write>(rows: &mut Rows<'_, W>, mut file: PDB<S>)
+    ensures { AddsLines rows.old rows.new }
 {
+    let alloc = rows.alloc();
     let ids = walk_table(alloc, &mut file, ID_STREAM);
     let types = walk_last_table(alloc, file, TYPE_STREAM);
-    write_table(alloc, TYPE_STREAM, &types, form, out, is_whole)?;
-    write_table(alloc, ID_STREAM, &ids, form, out, is_whole)
+    write_table(rows, TYPE_STREAM, &types);
+    write_table(rows, ID_STREAM, &ids);
 }
 
-/// Writes the parts of a file whose directory is read: its streams, of which the first `count` are
-/// shown, and its tables. Returns whether each could be read.
+/// Writes the streams of a file, of which the first `count` are shown, and its tables.
 fn write_read_parts<S: Source + Drop, W: Write>(
-    alloc: Global,
+    rows: &mut Rows<'_, W>,
     mut file: PDB<S>,
     count: u32,
-    form: Form,
-    out: &mut Output<W>,
-) -> Result<bool>
-    ensures { WritesLines form out.old out.new (done_of result) }
+) -> result::Result<(), AllocError>
+    ensures { AddsLines rows.old rows.new }
 {
-    let mut is_whole = true;
-    let headers = headers_of(alloc, &mut file)?;
-    let roles = known_roles(alloc, &mut file, form, out, &mut is_whole)?;
-    let information = known_information(alloc, &mut file, form, out, &mut is_whole)?;
-    let names = known_names(alloc, information.as_ref(), count, form, out, &mut is_whole)?;
+    let headers = headers_of(rows.alloc(), &mut file)?;
+    let roles = known_roles(rows, &mut file);
+    let information = known_information(rows, &mut file);
+    let names = known_names(rows, information.as_ref(), count)?;
     let mut known = Known {
         roles,
         headers,
         names,
-        is_whole,
     };
     let mut streams = file.into_msf();
-    write_streams(alloc, &mut streams, count, &mut known, form, out)?;
-    write_tables(alloc, PDB::from(streams), form, out, &mut known.is_whole)?;
-    Ok(known.is_whole)
+    write_streams(rows, &mut known, &mut streams, count);
+    write_tables(rows, PDB::from(streams));
+    Ok(())
 }
 
-/// Writes all parts of a file, or the error of its directory. Returns whether each part could be
-/// read.
-fn write_parts<S: Source + Drop, W: Write>(
-    alloc: Global,
-    file: PDB<S>,
-    form: Form,
-    out: &mut Output<W>,
-) -> Result<bool>
-    ensures { WritesLines form out.old out.new (done_of result) }
+/// Writes all parts of a file, or the error of its directory.
+fn write_parts<S: Source + Drop, W: Write>(rows: &mut Rows<'_, W>, file: PDB<S>)
+    ensures { AddsLines rows.old rows.new }
 {
     let mut streams = file.into_msf();
-    match streams.stream_count(alloc) {
+    match streams.stream_count(rows.alloc()) {
         Ok(count) => {
             let count = count.min(NO_STREAM);
-            write_read_parts(alloc, PDB::from(streams), count, form, out)
+            if write_read_parts(rows, PDB::from(streams), count).is_err() {
+                rows.lack();
+            }
         }
-        Err(Error::OutOfMemory) => Err(Error::OutOfMemory),
-        Err(error) => {
-            let mut is_whole = true;
-            write_refused(alloc, Part::Directory, &error, form, out, &mut is_whole)?;
-            Ok(is_whole)
-        }
+        Err(error) => write_refused(rows, Part::Directory, &error),
     }
 }
 
@@ -202,14 +155,10 @@ pub fn list_summary<S: Source + Drop, W: Write>(
 ) -> Result<bool>
     ensures { WritesLines form out.old out.new (done_of result) }
 {
+    let mut rows = Rows::new(alloc, form, out);
     let streams = file.msf();
-    write_pages(
-        alloc,
-        streams.page_size(),
-        streams.pages_used(),
-        size,
-        form,
-        out,
-    )?;
-    write_parts(alloc, file, form, out)
+    write_pages(&mut rows, streams.page_size(), streams.pages_used(), size);
+    write_parts(&mut rows, file);
+    rows.finish()?;
+    Ok(rows.is_whole)
 }

@@ -1,135 +1,60 @@
 //! The tables of a file, and the kinds of their records.
 
-#![tactic(auto, using(pdbdump_rows::proofs::lemmas::Line::adding, pdbdump_rows::proofs::lemmas::Rows::listing))]
+#![tactic(auto, using(pdbdump_rows::proofs::lemmas::Sink::adding_lines))]
 
-ghost use Rattle.std.specs.Prelude.{[]};
-ghost use Rattle.pdbdump_rows.specs.Line.{ShowsRow};
-ghost use Rattle.pdbdump_rows.specs.Rows.{WritesLines};
+ghost use Rattle.pdbdump_rows.specs.Sink.{AddsLines};
 
 use crate::kinds::{KindCount, Walked, walk_over};
 use crate::parts::{Part, write_refused};
 use crate::streams::last_stream;
-use pdb_base::{Error, Result, Stream};
+use pdb_base::{Result, Stream};
 use pdb_file::PDB;
 use pdb_msf::{Msf, Source};
-use pdb_output::Output;
 use pdb_tpi::TypeInformation;
-use pdbdump_rows::{Form, Line, LineResult, Value, write_line};
+use pdbdump_rows::{Rows, Value};
 use std::alloc::Global;
 use std::io::Write;
 
-/// Adds the fields of a table: the number of its stream, how many records it has and how many of
-/// them are lists of fields that another list continues, and the indexes that its header counts.
-fn show_table(line: &mut Line, number: u32, walked: &Walked) -> LineResult
-    ensures { ShowsRow [] line.old line.new result }
-{
-    line.field("table", Value::Number(number as u64))?;
-    line.field("records", Value::Number(walked.records))?;
-    line.field(
-        "minimum_index",
-        Value::Hexadecimal(walked.header.minimum_index),
-    )?;
-    line.field(
-        "maximum_index",
-        Value::Hexadecimal(walked.header.maximum_index),
-    )?;
-    line.field("continued_field_lists", Value::Number(walked.continued))?;
-    Ok(())
-}
-
 /// Writes the line of a table: how many records it has and how many of them are lists of fields
 /// that another list continues, and the indexes that its header counts.
-fn write_head<W: Write>(
-    alloc: Global,
-    number: u32,
-    walked: &Walked,
-    form: Form,
-    out: &mut Output<W>,
-) -> Result<()>
-    ensures { WritesLines form out.old out.new result }
+fn write_head<W: Write>(rows: &mut Rows<'_, W>, number: u32, walked: &Walked)
+    ensures { AddsLines rows.old rows.new }
 {
-    let mut line = Line::new(alloc);
-    line.begin(form);
-    let added = show_table(&mut line, number, walked);
-    write_line(added, &mut line, out)
+    let header = walked.header;
+    rows.row(&[
+        ("table", Value::Number(number as u64)),
+        ("records", Value::Number(walked.records)),
+        ("minimum_index", Value::Hexadecimal(header.minimum_index)),
+        ("maximum_index", Value::Hexadecimal(header.maximum_index)),
+        ("continued_field_lists", Value::Number(walked.continued)),
+    ]);
 }
 
-/// Adds the fields of a kind of a table's records: how many there are, and how many bytes they take.
-fn show_kind(line: &mut Line, number: u32, kind: KindCount) -> LineResult
-    ensures { ShowsRow [] line.old line.new result }
+/// Writes a line for each kind of a table's records: how many there are, and how many bytes they
+/// take.
+fn write_kinds<W: Write>(rows: &mut Rows<'_, W>, number: u32, kinds: &[KindCount])
+    ensures { AddsLines rows.old rows.new }
 {
-    line.field("table", Value::Number(number as u64))?;
-    line.field("kind", Value::Kind(kind.leaf))?;
-    line.field("count", Value::Number(kind.count))?;
-    line.field("bytes", Value::Number(kind.bytes))?;
-    Ok(())
-}
-
-/// Writes a line for each kind of a table's records.
-fn write_kinds<W: Write>(
-    alloc: Global,
-    number: u32,
-    kinds: &[KindCount],
-    form: Form,
-    out: &mut Output<W>,
-) -> Result<()>
-    ensures { WritesLines form out.old out.new result }
-{
-    let mut line = Line::new(alloc);
     for kind in kinds {
-        line.begin(form);
-        let added = show_kind(&mut line, number, *kind);
-        write_line(added, &mut line, out)?;
+        rows.row(&[
+            ("table", Value::Number(number as u64)),
+            ("kind", Value::Kind(kind.leaf)),
+            ("count", Value::Number(kind.count)),
+            ("bytes", Value::Number(kind.bytes)),
+        ]);
     }
-    Ok(())
-}
-
-/// Writes the fault at which the walk over a table stops, if it does.
-fn write_stop<W: Write>(
-    alloc: Global,
-    number: u32,
-    fault: &Option<Error>,
-    form: Form,
-    out: &mut Output<W>,
-    is_whole: &mut bool,
-) -> Result<()>
-    ensures { WritesLines form out.old out.new result }
-{
-    match fault {
-        Some(fault) => write_refused(alloc, Part::Table(number), fault, form, out, is_whole),
-        None => Ok(()),
-    }
-}
-
-/// Writes the kinds of a table's records, and the fault at which its walk stops, if it does.
-fn write_rest<W: Write>(
-    alloc: Global,
-    number: u32,
-    walked: &Walked,
-    form: Form,
-    out: &mut Output<W>,
-    is_whole: &mut bool,
-) -> Result<()>
-    ensures { WritesLines form out.old out.new result }
-{
-    write_kinds(alloc, number, &walked.kinds, form, out)?;
-    write_stop(alloc, number, &walked.fault, form, out, is_whole)
 }
 
 /// Writes a table that was walked over: its line, the kinds of its records, and the fault at which
 /// its walk stops, if it does.
-fn write_walked<W: Write>(
-    alloc: Global,
-    number: u32,
-    walked: &Walked,
-    form: Form,
-    out: &mut Output<W>,
-    is_whole: &mut bool,
-) -> Result<()>
-    ensures { WritesLines form out.old out.new result }
+fn write_walked<W: Write>(rows: &mut Rows<'_, W>, number: u32, walked: &Walked)
+    ensures { AddsLines rows.old rows.new }
 {
-    write_head(alloc, number, walked, form, out)?;
-    write_rest(alloc, number, walked, form, out, is_whole)
+    write_head(rows, number, walked);
+    write_kinds(rows, number, &walked.kinds);
+    if let Some(fault) = &walked.fault {
+        write_refused(rows, Part::Table(number), fault);
+    }
 }
 
 /// Walks over the table in a stream.
@@ -164,23 +89,11 @@ pub fn walk_last_table<S: Source + Drop>(
 
 /// Writes the result of a walk over the table in the stream with this number: its lines, or its
 /// error, after which not all is whole.
-///
-/// # Errors
-/// Fails with `IoError` if the writer fails, and with `OutOfMemory` if the walk did or if an
-/// allocation fails.
-pub fn write_table<W: Write>(
-    alloc: Global,
-    number: u32,
-    walked: &Result<Walked>,
-    form: Form,
-    out: &mut Output<W>,
-    is_whole: &mut bool,
-) -> Result<()>
-    ensures { WritesLines form out.old out.new result }
+pub fn write_table<W: Write>(rows: &mut Rows<'_, W>, number: u32, walked: &Result<Walked>)
+    ensures { AddsLines rows.old rows.new }
 {
     match walked {
-        Ok(walked) => write_walked(alloc, number, walked, form, out, is_whole),
-        Err(Error::OutOfMemory) => Err(Error::OutOfMemory),
-        Err(error) => write_refused(alloc, Part::Table(number), error, form, out, is_whole),
+        Ok(walked) => write_walked(rows, number, walked),
+        Err(error) => write_refused(rows, Part::Table(number), error),
     }
 }

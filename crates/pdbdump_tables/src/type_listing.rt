@@ -16,9 +16,10 @@ use pdb_base::{Error, FallibleIterator, Result, Stream, TypeIndex};
 use pdb_output::Output;
 use pdb_tpi::{OpenTable, TypeInformation};
 use pdb_values::TypeData;
-use pdbdump_rows::{Form, Line, LineResult, show_type};
-use std::alloc::Global;
+use pdbdump_rows::{Form, Line, show_type};
+use std::alloc::{AllocError, Global};
 use std::io::Write;
+use std::result;
 
 /// Writes a line for each type of a table.
 fn list_types<W: Write>(
@@ -85,18 +86,17 @@ fn open_table(alloc: Global, table: TypeInformation) -> Result<OpenTable<TypeInd
 /// Makes the text of a type in full.
 #[tactic(auto, using(pdbdump_rows::proofs::lemmas::Line::showing))]
 fn make_full(
-    alloc: Global,
     form: Form,
     index: u32,
     leaf: u16,
     value: &TypeData<'_>,
     line: &mut Line,
-) -> LineResult
+) -> result::Result<(), AllocError>
     ensures { EndsRow (full_text form) (indexed index) line.new result }
 {
     line.begin_full(form);
-    let added = show_type(alloc, line, index, leaf, value);
-    line.finish(added)
+    show_type(line, index, leaf, value);
+    line.finish()
 }
 
 /// Writes a type of a table in full, with the texts of the types to which it refers, and then a line
@@ -115,7 +115,7 @@ fn write_value<W: Write>(
 {
     let mut line = Line::new(alloc);
     line.show_texts(texts_of(alloc, types, TypeIndex(index), value, form)?);
-    make_full(alloc, form, index, leaf, value, &mut line)?;
+    make_full(form, index, leaf, value, &mut line)?;
     out.write(line.as_bytes())?;
     let mut lines = Vec::new(alloc);
     push_members(

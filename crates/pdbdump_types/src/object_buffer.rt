@@ -10,8 +10,8 @@ use std::alloc::Global;
 pub struct ObjectBuffer {
     line: Line,
 
-    /// Whether each allocation so far succeeded.
-    is_whole: bool,
+    /// Whether each allocation for the objects before it succeeded.
+    was_whole: bool,
 }
 
 impl ObjectBuffer {
@@ -21,18 +21,19 @@ impl ObjectBuffer {
         line.begin(Form::Json);
         ObjectBuffer {
             line,
-            is_whole: true,
+            was_whole: true,
         }
     }
 
     /// Begins another object. The fields so far are gone, but not that an allocation failed.
     pub fn begin(&mut self) {
+        self.was_whole = self.is_whole();
         self.line.begin(Form::Json);
     }
 
     /// Adds a field.
     pub fn field(&mut self, name: &'static str, value: Value<'_>) {
-        self.is_whole = self.is_whole && self.line.field(name, value).is_ok();
+        self.line.field(name, value);
     }
 
     /// Adds a field that is a text.
@@ -47,6 +48,6 @@ impl ObjectBuffer {
 
     /// Returns whether each allocation so far succeeded.
     pub(crate) fn is_whole(&self) -> bool {
-        self.is_whole
+        self.was_whole && self.line.is_whole()
     }
 }

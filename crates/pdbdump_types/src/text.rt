@@ -1,7 +1,6 @@
 //! Pieces of text.
 
-use pdb_base::RawString;
-use pdbdump_rows::{Line, Value};
+use pdbdump_rows::{Form, push_text};
 use std::alloc::{AllocError, Global};
 
 /// Returns a text of a file as lines show it, with escapes for control characters.
@@ -9,9 +8,9 @@ use std::alloc::{AllocError, Global};
 /// # Errors
 /// Fails if an allocation fails.
 pub fn escape_text(alloc: Global, text: &[u8]) -> Result<Vec<u8>, AllocError> {
-    let mut line = Line::new(alloc);
-    line.field("name", Value::Text(RawString::from(text)))?;
-    Ok(Vec::from_slice(alloc, line.as_bytes())?)
+    let mut shown = Vec::new(alloc);
+    push_text(Form::Text, text, &mut shown)?;
+    Ok(shown)
 }
 
 /// Returns what the word for so many things ends with.

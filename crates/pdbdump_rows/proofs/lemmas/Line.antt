@@ -1,6 +1,6 @@
 -- A line that is written field by field is the one line of its fields.
 use Rattle.std.proofs.Common.{◌≡◌, ℕ, Bool, true, false, List, [], ◌∷◌, ◌++◌, codes, refl, ap, sym, subst, Result, ◌∙◌}
-use Rattle.std.proofs.Common.{Ok, Err, ⊎_elim, append_assoc}
+use Rattle.std.proofs.Common.{Ok, Err, ⊎_elim, append_assoc, IsTrue, true≢false}
 use Rattle.std.specs.Result.{IsErr, IsErrAnd}
 use Rattle.std.specs.declared.alloc.AllocError.{AllocError}
 use Rattle.std.specs.List.{filter, flat_map}
@@ -12,8 +12,8 @@ use Rattle.pdb_output.proofs.lemmas.Written.{lacks_all}
 use Rattle.pdb_output.specs.Output.{OutputState, Writes}
 use Rattle.pdbdump_rows.specs.declared.form.Form.{Form}
 use Rattle.pdbdump_rows.specs.declared.form.Form.TheVariants.{Text, Json}
-use Rattle.pdbdump_rows.specs.Line.{AddsText, EndsLine, EndsRow, HasRow, IsLineAppended, IsLineEnded, IsLineWritten}
-use Rattle.pdbdump_rows.specs.Line.{IsRow, LineState, ShowsRow, WritesWhat}
+use Rattle.pdbdump_rows.specs.Line.{AddsText, EndsLine, EndsRow, IsLineAppended, IsLineEnded, IsLineWritten}
+use Rattle.pdbdump_rows.specs.Line.{AddsField, AddsRow, IsRow, LineState, WritesWhat}
 use Rattle.pdbdump_rows.specs.Line.{all_shown, begun, begun_full, line_bytes, ending, line_opening, add_field}
 use Rattle.pdbdump_rows.specs.Lines.{field_line, field_text, fields_text, full_text, is_shown, row_text, separate}
 use Rattle.pdbdump_rows.specs.Lines.{separator}
@@ -21,11 +21,11 @@ use Rattle.pdbdump_rows.specs.Row.{ShownField, ShownRow}
 
 -- a line that shows a field
 abbrev after : Form → List ℕ → LineState
-after form bytes = record { form = form; is_full = false; bytes = bytes; is_empty = false }
+after form bytes = record { form = form; is_full = false; bytes = bytes; is_empty = false; is_whole = true }
 
 -- a line of text with a line for each field
 abbrev full : List ℕ → Bool → LineState
-full bytes empty = record { form = Text; is_full = true; bytes = bytes; is_empty = empty }
+full bytes empty = record { form = Text; is_full = true; bytes = bytes; is_empty = empty; is_whole = true }
 
 -- the fields behind the first, each behind a separator
 abbrev rest_text : Form → ShownRow → List ℕ
@@ -146,34 +146,60 @@ all_joined : (line : LineState) (row more : ShownRow)
 all_joined line [] more = refl
 all_joined line (field ∷ row) more = all_joined (add_field line field) row more
 
+add_whole : (line : LineState) (field : ShownField) → (add_field line field).is_whole ≡ line.is_whole
+unfolding add_field
+add_whole line field = ⊎_elim
+    (λ (holds : is_shown line.form field ≡ true).
+    ap (λ (next : LineState). next.is_whole) (cond-true (is_shown line.form field) _ _ holds))
+    (λ (fails : is_shown line.form field ≡ false).
+    ap (λ (next : LineState). next.is_whole) (cond-false (is_shown line.form field) _ _ fails))
+    (cases_Bool (is_shown line.form field))
+
+all_whole : (line : LineState) (row : ShownRow) → (all_shown line row).is_whole ≡ line.is_whole
+all_whole line [] = refl
+all_whole line (field ∷ row) = all_whole (add_field line field) row ∙ add_whole line field
+
+-- a line to which fields were added without want of memory was whole before
+was_whole : (line : LineState) (row : ShownRow) (new : LineState) → new ≡ all_shown line row → IsTrue new.is_whole
+    → IsTrue line.is_whole
+was_whole line row new is whole =
+    subst IsTrue (ap (λ (next : LineState). next.is_whole) is ∙ all_whole line row) whole
+
 -- no field yet
-pub no_fields : (line : LineState) → HasRow [] line line
-no_fields line = record { rest = []; shown = refl }
+pub no_fields : (line : LineState) → AddsRow [] line line
+unfolding AddsRow
+no_fields line whole = record { rest = []; shown = refl }
 
 -- a line with the first field alone
-pub first_field : (field : ShownField) (old now : LineState) → now ≡ add_field old field → HasRow (field ∷ []) old now
-first_field field old now is = record { rest = []; shown = is }
-
--- one field more
-pub field_more : (front : ShownRow) (field : ShownField) (old now new : LineState) → new ≡ add_field now field
-    → HasRow front old now → HasRow front old new
-field_more front field old now new is before = record {
-  rest = before.rest ++ field ∷ [];
-  shown = is ∙ ap (λ (line : LineState). add_field line field) before.shown
-      ∙ sym (all_joined (all_shown old front) before.rest (field ∷ []));
-}
+pub first_field : (field : ShownField) (old now : LineState) → AddsField field old now
+    → AddsRow (field ∷ []) old now
+unfolding AddsRow
+first_field field old now is whole = record { rest = []; shown = is whole }
 
 -- more fields
-pub fields_more : (front : ShownRow) (old now new : LineState) (result : Result (Unit {0}) AllocError)
-    → ShowsRow [] now new result → HasRow front old now → ShowsRow front old new result
-fields_more front old now new (Ok done) more before = record {
-  rest = before.rest ++ more.rest;
-  shown = more.shown ∙ ap (λ (line : LineState). all_shown line more.rest) before.shown
-      ∙ sym (all_joined (all_shown old front) before.rest more.rest);
-}
-fields_more front old now new (Err e) more before = tt
+pub fields_more : (front : ShownRow) (old now new : LineState) → AddsRow [] now new → AddsRow front old now
+    → AddsRow front old new
+unfolding AddsRow
+fields_more front old now new more before whole =
+    let next = more whole in
+    let first = before (was_whole now next.rest new next.shown whole) in
+    record {
+      rest = first.rest ++ next.rest;
+      shown = next.shown ∙ ap (λ (line : LineState). all_shown line next.rest) first.shown
+          ∙ sym (all_joined (all_shown old front) first.rest next.rest);
+    }
 
-pub ruleset adding = (no_fields, first_field, field_more, fields_more)
+-- a field alone
+pub field_alone : (field : ShownField) (old new : LineState) → AddsField field old new → AddsRow [] old new
+unfolding AddsRow
+field_alone field old new is whole = record { rest = field ∷ []; shown = is whole }
+
+-- an allocation failed
+pub fields_lack : (front : ShownRow) (old new : LineState) → new.is_whole ≡ false → AddsRow front old new
+unfolding AddsRow
+fields_lack front old new lacks whole = absurd (true≢false (sym whole ∙ lacks))
+
+pub ruleset adding = (no_fields, first_field, fields_more, fields_lack)
 
 -- ---- a line that has ended
 
@@ -185,47 +211,53 @@ row_is front rest line start now is same =
 
 -- a line with a row ends as the one line of it
 pub ends_row : (form : Form) (start : LineState) (front : ShownRow) (old new : LineState)
-    (result : Result (Unit {0}) AllocError) → HasRow front start old → start ≡ begun form
+    (result : Result (Unit {0}) AllocError) → IsTrue old.is_whole → AddsRow front start old → start ≡ begun form
     → EndsLine (line_bytes old) new result → EndsRow (row_text form) front new result
-ends_row form start front old new (Ok done) row first ends = record {
-  rest = row.rest;
-  shown = ends ∙ ap line_bytes (row_is front row.rest old (begun form) start row.shown first)
-      ∙ line_is form (front ++ row.rest);
-}
-ends_row form start front old new (Err e) row first ends = tt
+unfolding AddsRow
+ends_row form start front old new (Ok done) whole adds first ends =
+    let row = adds whole in
+    record {
+      rest = row.rest;
+      shown = ends ∙ ap line_bytes (row_is front row.rest old (begun form) start row.shown first)
+          ∙ line_is form (front ++ row.rest);
+    }
+ends_row form start front old new (Err e) whole adds first ends = tt
 
 -- and in full
 pub ends_full : (form : Form) (start : LineState) (front : ShownRow) (old new : LineState)
-    (result : Result (Unit {0}) AllocError) → HasRow front start old → start ≡ begun_full form
+    (result : Result (Unit {0}) AllocError) → IsTrue old.is_whole → AddsRow front start old → start ≡ begun_full form
     → EndsLine (line_bytes old) new result → EndsRow (full_text form) front new result
-ends_full form start front old new (Ok done) row first ends = record {
-  rest = row.rest;
-  shown = ends ∙ ap line_bytes (row_is front row.rest old (begun_full form) start row.shown first)
-      ∙ full_is form (front ++ row.rest);
-}
-ends_full form start front old new (Err e) row first ends = tt
+unfolding AddsRow
+ends_full form start front old new (Ok done) whole adds first ends =
+    let row = adds whole in
+    record {
+      rest = row.rest;
+      shown = ends ∙ ap line_bytes (row_is front row.rest old (begun_full form) start row.shown first)
+          ∙ full_is form (front ++ row.rest);
+    }
+ends_full form start front old new (Err e) whole adds first ends = tt
 
 -- ---- what a function that ends a line is proved of
 
-pub row_ended : (form : Form) (front : ShownRow) (start old new : LineState)
-    (added result : Result (Unit {0}) AllocError) → IsLineEnded old added new result → ShowsRow front start old added
-    → start ≡ begun form → EndsRow (row_text form) front new result
-row_ended form front start old new added result is shows first = is.row form start front shows first
+pub row_ended : (form : Form) (front : ShownRow) (start old new : LineState) (result : Result (Unit {0}) AllocError)
+    → IsLineEnded old new result → AddsRow front start old → start ≡ begun form
+    → EndsRow (row_text form) front new result
+row_ended form front start old new result is adds first = is.row form start front adds first
 
-pub full_ended : (form : Form) (front : ShownRow) (start old new : LineState)
-    (added result : Result (Unit {0}) AllocError) → IsLineEnded old added new result → ShowsRow front start old added
-    → start ≡ begun_full form → EndsRow (full_text form) front new result
-full_ended form front start old new added result is shows first = is.full form start front shows first
+pub full_ended : (form : Form) (front : ShownRow) (start old new : LineState) (result : Result (Unit {0}) AllocError)
+    → IsLineEnded old new result → AddsRow front start old → start ≡ begun_full form
+    → EndsRow (full_text form) front new result
+full_ended form front start old new result is adds first = is.full form start front adds first
 
 pub row_written : (form : Form) (front : ShownRow) (start line : LineState) (old new : OutputState)
-    (added : Result (Unit {0}) AllocError) (result : Result (Unit {0}) Error) → IsLineWritten line added old new result
-    → ShowsRow front start line added → start ≡ begun form → WritesWhat (IsRow (row_text form) front) old new result
-row_written form front start line old new added result is shows first = is.row form start front shows first
+    (result : Result (Unit {0}) Error) → IsLineWritten line old new result → AddsRow front start line
+    → start ≡ begun form → WritesWhat (IsRow (row_text form) front) old new result
+row_written form front start line old new result is adds first = is.row form start front adds first
 
 pub row_appended : (form : Form) (front : ShownRow) (start line : LineState) (old new : List ℕ)
-    (added : Result (Unit {0}) AllocError) (result : Result (Unit {0}) Error) → IsLineAppended line added old new result
-    → ShowsRow front start line added → start ≡ begun form → AddsText (IsRow (row_text form) front) old new result
-row_appended form front start line old new added result is shows first = is.row form start front shows first
+    (result : Result (Unit {0}) Error) → IsLineAppended line old new result → AddsRow front start line
+    → start ≡ begun form → AddsText (IsRow (row_text form) front) old new result
+row_appended form front start line old new result is adds first = is.row form start front adds first
 
 -- the line that is made of a row is written
 pub made_written : (show : ShownRow → List ℕ) (front : ShownRow) (made bytes : List ℕ) (old new : OutputState)
@@ -244,11 +276,10 @@ row_lacks show front old e want = record {
 }
 
 -- memory ran out before the line was written
-pub line_lacks : (line : LineState) (added : Result (Unit {0}) AllocError) (old : OutputState)
-    (result : Result (Unit {0}) Error) → IsErr result × IsErrAnd result (λ e. e ≡ OutOfMemory)
-    → IsLineWritten line added old old result
-line_lacks line added old (Ok done) lacks = absurd cc
-line_lacks line added old (Err e) lacks =
-    record { row = λ form start front shows first. row_lacks (row_text form) front old e lacks.1 }
+pub line_lacks : (line : LineState) (old : OutputState) (result : Result (Unit {0}) Error)
+    → IsErr result × IsErrAnd result (λ e. e ≡ OutOfMemory) → IsLineWritten line old old result
+line_lacks line old (Ok done) lacks = absurd cc
+line_lacks line old (Err e) lacks =
+    record { row = λ form start front adds first. row_lacks (row_text form) front old e lacks.1 }
 
 pub ruleset showing = (row_ended, full_ended, row_written, row_appended)

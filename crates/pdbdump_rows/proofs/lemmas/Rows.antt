@@ -3,13 +3,12 @@ use Rattle.std.proofs.Common.{◌≡◌, ℕ, List, [], ◌∷◌, ◌++◌, Res
 use Rattle.std.proofs.lemmas.List.{append-nil}
 use Rattle.std.proofs.KnownBytes.{Appends-nil}
 use Rattle.std.specs.Result.{IsErr, IsErrAnd}
-use Rattle.std.specs.declared.alloc.AllocError.{AllocError}
 use Rattle.pdb_base.specs.declared.error.Error.{Error}
 use Rattle.pdb_base.specs.declared.error.Error.TheVariants.{OutOfMemory}
 use Rattle.pdb_output.specs.Output.{OutputState, Gets}
 use Rattle.pdb_output.proofs.lemmas.Written.{first_cut, lacks_all, second_writes}
 use Rattle.pdbdump_rows.specs.declared.form.Form.{Form}
-use Rattle.pdbdump_rows.specs.Line.{HasText, IsLineWritten, IsRow, LineState, ShowsRow, WritesWhat, begun}
+use Rattle.pdbdump_rows.specs.Line.{AddsRow, HasText, IsLineWritten, IsRow, LineState, WritesWhat, begun}
 use Rattle.pdbdump_rows.specs.Lines.{row_text}
 use Rattle.pdbdump_rows.specs.Row.{ShownRow}
 use Rattle.pdbdump_rows.specs.Rows.{AreLines, AreRows, AreRowsSoFar, WritesLines, more, none}
@@ -157,11 +156,11 @@ lines_more form old now new result next before = record {
 }
 
 -- the line of a row that was added to it
-pub line_of_row : (form : Form) (start line : LineState) (old new : OutputState)
-    (added : Result (Unit {0}) AllocError) (result : Result (Unit {0}) Error) → IsLineWritten line added old new result
-    → ShowsRow [] start line added → start ≡ begun form → WritesLines form old new result
-line_of_row form start line old new added result is shows first =
-    lines_of_row form [] old new result (is.row form start [] shows first)
+pub line_of_row : (form : Form) (front : ShownRow) (start line : LineState) (old new : OutputState)
+    (result : Result (Unit {0}) Error) → IsLineWritten line old new result → AddsRow front start line
+    → start ≡ begun form → WritesLines form old new result
+line_of_row form front start line old new result is adds first =
+    lines_of_row form front old new result (is.row form start front adds first)
 
 -- an error is passed on
 pub lines_passed : (form : Form) (old new : OutputState) (e : Error) (result : Result (Unit {0}) Error)

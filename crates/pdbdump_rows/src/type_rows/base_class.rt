@@ -3,9 +3,9 @@
 #![tactic(auto, using(crate::proofs::lemmas::Line::adding))]
 
 ghost use Rattle.std.specs.Prelude.{[]};
-ghost use Rattle.pdbdump_rows.specs.Line.{ShowsRow};
+ghost use Rattle.pdbdump_rows.specs.Line.{AddsRow};
 
-use crate::line::{Line, LineResult};
+use crate::line::Line;
 use crate::names::{
     ACCESS, ATTRIBUTES, BASE_CLASS, BASE_POINTER, BASE_POINTER_OFFSET, DIRECT, OFFSET, TABLE,
     VIRTUAL_BASE_OFFSET,
@@ -16,45 +16,43 @@ use crate::words::{access_word, field_flags};
 use pdb_values::{BaseClassType, VirtualBaseClassType, VirtualFunctionTablePointerType};
 
 /// Adds the fields of a base class.
-pub(crate) fn show_base_class(line: &mut Line, base: BaseClassType) -> LineResult
-    ensures { ShowsRow [] line.old line.new result }
+pub(crate) fn show_base_class(line: &mut Line, base: BaseClassType)
+    ensures { AddsRow [] line.old line.new }
 {
     let attributes = field_flags(base.attributes);
-    line.field(ACCESS, optional_word(access_word(base.attributes)))?;
-    line.field(ATTRIBUTES, Value::Words(&attributes))?;
-    show_type_field(line, BASE_CLASS, base.base_class)?;
-    line.field(OFFSET, Value::Number(base.offset as u64))?;
-    Ok(())
+    line.field(ACCESS, optional_word(access_word(base.attributes)));
+    line.field(ATTRIBUTES, Value::Words(&attributes));
+    show_type_field(line, BASE_CLASS, base.base_class);
+    line.field(OFFSET, Value::Number(base.offset as u64));
 }
 
 /// Adds the fields of a virtual base class.
-pub(crate) fn show_virtual_base(line: &mut Line, base: VirtualBaseClassType) -> LineResult
-    ensures { ShowsRow [] line.old line.new result }
+pub(crate) fn show_virtual_base(line: &mut Line, base: VirtualBaseClassType)
+    ensures { AddsRow [] line.old line.new }
 {
     let attributes = field_flags(base.attributes);
-    line.field(DIRECT, Value::Flag(base.direct))?;
-    line.field(ACCESS, optional_word(access_word(base.attributes)))?;
-    line.field(ATTRIBUTES, Value::Words(&attributes))?;
-    show_type_field(line, BASE_CLASS, base.base_class)?;
-    show_type_field(line, BASE_POINTER, base.base_pointer)?;
-    line.field(
-        BASE_POINTER_OFFSET,
-        Value::Number(base.base_pointer_offset as u64),
-    )?;
-    line.field(
-        VIRTUAL_BASE_OFFSET,
-        Value::Number(base.virtual_base_offset as u64),
-    )?;
-    Ok(())
+    line.fields(&[
+        (DIRECT, Value::Flag(base.direct)),
+        (ACCESS, optional_word(access_word(base.attributes))),
+    ]);
+    line.field(ATTRIBUTES, Value::Words(&attributes));
+    show_type_field(line, BASE_CLASS, base.base_class);
+    show_type_field(line, BASE_POINTER, base.base_pointer);
+    line.fields(&[
+        (
+            BASE_POINTER_OFFSET,
+            Value::Number(base.base_pointer_offset as u64),
+        ),
+        (
+            VIRTUAL_BASE_OFFSET,
+            Value::Number(base.virtual_base_offset as u64),
+        ),
+    ]);
 }
 
 /// Adds the fields of the pointer to a table of virtual functions.
-pub(crate) fn show_table_pointer(
-    line: &mut Line,
-    pointer: VirtualFunctionTablePointerType,
-) -> LineResult
-    ensures { ShowsRow [] line.old line.new result }
+pub(crate) fn show_table_pointer(line: &mut Line, pointer: VirtualFunctionTablePointerType)
+    ensures { AddsRow [] line.old line.new }
 {
-    line.field(TABLE, type_index(pointer.table))?;
-    Ok(())
+    line.field(TABLE, type_index(pointer.table));
 }

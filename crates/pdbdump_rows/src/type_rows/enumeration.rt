@@ -3,9 +3,9 @@
 #![tactic(auto, using(crate::proofs::lemmas::Line::adding))]
 
 ghost use Rattle.std.specs.Prelude.{[]};
-ghost use Rattle.pdbdump_rows.specs.Line.{ShowsRow};
+ghost use Rattle.pdbdump_rows.specs.Line.{AddsRow};
 
-use crate::line::{Line, LineResult};
+use crate::line::Line;
 use crate::names::{
     ACCESS, ATTRIBUTES, COUNT, FIELDS, HFA, MOCOM, NAME, PROPERTIES, UNDERLYING_TYPE, UNIQUE_NAME,
     VALUE,
@@ -17,19 +17,24 @@ use pdb_base::Variant;
 use pdb_values::{EnumerateType, EnumerationType};
 
 /// Adds the fields of an enumeration.
-pub(crate) fn show_enumeration(line: &mut Line, enumeration: &EnumerationType<'_>) -> LineResult
-    ensures { ShowsRow [] line.old line.new result }
+pub(crate) fn show_enumeration(line: &mut Line, enumeration: &EnumerationType<'_>)
+    ensures { AddsRow [] line.old line.new }
 {
-    let properties = property_flags(enumeration.properties);
-    line.field(NAME, Value::Text(enumeration.name))?;
-    line.field(COUNT, Value::Number(enumeration.count as u64))?;
-    line.field(PROPERTIES, Value::Words(&properties))?;
-    line.field(HFA, nonzero(enumeration.properties.hfa()))?;
-    line.field(MOCOM, nonzero(enumeration.properties.mocom()))?;
-    show_type_field(line, UNDERLYING_TYPE, enumeration.underlying_type)?;
-    line.field(FIELDS, type_index(enumeration.fields))?;
-    line.field(UNIQUE_NAME, optional_text(enumeration.unique_name))?;
-    Ok(())
+    line.fields(&[
+        (NAME, Value::Text(enumeration.name)),
+        (COUNT, Value::Number(enumeration.count as u64)),
+    ]);
+    line.field(
+        PROPERTIES,
+        Value::Words(&property_flags(enumeration.properties)),
+    );
+    line.field(HFA, nonzero(enumeration.properties.hfa()));
+    line.field(MOCOM, nonzero(enumeration.properties.mocom()));
+    show_type_field(line, UNDERLYING_TYPE, enumeration.underlying_type);
+    line.fields(&[
+        (FIELDS, type_index(enumeration.fields)),
+        (UNIQUE_NAME, optional_text(enumeration.unique_name)),
+    ]);
 }
 
 /// Returns the value of a number of any width that an enumeration's values may have.
@@ -47,13 +52,13 @@ fn variant<'t>(number: Variant) -> Value<'t> {
 }
 
 /// Adds the fields of a value of an enumeration.
-pub(crate) fn show_enumerate(line: &mut Line, value: &EnumerateType<'_>) -> LineResult
-    ensures { ShowsRow [] line.old line.new result }
+pub(crate) fn show_enumerate(line: &mut Line, value: &EnumerateType<'_>)
+    ensures { AddsRow [] line.old line.new }
 {
-    let attributes = field_flags(value.attributes);
-    line.field(NAME, Value::Text(value.name))?;
-    line.field(ACCESS, optional_word(access_word(value.attributes)))?;
-    line.field(ATTRIBUTES, Value::Words(&attributes))?;
-    line.field(VALUE, variant(value.value))?;
-    Ok(())
+    line.fields(&[
+        (NAME, Value::Text(value.name)),
+        (ACCESS, optional_word(access_word(value.attributes))),
+    ]);
+    line.field(ATTRIBUTES, Value::Words(&field_flags(value.attributes)));
+    line.field(VALUE, variant(value.value));
 }

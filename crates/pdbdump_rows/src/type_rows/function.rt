@@ -3,9 +3,9 @@
 #![tactic(auto, using(crate::proofs::lemmas::Line::adding))]
 
 ghost use Rattle.std.specs.Prelude.{[]};
-ghost use Rattle.pdbdump_rows.specs.Line.{ShowsRow};
+ghost use Rattle.pdbdump_rows.specs.Line.{AddsRow};
 
-use crate::line::{Line, LineResult};
+use crate::line::Line;
 use crate::names::{
     ARGUMENT_LIST, ATTRIBUTES, CALLING_CONVENTION, CLASS_TYPE, PARAMETER_COUNT, RETURN_TYPE,
     THIS_ADJUSTMENT, THIS_POINTER_TYPE,
@@ -16,41 +16,47 @@ use crate::words::function_flags;
 use pdb_values::{MemberFunctionType, ProcedureType};
 
 /// Adds the fields of the type of a function.
-pub(crate) fn show_procedure(line: &mut Line, procedure: ProcedureType) -> LineResult
-    ensures { ShowsRow [] line.old line.new result }
+pub(crate) fn show_procedure(line: &mut Line, procedure: ProcedureType)
+    ensures { AddsRow [] line.old line.new }
 {
     let convention = procedure.attributes.calling_convention();
-    let attributes = function_flags(procedure.attributes);
-    show_optional_type(line, RETURN_TYPE, procedure.return_type)?;
-    line.field(CALLING_CONVENTION, Value::Number(convention as u64))?;
-    line.field(ATTRIBUTES, Value::Words(&attributes))?;
+    show_optional_type(line, RETURN_TYPE, procedure.return_type);
+    line.field(CALLING_CONVENTION, Value::Number(convention as u64));
     line.field(
-        PARAMETER_COUNT,
-        Value::Number(procedure.parameter_count as u64),
-    )?;
-    line.field(ARGUMENT_LIST, type_index(procedure.argument_list))?;
-    Ok(())
+        ATTRIBUTES,
+        Value::Words(&function_flags(procedure.attributes)),
+    );
+    line.fields(&[
+        (
+            PARAMETER_COUNT,
+            Value::Number(procedure.parameter_count as u64),
+        ),
+        (ARGUMENT_LIST, type_index(procedure.argument_list)),
+    ]);
 }
 
 /// Adds the fields of the type of a method.
-pub(crate) fn show_member_function(line: &mut Line, function: MemberFunctionType) -> LineResult
-    ensures { ShowsRow [] line.old line.new result }
+pub(crate) fn show_member_function(line: &mut Line, function: MemberFunctionType)
+    ensures { AddsRow [] line.old line.new }
 {
     let convention = function.attributes.calling_convention();
-    let attributes = function_flags(function.attributes);
-    show_type_field(line, RETURN_TYPE, function.return_type)?;
-    show_type_field(line, CLASS_TYPE, function.class_type)?;
-    show_optional_type(line, THIS_POINTER_TYPE, function.this_pointer_type)?;
-    line.field(CALLING_CONVENTION, Value::Number(convention as u64))?;
-    line.field(ATTRIBUTES, Value::Words(&attributes))?;
+    show_type_field(line, RETURN_TYPE, function.return_type);
+    show_type_field(line, CLASS_TYPE, function.class_type);
+    show_optional_type(line, THIS_POINTER_TYPE, function.this_pointer_type);
+    line.field(CALLING_CONVENTION, Value::Number(convention as u64));
     line.field(
-        PARAMETER_COUNT,
-        Value::Number(function.parameter_count as u64),
-    )?;
-    line.field(ARGUMENT_LIST, type_index(function.argument_list))?;
-    line.field(
-        THIS_ADJUSTMENT,
-        Value::Number(function.this_adjustment as u64),
-    )?;
-    Ok(())
+        ATTRIBUTES,
+        Value::Words(&function_flags(function.attributes)),
+    );
+    line.fields(&[
+        (
+            PARAMETER_COUNT,
+            Value::Number(function.parameter_count as u64),
+        ),
+        (ARGUMENT_LIST, type_index(function.argument_list)),
+        (
+            THIS_ADJUSTMENT,
+            Value::Number(function.this_adjustment as u64),
+        ),
+    ]);
 }

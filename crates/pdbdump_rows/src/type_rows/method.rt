@@ -3,9 +3,9 @@
 #![tactic(auto, using(crate::proofs::lemmas::Line::adding))]
 
 ghost use Rattle.std.specs.Prelude.{[]};
-ghost use Rattle.pdbdump_rows.specs.Line.{ShowsRow};
+ghost use Rattle.pdbdump_rows.specs.Line.{AddsRow};
 
-use crate::line::{Line, LineResult};
+use crate::line::Line;
 use crate::names::{ACCESS, ATTRIBUTES, COUNT, METHOD_LIST, METHOD_TYPE, NAME, VTABLE_OFFSET};
 use crate::type_fields::show_type_field;
 use crate::value::{Value, optional_number, optional_word, type_index};
@@ -13,39 +13,36 @@ use crate::words::{access_word, field_flags};
 use pdb_values::{MethodListEntry, MethodType, OverloadedMethodType};
 
 /// Adds the fields of the methods of one name.
-pub(crate) fn show_overloaded_method(
-    line: &mut Line,
-    methods: &OverloadedMethodType<'_>,
-) -> LineResult
-    ensures { ShowsRow [] line.old line.new result }
+pub(crate) fn show_overloaded_method(line: &mut Line, methods: &OverloadedMethodType<'_>)
+    ensures { AddsRow [] line.old line.new }
 {
-    line.field(NAME, Value::Text(methods.name))?;
-    line.field(COUNT, Value::Number(methods.count as u64))?;
-    line.field(METHOD_LIST, type_index(methods.method_list))?;
-    Ok(())
+    line.fields(&[
+        (NAME, Value::Text(methods.name)),
+        (COUNT, Value::Number(methods.count as u64)),
+        (METHOD_LIST, type_index(methods.method_list)),
+    ]);
 }
 
 /// Adds the fields of a method that shares its name with no other.
-pub(crate) fn show_method(line: &mut Line, method: &MethodType<'_>) -> LineResult
-    ensures { ShowsRow [] line.old line.new result }
+pub(crate) fn show_method(line: &mut Line, method: &MethodType<'_>)
+    ensures { AddsRow [] line.old line.new }
 {
-    let attributes = field_flags(method.attributes);
-    line.field(NAME, Value::Text(method.name))?;
-    line.field(ACCESS, optional_word(access_word(method.attributes)))?;
-    line.field(ATTRIBUTES, Value::Words(&attributes))?;
-    show_type_field(line, METHOD_TYPE, method.method_type)?;
-    line.field(VTABLE_OFFSET, optional_number(method.vtable_offset))?;
-    Ok(())
+    line.fields(&[
+        (NAME, Value::Text(method.name)),
+        (ACCESS, optional_word(access_word(method.attributes))),
+    ]);
+    line.field(ATTRIBUTES, Value::Words(&field_flags(method.attributes)));
+    show_type_field(line, METHOD_TYPE, method.method_type);
+    line.field(VTABLE_OFFSET, optional_number(method.vtable_offset));
 }
 
 /// Adds the fields of one of the methods of a name.
-pub fn show_listed_method(line: &mut Line, method: MethodListEntry) -> LineResult
-    ensures { ShowsRow [] line.old line.new result }
+pub fn show_listed_method(line: &mut Line, method: MethodListEntry)
+    ensures { AddsRow [] line.old line.new }
 {
     let attributes = field_flags(method.attributes);
-    line.field(ACCESS, optional_word(access_word(method.attributes)))?;
-    line.field(ATTRIBUTES, Value::Words(&attributes))?;
-    show_type_field(line, METHOD_TYPE, method.method_type)?;
-    line.field(VTABLE_OFFSET, optional_number(method.vtable_offset))?;
-    Ok(())
+    line.field(ACCESS, optional_word(access_word(method.attributes)));
+    line.field(ATTRIBUTES, Value::Words(&attributes));
+    show_type_field(line, METHOD_TYPE, method.method_type);
+    line.field(VTABLE_OFFSET, optional_number(method.vtable_offset));
 }

@@ -3,9 +3,9 @@
 #![tactic(auto, using(crate::proofs::lemmas::Line::adding))]
 
 ghost use Rattle.std.specs.Prelude.{[]};
-ghost use Rattle.pdbdump_rows.specs.Line.{ShowsRow};
+ghost use Rattle.pdbdump_rows.specs.Line.{AddsRow};
 
-use crate::line::{Line, LineResult};
+use crate::line::Line;
 use crate::names::{
     ATTRIBUTES, CONTAINING_CLASS, LENGTH, MODIFIERS, POINTER_KIND, POINTER_MODE, POSITION, SIZE,
     UNDERLYING_TYPE,
@@ -16,36 +16,35 @@ use crate::words::{kind_word, mode_word, modifier_flags, pointer_flags};
 use pdb_values::{BitfieldType, ModifierType, PointerType};
 
 /// Adds the fields of a pointer.
-pub(crate) fn show_pointer(line: &mut Line, pointer: PointerType) -> LineResult
-    ensures { ShowsRow [] line.old line.new result }
+pub(crate) fn show_pointer(line: &mut Line, pointer: PointerType)
+    ensures { AddsRow [] line.old line.new }
 {
     let word = pointer.attributes;
-    let attributes = pointer_flags(word);
-    show_type_field(line, UNDERLYING_TYPE, pointer.underlying_type)?;
-    line.field(POINTER_KIND, Value::Word(kind_word(word.pointer_kind())))?;
-    line.field(POINTER_MODE, Value::Word(mode_word(word.pointer_mode())))?;
-    line.field(ATTRIBUTES, Value::Words(&attributes))?;
-    line.field(SIZE, Value::Number(word.size() as u64))?;
-    show_optional_type(line, CONTAINING_CLASS, pointer.containing_class)?;
-    Ok(())
+    show_type_field(line, UNDERLYING_TYPE, pointer.underlying_type);
+    line.fields(&[
+        (POINTER_KIND, Value::Word(kind_word(word.pointer_kind()))),
+        (POINTER_MODE, Value::Word(mode_word(word.pointer_mode()))),
+    ]);
+    line.field(ATTRIBUTES, Value::Words(&pointer_flags(word)));
+    line.field(SIZE, Value::Number(word.size() as u64));
+    show_optional_type(line, CONTAINING_CLASS, pointer.containing_class);
 }
 
 /// Adds the fields of a type with modifiers.
-pub(crate) fn show_modifier(line: &mut Line, modifier: ModifierType) -> LineResult
-    ensures { ShowsRow [] line.old line.new result }
+pub(crate) fn show_modifier(line: &mut Line, modifier: ModifierType)
+    ensures { AddsRow [] line.old line.new }
 {
-    let modifiers = modifier_flags(modifier);
-    show_type_field(line, UNDERLYING_TYPE, modifier.underlying_type)?;
-    line.field(MODIFIERS, Value::Words(&modifiers))?;
-    Ok(())
+    show_type_field(line, UNDERLYING_TYPE, modifier.underlying_type);
+    line.field(MODIFIERS, Value::Words(&modifier_flags(modifier)));
 }
 
 /// Adds the fields of a bit field, a member that takes some bits of its type.
-pub(crate) fn show_bitfield(line: &mut Line, bitfield: BitfieldType) -> LineResult
-    ensures { ShowsRow [] line.old line.new result }
+pub(crate) fn show_bitfield(line: &mut Line, bitfield: BitfieldType)
+    ensures { AddsRow [] line.old line.new }
 {
-    show_type_field(line, UNDERLYING_TYPE, bitfield.underlying_type)?;
-    line.field(LENGTH, Value::Number(bitfield.length as u64))?;
-    line.field(POSITION, Value::Number(bitfield.position as u64))?;
-    Ok(())
+    show_type_field(line, UNDERLYING_TYPE, bitfield.underlying_type);
+    line.fields(&[
+        (LENGTH, Value::Number(bitfield.length as u64)),
+        (POSITION, Value::Number(bitfield.position as u64)),
+    ]);
 }

@@ -3,9 +3,9 @@
 #![tactic(auto, using(crate::proofs::lemmas::Line::adding))]
 
 ghost use Rattle.std.specs.Prelude.{[]};
-ghost use Rattle.pdbdump_rows.specs.Line.{ShowsRow};
+ghost use Rattle.pdbdump_rows.specs.Line.{AddsRow};
 
-use crate::line::{Line, LineResult};
+use crate::line::Line;
 use crate::names::{INDIRECTION, PRIMITIVE_KIND};
 use crate::value::Value;
 use crate::words::{indirection_word, primitive_word};
@@ -20,10 +20,11 @@ fn indirection<'t>(pointer: Option<Indirection>) -> Value<'t> {
 }
 
 /// Adds the fields of a type that has no record.
-pub(crate) fn show_primitive(line: &mut Line, primitive: PrimitiveType) -> LineResult
-    ensures { ShowsRow [] line.old line.new result }
+pub(crate) fn show_primitive(line: &mut Line, primitive: PrimitiveType)
+    ensures { AddsRow [] line.old line.new }
 {
-    line.field(PRIMITIVE_KIND, Value::Word(primitive_word(primitive.kind)))?;
-    line.field(INDIRECTION, indirection(primitive.indirection))?;
-    Ok(())
+    line.fields(&[
+        (PRIMITIVE_KIND, Value::Word(primitive_word(primitive.kind))),
+        (INDIRECTION, indirection(primitive.indirection)),
+    ]);
 }

@@ -1,7 +1,6 @@
--- What was written so far is lines of rows.
-use Rattle.std.proofs.Common.{Ok}
-use Rattle.pdbdump_rows.specs.Rows.{WritesLines}
+-- Lines were written so far.
+use Rattle.pdbdump_rows.specs.Sink.{AddsLines}
 use Rattle.pdbdump_cli.proofs.answer.write_names.Given as goal
 
 abbrev pub invariant-loop-name : goal.invariant-loop-name
-invariant-loop-name g l = WritesLines l.form l.fn.out l.out (Ok tt)
+invariant-loop-name g l = AddsLines l.fn.rows l.rows

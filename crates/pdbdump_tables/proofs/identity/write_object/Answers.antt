@@ -7,4 +7,4 @@ pub returns-in_err-key : goal.returns-in_err-key
 returns-in_err-key g c = rw (passed_on _ _ c.from_residual.ensures.1) (row_lacks _ _ _ _ refl)
 
 pub returns : goal.returns
-returns g c = c.write_line.ensures.row _ _ _ c.show_identity-added.ensures c.begin.ensures
+returns g c = c.write_line.ensures.row _ _ _ c.show_identity.ensures c.begin.ensures

@@ -11,4 +11,4 @@ returns-in_err-image_key g c =
     rw (passed_on _ _ c.from_residual-in_err-image_key.ensures.1) (row_lacks _ _ _ _ refl)
 
 pub returns : goal.returns
-returns g c = c.write_line.ensures.row _ _ _ c.show_match-added.ensures c.begin.ensures
+returns g c = c.write_line.ensures.row _ _ _ c.show_match.ensures c.begin.ensures

@@ -12,7 +12,7 @@ loop-record-preserved g c =
     let next = omap_next c.loop-record.record-iterator c.in-Some.record c.next.new.self
     c.in-Some.ensures.steps in
     so_far_more _ _ _ _ _ _ _ _ next c.loop-record.invariant
-    (c.in_ok-write_line.ensures.row _ _ _ c.show_omap-added.ensures c.begin.ensures)
+    (c.in_ok-write_line.ensures.row _ _ _ c.show_omap.ensures c.begin.ensures)
 
 pub returns-in_err-write_line : goal.returns-in_err-write_line
 returns-in_err-write_line g c =
@@ -20,4 +20,4 @@ returns-in_err-write_line g c =
     c.in-Some.ensures.steps in
     rw (passed_on _ _ c.from_residual.ensures.1)
     (so_far_cut _ _ _ _ _ _ _ _ _ next c.loop-record.invariant
-    (c.in_err-write_line.ensures.row _ _ _ c.show_omap-added.ensures c.begin.ensures))
+    (c.in_err-write_line.ensures.row _ _ _ c.show_omap.ensures c.begin.ensures))

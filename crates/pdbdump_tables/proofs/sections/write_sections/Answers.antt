@@ -29,7 +29,7 @@ loop-place-preserved g c =
     omega (arith, c.loop-place-test.true, ap length c.as_slice-size.ensures.bytes) in
     record {
       written = so_far_more _ _ _ _ _ _ _ _ (section_next _ _ within) c.loop-place.invariant.written
-          (c.in_ok-write_line.ensures.row _ _ _ c.show_section-added.ensures c.begin.ensures);
+          (c.in_ok-write_line.ensures.row _ _ _ c.show_section.ensures c.begin.ensures);
       rest = omega (arith, step.1, c.loop-place.invariant.rest, c.loop-place-test.true);
     }
 
@@ -59,4 +59,4 @@ returns-in_err-write_line g c =
     omega (arith, c.loop-place-test.true, ap length c.as_slice-size.ensures.bytes) in
     rw (passed_on _ _ c.from_residual-in_err-write_line.ensures.1)
     (inr (so_far_cut _ _ _ _ _ _ _ _ _ (section_next _ _ within) c.loop-place.invariant.written
-    (c.in_err-write_line.ensures.row _ _ _ c.show_section-added.ensures c.begin.ensures)))
+    (c.in_err-write_line.ensures.row _ _ _ c.show_section.ensures c.begin.ensures)))

@@ -1,0 +1,9 @@
+-- Why no more is written is noted.
+use Rattle.std.proofs.Common.{refl}
+use Rattle.pdbdump_rows.specs.Sink.{AddsLines}
+use Rattle.pdbdump_rows.proofs.lemmas.Sink.{goes_lacking}
+use Rattle.pdbdump_rows.proofs.rows.Rows.lack.Goals as goal
+
+pub returns-then-is_none : goal.returns-then-is_none
+unfolding AddsLines
+returns-then-is_none g c = record { same = refl; form = refl; lines = goes_lacking _ _ _ c.if-is_none.ensures }
