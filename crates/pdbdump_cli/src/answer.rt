@@ -78,7 +78,7 @@ fn write_reply<W: Write>(rows: &mut Rows<'_, W>, reply: &Reply)
         Reply::Ranges(ranges) => write_ranges(rows, ranges),
         Reply::Refused(error) => {
             rows.begin();
-            show_error(&mut rows.line, error);
+            show_error(&mut rows.sheet.line, error);
             rows.end();
         }
     }

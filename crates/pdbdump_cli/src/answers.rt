@@ -14,7 +14,7 @@ use crate::question::{is_line_end, query_in};
 use pdb_cli::MOST_READS;
 use pdb_container::{BigMSF, OpenTables, Reply, Result, Source, open_msf};
 use pdb_output::Output;
-use pdbdump_rows::{Form, Rows};
+use pdbdump_rows::{Form, Rows, Sheet};
 use std::alloc::Global;
 use std::io;
 use std::io::{ErrorKind, Read, Write};
@@ -84,7 +84,8 @@ impl<S: Source> AskedFile<S> {
             return Ok(true);
         }
         let reply = self.reply()?;
-        let mut rows = Rows::new(self.alloc, self.form, out);
+        let mut sheet = Sheet::new(self.alloc, self.form);
+        let mut rows = Rows::new(&mut sheet, out);
         write_answered(&mut rows, &self.rest, reply.as_ref());
         rows.finish()?;
         self.rest.clear();

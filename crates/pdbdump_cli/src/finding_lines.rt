@@ -14,7 +14,7 @@ use pdb_base::{RawString, Result};
 use pdb_output::Output;
 use pdb_validation::{Finding, Problem};
 use pdbdump_rows::names::INDEX;
-use pdbdump_rows::{Form, Rows, Value, error_text, optional_number};
+use pdbdump_rows::{Form, Rows, Sheet, Value, error_text, optional_number};
 use pdbdump_types::{TextBuffer, plural};
 use std::alloc::{AllocError, Global};
 use std::io::Write;
@@ -89,15 +89,25 @@ fn write_finding<W: Write>(rows: &mut Rows<'_, W>, path: &str, finding: &Finding
     let code = code_text(alloc, finding);
     let words = problem_text(alloc, &finding.problem);
     rows.begin();
-    rows.line.field(FILE, Value::Text(RawString::from(path)));
-    rows.line.field(SEVERITY, Value::Word(severity(&finding.problem)));
-    rows.line.made_text(CODE, code);
-    rows.line.field(PART, Value::Word(finding.part.code()));
-    rows.line.field(STREAM, optional_number(finding.stream));
-    rows.line.field(INDEX, number_value(finding.index));
-    rows.line.field(BYTE, number_value(finding.byte));
-    rows.line.field(FILE_BYTE, number_value(finding.file_byte));
-    rows.line.made_text(PROBLEM, words);
+    rows.sheet
+        .line
+        .field(FILE, Value::Text(RawString::from(path)));
+    rows.sheet
+        .line
+        .field(SEVERITY, Value::Word(severity(&finding.problem)));
+    rows.sheet.line.made_text(CODE, code);
+    rows.sheet
+        .line
+        .field(PART, Value::Word(finding.part.code()));
+    rows.sheet
+        .line
+        .field(STREAM, optional_number(finding.stream));
+    rows.sheet.line.field(INDEX, number_value(finding.index));
+    rows.sheet.line.field(BYTE, number_value(finding.byte));
+    rows.sheet
+        .line
+        .field(FILE_BYTE, number_value(finding.file_byte));
+    rows.sheet.line.made_text(PROBLEM, words);
     rows.end();
 }
 
@@ -193,7 +203,8 @@ fn write_rows<W: Write>(
 ) -> Result<()>
     ensures { WritesLines Form.Json out.old out.new result }
 {
-    let mut rows = Rows::new(alloc, Form::Json, out);
+    let mut sheet = Sheet::new(alloc, Form::Json);
+    let mut rows = Rows::new(&mut sheet, out);
     for finding in findings {
         write_finding(&mut rows, path, finding);
     }

@@ -10,13 +10,14 @@ ghost use Rattle.pdbdump_tables.specs.Reading.{Reads, WritesRead};
 use crate::command::Command;
 use crate::extracted::{dump_opened, extract_opened};
 use crate::input_file::InputFile;
+use pdb_base::{IdIndex, TypeIndex};
 use pdb_container::{PDB, Result, Source};
 use pdb_file::{ID_STREAM, TYPE_STREAM};
 use pdb_output::Output;
 use pdbdump_rows::Form;
 use pdbdump_tables::{
-    id_at, ids, last_stream, list_breakpad_frames, list_frames, list_frames_in, list_map,
-    list_names, list_omap, list_sections, list_summary, type_at, types,
+    id_at, items, last_stream, list_breakpad_frames, list_frames, list_frames_in, list_map,
+    list_names, list_omap, list_sections, list_summary, type_at,
 };
 use std::alloc::Global;
 use std::io::Write;
@@ -52,7 +53,7 @@ fn list_types<S: Source + Drop, W: Write>(
     let stream = last_stream(alloc, file, number)?;
     match index {
         Some(index) => type_at(alloc, stream, number, index, form, out),
-        None => types(alloc, stream, number, form, is_whole, out),
+        None => items::<TypeIndex, W>(alloc, stream, number, form, is_whole, out),
     }
 }
 
@@ -73,7 +74,7 @@ fn list_ids<S: Source + Drop, W: Write>(
     let stream = last_stream(alloc, file, number)?;
     match index {
         Some(index) => id_at(alloc, stream, number, index, form, out),
-        None => ids(alloc, stream, number, form, is_whole, out),
+        None => items::<IdIndex, W>(alloc, stream, number, form, is_whole, out),
     }
 }
 

@@ -30,7 +30,7 @@ pub use id_rows::show_id;
 pub use line::{Line, append_line, write_line};
 pub use omap_rows::show_omap;
 pub use refused::{error_text, show_error};
-pub use rows::Rows;
+pub use rows::{Rows, Sheet};
 pub use section_rows::show_section;
 pub use text::push_text;
 pub use type_rows::{show_listed_method, show_type};

@@ -14,13 +14,12 @@ use pdb_output::Output;
 use std::alloc::Global;
 use std::io::Write;
 
-/// Rows of one form that are written to an output, each as a line. Once a line can't be made or
-/// written, nothing more is written, and `finish` returns why.
+/// What rows are made with: the line of the next one, in their form, and what is noted of those so
+/// far.
 #[derive(Drop)]
-pub struct Rows<'o, W: Write> {
+pub struct Sheet {
     alloc: Global,
     form: Form,
-    out: &'o mut Output<W>,
     fault: Option<Error>,
 
     /// The line of the next row.
@@ -30,65 +29,80 @@ pub struct Rows<'o, W: Write> {
     pub is_whole: bool,
 }
 
-impl<'o, W: Write> Rows<'o, W> {
-    /// Returns rows that are written to an output.
-    pub fn new(alloc: Global, form: Form, out: &'o mut Output<W>) -> Self
-        ensures same { result.out.ghost_name ≡ out.entry.ghost_name }
-        ensures now { result.out.now ≡ out.old }
+/// Rows of one form that are written to an output, each as a line. Once a line can't be made or
+/// written, nothing more is written, and `finish` returns why.
+#[derive(Drop)]
+pub struct Rows<'o, W: Write> {
+    out: &'o mut Output<W>,
+
+    /// What they are made with.
+    pub sheet: &'o mut Sheet,
+}
+
+impl Sheet {
+    /// Returns what rows of a form are made with.
+    pub fn new(alloc: Global, form: Form) -> Self
         ensures form { result.form ≡ form }
         ensures fault { result.fault ≡ None }
     {
-        Rows {
+        Sheet {
             alloc,
             form,
-            out,
             fault: None,
             line: Line::new(alloc),
             is_whole: true,
         }
     }
+}
+
+impl<'o, W: Write> Rows<'o, W> {
+    /// Returns rows that are written to an output.
+    pub fn new(sheet: &'o mut Sheet, out: &'o mut Output<W>) -> Self
+        ensures same { result.out.ghost_name ≡ out.entry.ghost_name }
+        ensures now { result.out.now ≡ out.old }
+        ensures sheet { result.sheet.now ≡ sheet.old }
+    {
+        Rows { out, sheet }
+    }
 
     /// Returns the allocator of the lines.
     pub fn alloc(&self) -> Global {
-        self.alloc
-    }
-
-    /// Returns the form of the rows.
-    pub fn form(&self) -> Form
-        ensures { result ≡ self.now.form }
-    {
-        self.form
+        self.sheet.alloc
     }
 
     /// Returns whether nothing more is written.
     pub fn has_failed(&self) -> bool {
-        self.fault.is_some()
+        self.sheet.fault.is_some()
     }
 
     /// Notes that an allocation for a row failed.
     pub fn lack(&mut self)
-        ensures { AddsLines self.old self.new }
+        ensures lines { AddsLines self.old self.new }
+        ensures whole { self.new.sheet.now.is_whole ≡ self.old.sheet.now.is_whole }
     {
-        if self.fault.is_none() {
-            self.fault = Some(Error::OutOfMemory);
+        if self.sheet.fault.is_none() {
+            self.sheet.fault = Some(Error::OutOfMemory);
         }
     }
 
     /// Begins the line of a row.
     pub fn begin(&mut self)
-        ensures line { self.new.line ≡ begun self.new.form }
+        ensures line { self.new.sheet.now.line ≡ begun self.new.sheet.now.form }
         ensures lines { AddsLines self.old self.new }
+        ensures whole { self.new.sheet.now.is_whole ≡ self.old.sheet.now.is_whole }
     {
-        self.line.begin(self.form);
+        let form = self.sheet.form;
+        self.sheet.line.begin(form);
     }
 
     /// Ends the line of a row and writes it.
     pub fn end(&mut self)
-        ensures { EndsLines self.old self.new }
+        ensures lines { EndsLines self.old self.new }
+        ensures whole { self.new.sheet.now.is_whole ≡ self.old.sheet.now.is_whole }
     {
-        if self.fault.is_none() {
-            if let Err(fault) = write_line(&mut self.line, self.out) {
-                self.fault = Some(fault);
+        if self.sheet.fault.is_none() {
+            if let Err(fault) = write_line(&mut self.sheet.line, self.out) {
+                self.sheet.fault = Some(fault);
             }
         }
     }
@@ -98,7 +112,7 @@ impl<'o, W: Write> Rows<'o, W> {
         ensures { AddsLines self.old self.new }
     {
         self.begin();
-        self.line.fields(fields);
+        self.sheet.line.fields(fields);
         self.end();
     }
 
@@ -108,10 +122,10 @@ impl<'o, W: Write> Rows<'o, W> {
     /// Fails with `OutOfMemory` if an allocation for a row failed, and with `IoError` if the output
     /// failed.
     pub fn finish(&mut self) -> Result<()>
-        ensures result { result ≡ ended self.old.fault }
+        ensures result { result ≡ ended self.old.sheet.now.fault }
         ensures out { self.new.out ≡ self.old.out }
     {
-        match self.fault.take() {
+        match self.sheet.fault.take() {
             Some(fault) => Err(fault),
             None => Ok(()),
         }

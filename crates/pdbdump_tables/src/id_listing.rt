@@ -1,14 +1,13 @@
-//! Tables of ids.
+//! Ids in full.
 
 ghost use Rattle.std.specs.Prelude.{Ok};
 ghost use Rattle.pdbdump_rows.specs.Line.{EndsRow, indexed};
 ghost use Rattle.pdbdump_rows.specs.Lines.{full_text};
 ghost use Rattle.pdbdump_tables.specs.Records.{id_shown, id_shown_in};
-ghost use Rattle.pdbdump_tables.specs.Listed.{IsTableListed, IsShown, IsWalked};
+ghost use Rattle.pdbdump_tables.specs.Listed.{IsShown};
 
-use crate::item_line::make_id;
-use crate::refused_record::{ItemPlace, write_unread};
-use pdb_base::{Error, FallibleIterator, IdIndex, Result, Stream};
+use crate::refused_record::write_unread;
+use pdb_base::{Error, IdIndex, Result, Stream};
 use pdb_output::Output;
 use pdb_tpi::{IdInformation, OpenTable};
 use pdb_values::IdData;
@@ -16,57 +15,6 @@ use pdbdump_rows::{Form, Line, show_id};
 use std::alloc::{AllocError, Global};
 use std::io::Write;
 use std::result;
-
-/// Writes a line for each id of a table.
-fn list_ids<W: Write>(
-    alloc: Global,
-    table: &IdInformation,
-    stream: u32,
-    form: Form,
-    is_whole: &mut bool,
-    out: &mut Output<W>,
-) -> Result<()>
-    ensures { IsWalked form table.now out.old out.new result }
-{
-    let mut items = table.iter();
-    let mut line = Line::new(alloc);
-    loop {
-        let (_, byte) = items.place();
-        let place = ItemPlace {
-            stream,
-            byte: byte as u32,
-        };
-        let Some(item) = items.next()? else {
-            return Ok(());
-        };
-        make_id(alloc, form, &item, place, is_whole, &mut line)?;
-        out.write(line.as_bytes())?;
-    }
-}
-
-/// Writes a line for each id of the table in a stream, in the order of the table. A record that
-/// can't be parsed has a line with the error, the number of the stream and the byte at which the
-/// record begins, and `is_whole` becomes false. At most one parsed record and its line are held in
-/// memory.
-///
-/// # Errors
-/// Fails as `IdInformation::parse` does, before anything is written; with the error at which the
-/// table stops, after the lines of the ids before it; with `IoError` if the writer fails, after a
-/// prefix of what is meant to be written; and with `OutOfMemory` if an allocation fails, after the
-/// lines so far.
-pub fn ids<W: Write>(
-    alloc: Global,
-    stream: Stream,
-    number: u32,
-    form: Form,
-    is_whole: &mut bool,
-    out: &mut Output<W>,
-) -> Result<()>
-    ensures { IsTableListed form stream out.old out.new result }
-{
-    let table = IdInformation::parse(stream)?;
-    list_ids(alloc, &table, number, form, is_whole, out)
-}
 
 /// Makes the text of an id in full.
 #[tactic(auto, using(pdbdump_rows::proofs::lemmas::Line::showing))]

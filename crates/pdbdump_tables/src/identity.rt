@@ -12,7 +12,7 @@ use pdb_base::{Error, RawString};
 use pdb_file::Features;
 use pdb_identity::{Identity, LowerKey, UpperKey};
 use pdb_output::Output;
-use pdbdump_rows::{Flag, Form, Line, Value, optional_text, push_text, write_line};
+use pdbdump_rows::{Field, Flag, Form, Line, Value, optional_text, push_text, write_line};
 use std::alloc::{AllocError, Global};
 use std::io::Write;
 use uuid::Uuid;
@@ -188,29 +188,49 @@ fn show_features(line: &mut Line, features: Option<Features>)
     }
 }
 
-/// Adds the fields of all that identifies a file, with the texts of its GUID and of its key.
-fn show_identity(
-    line: &mut Line,
-    name: Option<&str>,
-    identity: &Identity,
-    guid: &str,
-    key: &str,
-)
+/// Returns the fields of the numbers that identify a file.
+fn number_fields(identity: &Identity) -> [Field<'static>; 5] {
+    let Identity {
+        information_age,
+        signature,
+        version,
+        ..
+    } = identity;
+    [
+        (AGE, Value::Number(identity.age() as u64)),
+        (AGE_FROM, Value::Word(age_source(identity))),
+        (INFORMATION_AGE, Value::Number(*information_age as u64)),
+        (SIGNATURE, Value::Number(*signature as u64)),
+        (VERSION, Value::Number(*version as u64)),
+    ]
+}
+
+/// Returns the fields of the machine that a file is for.
+fn machine_fields(identity: &Identity) -> [Field<'static>; 3] {
+    [
+        (MACHINE, optional_machine(identity.machine())),
+        (CPU, Value::Word(identity.cpu())),
+        (STRIPPED, optional_flag(identity.is_stripped())),
+    ]
+}
+
+/// Adds the fields of a file's name, of its format and of its GUID.
+fn show_guid(line: &mut Line, name: Option<&str>, guid: &str)
     ensures { AddsRow [] line.old line.new }
 {
-    let age = identity.information_age;
     line.field(NAME, optional_text(name.map(RawString::from)));
     line.field(FORMAT, Value::Word("MSF 7.00"));
     line.field(GUID, Value::Text(RawString::from(guid)));
-    line.field(AGE, Value::Number(identity.age() as u64));
-    line.field(AGE_FROM, Value::Word(age_source(identity)));
-    line.field(INFORMATION_AGE, Value::Number(age as u64));
-    line.field(SIGNATURE, Value::Number(identity.signature as u64));
-    line.field(VERSION, Value::Number(identity.version as u64));
+}
+
+/// Adds the fields of all that identifies a file, with the texts of its GUID and of its key.
+fn show_identity(line: &mut Line, name: Option<&str>, identity: &Identity, guid: &str, key: &str)
+    ensures { AddsRow [] line.old line.new }
+{
+    show_guid(line, name, guid);
+    line.fields(&number_fields(identity));
     show_features(line, identity.features);
-    line.field(MACHINE, optional_machine(identity.machine()));
-    line.field(CPU, Value::Word(identity.cpu()));
-    line.field(STRIPPED, optional_flag(identity.is_stripped()));
+    line.fields(&machine_fields(identity));
     line.field(KEY, Value::Text(RawString::from(key)));
 }
 

@@ -11,22 +11,36 @@ use crate::identity::{AGE, CPU, FORMAT, GUID, KEY, KeyStyle, MACHINE, NAME, key_
 use pdb_base::{Error, RawString};
 use pdb_identity::CodeView;
 use pdb_output::Output;
-use pdbdump_rows::{Form, Line, Value, write_line};
+use pdbdump_rows::{Field, Form, Line, Value, write_line};
 use std::alloc::{AllocError, Global};
 use std::io::Write;
 
-/// Adds the fields of what an image says of its database, with the texts of the GUID and of the key.
-fn show_image(line: &mut Line, name: &str, image: &CodeView, guid: &str, key: &str)
+/// Returns the fields of the numbers that identify the database of an image.
+fn number_fields(image: &CodeView) -> [Field<'static>; 3] {
+    [
+        (AGE, Value::Number(image.age as u64)),
+        (MACHINE, Value::Number(image.machine as u64)),
+        (CPU, Value::Word(image.cpu())),
+    ]
+}
+
+/// Adds the fields of an image's name, of its format and of the path of its database.
+fn show_path(line: &mut Line, name: &str, path: &[u8])
     ensures { AddsRow [] line.old line.new }
 {
     line.field(NAME, Value::Text(RawString::from(name)));
     line.field(FORMAT, Value::Word("PE"));
     line.field("image", Value::Flag(true));
-    line.field("path", Value::Text(RawString::from(image.path.as_slice())));
+    line.field("path", Value::Text(RawString::from(path)));
+}
+
+/// Adds the fields of what an image says of its database, with the texts of the GUID and of the key.
+fn show_image(line: &mut Line, name: &str, image: &CodeView, guid: &str, key: &str)
+    ensures { AddsRow [] line.old line.new }
+{
+    show_path(line, name, &image.path);
     line.field(GUID, Value::Text(RawString::from(guid)));
-    line.field(AGE, Value::Number(image.age as u64));
-    line.field(MACHINE, Value::Number(image.machine as u64));
-    line.field(CPU, Value::Word(image.cpu()));
+    line.fields(&number_fields(image));
     line.field(KEY, Value::Text(RawString::from(key)));
 }
 

@@ -15,7 +15,7 @@ use pdb_file::PDB;
 use pdb_msf::Source;
 use pdb_output::Output;
 use pdb_space::{AddressMap, PdbInternalRva, PdbInternalSectionOffset, Rva, SectionOffset};
-use pdbdump_rows::{Form, Rows};
+use pdbdump_rows::{Form, Rows, Sheet};
 use std::alloc::Global;
 use std::io::Write;
 
@@ -77,7 +77,8 @@ fn write_map<W: Write>(
     ensures { WritesLines form out.old out.new result }
 {
     let are_several = addresses.len() > 1;
-    let mut rows = Rows::new(alloc, form, out);
+    let mut sheet = Sheet::new(alloc, form);
+    let mut rows = Rows::new(&mut sheet, out);
     for asked in addresses {
         let word = are_several.then_some(asked.word);
         write_made(&mut rows, map, asked.address, word);

@@ -72,7 +72,12 @@ fn write_internal<W: Write>(
 )
     ensures { AddsLines rows.old rows.new }
 {
-    write_address(rows, given, "internal_rva", address.map(|address| address.0));
+    write_address(
+        rows,
+        given,
+        "internal_rva",
+        address.map(|address| address.0),
+    );
     write_internal_place(rows, given, place);
 }
 
@@ -98,8 +103,18 @@ pub(crate) fn write_of_rva<W: Write>(
     ensures { AddsLines rows.old rows.new }
 {
     let given = Given { word, from: "rva" };
-    write_place(rows, given, "section_offset", address.to_section_offset(map));
-    write_internal(rows, given, address.to_internal_rva(map), address.to_internal_offset(map));
+    write_place(
+        rows,
+        given,
+        "section_offset",
+        address.to_section_offset(map),
+    );
+    write_internal(
+        rows,
+        given,
+        address.to_internal_rva(map),
+        address.to_internal_offset(map),
+    );
 }
 
 /// Writes what a map makes of an address in the original image.
@@ -111,10 +126,18 @@ pub(crate) fn write_of_internal_rva<W: Write>(
 )
     ensures { AddsLines rows.old rows.new }
 {
-    let given = Given { word, from: "internal_rva" };
+    let given = Given {
+        word,
+        from: "internal_rva",
+    };
     write_internal_place(rows, given, address.to_internal_offset(map));
     write_rva(rows, given, address.to_rva(map));
-    write_place(rows, given, "section_offset", address.to_section_offset(map));
+    write_place(
+        rows,
+        given,
+        "section_offset",
+        address.to_section_offset(map),
+    );
 }
 
 /// Writes what a map makes of a place in a section of the image as it is loaded.
@@ -126,9 +149,17 @@ pub(crate) fn write_of_place<W: Write>(
 )
     ensures { AddsLines rows.old rows.new }
 {
-    let given = Given { word, from: "section_offset" };
+    let given = Given {
+        word,
+        from: "section_offset",
+    };
     write_rva(rows, given, place.to_rva(map));
-    write_internal(rows, given, place.to_internal_rva(map), place.to_internal_offset(map));
+    write_internal(
+        rows,
+        given,
+        place.to_internal_rva(map),
+        place.to_internal_offset(map),
+    );
 }
 
 /// Writes what a map makes of a place in a section of the original image.
@@ -140,7 +171,10 @@ pub(crate) fn write_of_internal_place<W: Write>(
 )
     ensures { AddsLines rows.old rows.new }
 {
-    let given = Given { word, from: "internal_offset" };
+    let given = Given {
+        word,
+        from: "internal_offset",
+    };
     let address = place.to_internal_rva(map).map(|address| address.0);
     write_address(rows, given, "internal_rva", address);
     write_rva(rows, given, place.to_rva(map));

@@ -19,11 +19,7 @@ use std::alloc::Global;
 
 /// Adds the fields of a field. The value of an enumerator is a number of the type under its
 /// enumeration, if that is given.
-fn show_typed(
-    field: &TypeData<'_>,
-    underlying_type: Option<TypeIndex>,
-    line: &mut Line,
-)
+fn show_typed(field: &TypeData<'_>, underlying_type: Option<TypeIndex>, line: &mut Line)
     ensures { AddsRow [] line.old line.new }
 {
     match (field, underlying_type) {

@@ -38,19 +38,26 @@ fn show_part(line: &mut Line, part: Part)
     }
 }
 
+/// Writes which part has an error, and which error.
+fn write_error<W: Write>(rows: &mut Rows<'_, W>, part: Part, error: &Error)
+    ensures lines { AddsLines rows.old rows.new }
+    ensures whole { rows.new.sheet.now.is_whole ≡ rows.old.sheet.now.is_whole }
+{
+    rows.begin();
+    show_part(&mut rows.sheet.line, part);
+    show_error(&mut rows.sheet.line, error);
+    rows.end();
+}
+
 /// Writes which part has an error, and which error, and notes that not all parts are whole. Want of
 /// memory is no error of a part.
 pub fn write_refused<W: Write>(rows: &mut Rows<'_, W>, part: Part, error: &Error)
     ensures lines { AddsLines rows.old rows.new }
-    ensures noted { rows.new.is_whole ≡ false }
+    ensures noted { rows.new.sheet.now.is_whole ≡ false }
 {
-    if let Error::OutOfMemory = error {
-        rows.lack();
-    } else {
-        rows.begin();
-        show_part(&mut rows.line, part);
-        show_error(&mut rows.line, error);
-        rows.end();
+    rows.sheet.is_whole = false;
+    match error {
+        Error::OutOfMemory => rows.lack(),
+        error => write_error(rows, part, error),
     }
-    rows.is_whole = false;
 }

@@ -12,7 +12,7 @@ use crate::streams::NO_STREAM;
 use pdb_base::{Error, Result};
 use pdb_msf::{CountedSource, Layout, Source};
 use pdb_output::Output;
-use pdbdump_rows::{Form, Line, Rows, Value, optional_word};
+use pdbdump_rows::{Form, Line, Rows, Sheet, Value, optional_word};
 use std::alloc::Global;
 use std::io::Write;
 
@@ -173,9 +173,9 @@ fn write_place<W: Write>(rows: &mut Rows<'_, W>, pages: &FilePages, offset: u32)
     match pages.place(rows.alloc(), page, byte) {
         Ok(place) => {
             rows.begin();
-            rows.line.field("offset", Value::Hexadecimal(offset));
-            rows.line.field("page", Value::Number(page as u64));
-            show_owner(&mut rows.line, place);
+            rows.sheet.line.field("offset", Value::Hexadecimal(offset));
+            rows.sheet.line.field("page", Value::Number(page as u64));
+            show_owner(&mut rows.sheet.line, place);
             rows.end();
         }
         Err(_) => rows.lack(),
@@ -196,7 +196,8 @@ pub fn list_places<W: Write>(
 ) -> Result<()>
     ensures { WritesLines form out.old out.new result }
 {
-    let mut rows = Rows::new(alloc, form, out);
+    let mut sheet = Sheet::new(alloc, form);
+    let mut rows = Rows::new(&mut sheet, out);
     for offset in offsets {
         write_place(&mut rows, pages, *offset);
     }

@@ -25,20 +25,14 @@ const LENGTH_SIZE: u32 = 2;
 /// Where a record is: the number of its stream, and the byte of the stream at which it begins, with
 /// its length.
 #[derive(Clone, Copy)]
-pub(crate) struct ItemPlace {
+pub struct ItemPlace {
     pub(crate) stream: u32,
     pub(crate) byte: u32,
 }
 
 /// Adds the fields of a record that can't be parsed: its index, its kind, the error, and where the
 /// record is.
-pub(crate) fn show_refused(
-    line: &mut Line,
-    index: u32,
-    leaf: u16,
-    place: ItemPlace,
-    fault: &Error,
-)
+pub(crate) fn show_refused(line: &mut Line, index: u32, leaf: u16, place: ItemPlace, fault: &Error)
     ensures { AddsRow (indexed index) line.old line.new }
 {
     line.front("index", Value::Hexadecimal(index));

@@ -86,14 +86,17 @@ fn write_size<W: Write>(
 {
     let alloc = rows.alloc();
     rows.begin();
-    rows.line.fields(&[
+    rows.sheet.line.fields(&[
         ("stream", Value::Number(number as u64)),
         ("bytes", Value::Number(size as u64)),
         ("pages", pages_held(page_size, size)),
-        ("role", optional_word(role_of(&known.roles, &known.headers, number))),
+        (
+            "role",
+            optional_word(role_of(&known.roles, &known.headers, number)),
+        ),
     ]);
     if let Some(name) = known.names.show(number) {
-        show_name(alloc, &mut rows.line, name);
+        show_name(alloc, &mut rows.sheet.line, name);
     }
     rows.end();
 }

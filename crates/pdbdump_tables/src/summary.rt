@@ -14,7 +14,7 @@ use pdb_base::Result;
 use pdb_file::{DBIExtraStreams, ID_STREAM, PDB, PDBInformation, TYPE_STREAM};
 use pdb_msf::Source;
 use pdb_output::Output;
-use pdbdump_rows::{Form, Rows, Value};
+use pdbdump_rows::{Form, Rows, Sheet, Value};
 use std::alloc::{AllocError, Global};
 use std::io::Write;
 use std::result;
@@ -33,10 +33,7 @@ fn write_pages<W: Write>(rows: &mut Rows<'_, W>, page_size: u32, pages: u32, siz
 
 /// Returns the roles of streams that stream 3 gives. If these can't be read, writes the error, and
 /// returns that no stream has a role.
-fn known_roles<S: Source, W: Write>(
-    rows: &mut Rows<'_, W>,
-    file: &mut PDB<S>,
-) -> DBIExtraStreams
+fn known_roles<S: Source, W: Write>(rows: &mut Rows<'_, W>, file: &mut PDB<S>) -> DBIExtraStreams
     ensures { AddsLines rows.old rows.new }
 {
     match file.extra_streams(rows.alloc()) {
@@ -155,10 +152,11 @@ pub fn list_summary<S: Source + Drop, W: Write>(
 ) -> Result<bool>
     ensures { WritesLines form out.old out.new (done_of result) }
 {
-    let mut rows = Rows::new(alloc, form, out);
+    let mut sheet = Sheet::new(alloc, form);
+    let mut rows = Rows::new(&mut sheet, out);
     let streams = file.msf();
     write_pages(&mut rows, streams.page_size(), streams.pages_used(), size);
     write_parts(&mut rows, file);
     rows.finish()?;
-    Ok(rows.is_whole)
+    Ok(rows.sheet.is_whole)
 }

@@ -1,4 +1,4 @@
-//! Tables of types.
+//! Types in full.
 
 ghost use Rattle.std.specs.Prelude.{Ok, ◌≡◌, IfOk};
 ghost use Rattle.pdb_base.specs.Memory.{FailsOnlyForMemory};
@@ -6,13 +6,12 @@ ghost use Rattle.pdb_values.specs.TypeView.{type_value};
 ghost use Rattle.pdbdump_rows.specs.Line.{EndsRow, indexed};
 ghost use Rattle.pdbdump_rows.specs.Lines.{full_text};
 ghost use Rattle.pdbdump_tables.specs.Records.{members_end, type_shown, type_shown_in};
-ghost use Rattle.pdbdump_tables.specs.Listed.{IsTableListed, IsShown, IsWalked};
+ghost use Rattle.pdbdump_tables.specs.Listed.{IsShown};
 
-use crate::item_line::make_type;
 use crate::members::push_members;
-use crate::refused_record::{ItemPlace, write_unread};
+use crate::refused_record::write_unread;
 use crate::shown_texts::texts_of;
-use pdb_base::{Error, FallibleIterator, Result, Stream, TypeIndex};
+use pdb_base::{Error, Result, Stream, TypeIndex};
 use pdb_output::Output;
 use pdb_tpi::{OpenTable, TypeInformation};
 use pdb_values::TypeData;
@@ -20,57 +19,6 @@ use pdbdump_rows::{Form, Line, show_type};
 use std::alloc::{AllocError, Global};
 use std::io::Write;
 use std::result;
-
-/// Writes a line for each type of a table.
-fn list_types<W: Write>(
-    alloc: Global,
-    table: &TypeInformation,
-    stream: u32,
-    form: Form,
-    is_whole: &mut bool,
-    out: &mut Output<W>,
-) -> Result<()>
-    ensures { IsWalked form table.now out.old out.new result }
-{
-    let mut items = table.iter();
-    let mut line = Line::new(alloc);
-    loop {
-        let (_, byte) = items.place();
-        let place = ItemPlace {
-            stream,
-            byte: byte as u32,
-        };
-        let Some(item) = items.next()? else {
-            return Ok(());
-        };
-        make_type(alloc, form, &item, place, is_whole, &mut line)?;
-        out.write(line.as_bytes())?;
-    }
-}
-
-/// Writes a line for each type of the table in a stream, in the order of the table. A record that
-/// can't be parsed has a line with the error, the number of the stream and the byte at which the
-/// record begins, and `is_whole` becomes false. At most one parsed record and its line are held in
-/// memory.
-///
-/// # Errors
-/// Fails as `TypeInformation::parse` does, before anything is written; with the error at which the
-/// table stops, after the lines of the types before it; with `IoError` if the writer fails, after a
-/// prefix of what is meant to be written; and with `OutOfMemory` if an allocation fails, after the
-/// lines so far.
-pub fn types<W: Write>(
-    alloc: Global,
-    stream: Stream,
-    number: u32,
-    form: Form,
-    is_whole: &mut bool,
-    out: &mut Output<W>,
-) -> Result<()>
-    ensures { IsTableListed form stream out.old out.new result }
-{
-    let table = TypeInformation::parse(stream)?;
-    list_types(alloc, &table, number, form, is_whole, out)
-}
 
 /// Opens a table for look-ups of all its types.
 fn open_table(alloc: Global, table: TypeInformation) -> Result<OpenTable<TypeIndex>>

@@ -194,6 +194,13 @@ pub field_alone : (field : ShownField) (old new : LineState) → AddsField field
 unfolding AddsRow
 field_alone field old new is whole = record { rest = field ∷ []; shown = is whole }
 
+-- fields, of which the first ones may be known
+pub fields_at_all : (front : ShownRow) (old new : LineState) → AddsRow front old new → AddsRow [] old new
+unfolding AddsRow
+fields_at_all front old new adds whole =
+    let row = adds whole in
+    record { rest = front ++ row.rest; shown = row.shown ∙ sym (all_joined old front row.rest) }
+
 -- an allocation failed
 pub fields_lack : (front : ShownRow) (old new : LineState) → new.is_whole ≡ false → AddsRow front old new
 unfolding AddsRow

@@ -4,9 +4,9 @@ use Rattle.pdbdump_rows.specs.Sink.{AddsLines}
 use Rattle.pdbdump_rows.proofs.lemmas.Sink.{ends_at_fault, ends_whole}
 use Rattle.pdbdump_rows.proofs.rows.Rows.end.Goals as goal
 
-pub returns-in-Err : goal.returns-in-Err
+pub returns-in-Err-clause-lines : goal.returns-in-Err-clause-lines
 unfolding AddsLines
-returns-in-Err g c = record {
+returns-in-Err-clause-lines g c = record {
   row = λ start front adds first. record {
     same = refl;
     form = refl;
@@ -14,9 +14,9 @@ returns-in-Err g c = record {
   };
 }
 
-pub returns-in_default : goal.returns-in_default
+pub returns-in_default-clause-lines : goal.returns-in_default-clause-lines
 unfolding AddsLines
-returns-in_default g c = record {
+returns-in_default-clause-lines g c = record {
   row = λ start front adds first. record {
     same = refl;
     form = refl;

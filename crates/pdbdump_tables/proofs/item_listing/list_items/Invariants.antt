@@ -1,7 +1,7 @@
--- The lines of the ids before the iterator stand there.
+-- The lines of the items before the iterator stand there.
 use Rattle.pdbdump_tables.proofs.ListingLemmas.{IsSoFar}
 use Rattle.pdb_tpi.specs.Steps.{items_left}
-use Rattle.pdbdump_tables.proofs.id_listing.list_ids.Given as goal
+use Rattle.pdbdump_tables.proofs.item_listing.list_items.Given as goal
 
 abbrev pub invariant-loop-line : goal.invariant-loop-line
 invariant-loop-line g l = IsSoFar l.form l.table l.items l.initial.out l.out

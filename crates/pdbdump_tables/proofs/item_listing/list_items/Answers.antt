@@ -6,7 +6,7 @@ use Rattle.pdbdump_rows.proofs.lemmas.Line.{made_written}
 use Rattle.pdbdump_tables.proofs.ListingLemmas.{ends_cut, ends_lacking, ends_stopped, ends_whole, next_written}
 use Rattle.pdbdump_tables.proofs.ListingLemmas.{so_far_first}
 use Rattle.pdb_tpi.specs.Steps.{WalkPosition}
-use Rattle.pdbdump_tables.proofs.id_listing.list_ids.Goals as goal
+use Rattle.pdbdump_tables.proofs.item_listing.list_items.Goals as goal
 
 pub loop-line-init : goal.loop-line-init
 loop-line-init g c = so_far_first _ _ _ _ (ap (λ (s : WalkPosition). s.table) c.iter-items.ensures)
@@ -16,9 +16,9 @@ pub returns-in_err-item : goal.returns-in_err-item
 returns-in_err-item g c = rw (passed_on _ _ c.from_residual.ensures.1)
     (ends_stopped _ _ _ _ _ _ _ _ c.loop-line.invariant c.in_err-item.ensures)
 
-pub returns-in_err-make_id : goal.returns-in_err-make_id
-returns-in_err-make_id g c =
-    rw (passed_on _ _ c.from_residual-in_err-make_id.ensures.1)
+pub returns-in_err-make_item : goal.returns-in_err-make_item
+returns-in_err-make_item g c =
+    rw (passed_on _ _ c.from_residual-in_err-make_item.ensures.1)
     (ends_lacking _ _ _ _ _ _ c.loop-line.invariant refl)
 
 pub returns-in_err-write : goal.returns-in_err-write
@@ -26,13 +26,13 @@ returns-in_err-write g c =
     rw (passed_on _ _ c.from_residual-in_err-write.ensures.1)
     (ends_cut _ _ _ _ _ c.in-Some.item _ _ _ _ c.loop-line.invariant
     (rw c.in-Some.is at c.in_ok-item.ensures) c.in_err-write.ensures.failed
-    (made_written (row_text c.args.form) _ _ _ _ _ _ c.in_ok-make_id.ensures c.as_bytes.ensures
+    (made_written (row_text c.args.form) _ _ _ _ _ _ c.in_ok-make_item.ensures c.as_bytes.ensures
     c.in_err-write.ensures.bytes))
 
 pub loop-line-preserved : goal.loop-line-preserved
 loop-line-preserved g c =
     next_written _ _ _ _ _ c.in-Some.item _ _ _ c.loop-line.invariant (rw c.in-Some.is at c.in_ok-item.ensures)
-    (made_written (row_text c.args.form) _ _ _ _ _ _ c.in_ok-make_id.ensures c.as_bytes.ensures
+    (made_written (row_text c.args.form) _ _ _ _ _ _ c.in_ok-make_item.ensures c.as_bytes.ensures
     c.in_ok-write.ensures.bytes)
 
 pub returns-in_default : goal.returns-in_default

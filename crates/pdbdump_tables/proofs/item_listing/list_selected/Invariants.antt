@@ -2,7 +2,7 @@
 use Rattle.std.proofs.Common.{Ok}
 use Rattle.pdb_tpi.specs.Steps.{items_left}
 use Rattle.pdbdump_rows.specs.Rows.{WritesLines}
-use Rattle.pdbdump_tables.proofs.selected.list_ids.Given as goal
+use Rattle.pdbdump_tables.proofs.item_listing.list_selected.Given as goal
 
 abbrev pub invariant-records : goal.invariant-records
 invariant-records g l = WritesLines l.form l.initial.out l.out (Ok tt)
