@@ -128,6 +128,25 @@ fn list_part<S: Source + Drop, W: Write>(
     }
 }
 
+/// Writes what a command lists of a file of this size that was opened. `is_whole` becomes false if a
+/// part or a record that it lists can't be read.
+fn list_sized<S: Source + Drop, W: Write>(
+    alloc: Global,
+    file: PDB<S>,
+    size: u64,
+    command: Command<'_, '_>,
+    form: Form,
+    is_whole: &mut bool,
+    out: &mut Output<W>,
+) -> Result<()>
+    ensures { DoesIn form command.entry (S.state file.source) file.head out.old out.new result }
+{
+    match command {
+        Command::Summary => list_summary(alloc, file, size, form, is_whole, out),
+        other => list_part(alloc, file, other, form, is_whole, out),
+    }
+}
+
 /// Writes what a command lists of a file of this size that was opened. Returns whether each part and
 /// each record that it lists could be read.
 fn list_opened<S: Source + Drop, W: Write>(
@@ -140,14 +159,9 @@ fn list_opened<S: Source + Drop, W: Write>(
 ) -> Result<bool>
     ensures { DoesIn form command.entry (S.state file.source) file.head out.old out.new (done_of result) }
 {
-    match command {
-        Command::Summary => list_summary(alloc, file, size, form, out),
-        other => {
-            let mut is_whole = true;
-            let listed = list_part(alloc, file, other, form, &mut is_whole, out);
-            whole_if_listed(listed, is_whole)
-        }
-    }
+    let mut is_whole = true;
+    let listed = list_sized(alloc, file, size, command, form, &mut is_whole, out);
+    whole_if_listed(listed, is_whole)
 }
 
 /// Writes what a command lists of a file: a line for each record, or the bytes of a stream. Returns

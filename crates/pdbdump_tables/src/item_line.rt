@@ -116,7 +116,7 @@ impl ListedIndex for TypeIndex {
         show_parsed_type(head_of(item, place), &parsed, is_whole, line);
     }
 
-    #[tactic(auto, using(pdbdump_rows::proofs::lemmas::Line::fields_at_all))]
+    #[tactic(auto, using(pdbdump_rows::proofs::lemmas::Line::adding, pdbdump_rows::proofs::lemmas::Line::fields_at_all))]
     fn show_selected(
         alloc: Global,
         item: &Item<'_, TypeIndex>,
@@ -181,7 +181,7 @@ impl ListedIndex for IdIndex {
         show_parsed_id(head_of(item, place), &parsed, is_whole, line);
     }
 
-    #[tactic(auto, using(pdbdump_rows::proofs::lemmas::Line::fields_at_all))]
+    #[tactic(auto, using(pdbdump_rows::proofs::lemmas::Line::adding, pdbdump_rows::proofs::lemmas::Line::fields_at_all))]
     fn show_selected(
         alloc: Global,
         item: &Item<'_, IdIndex>,

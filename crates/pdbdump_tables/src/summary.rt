@@ -2,7 +2,6 @@
 
 #![tactic(auto, using(pdbdump_rows::proofs::lemmas::Sink::adding_lines))]
 
-ghost use Rattle.pdb_output.specs.Output.{done_of};
 ghost use Rattle.pdbdump_rows.specs.{Rows.WritesLines, Sink.AddsLines};
 
 use crate::headers::headers_of;
@@ -137,9 +136,9 @@ fn write_parts<S: Source + Drop, W: Write>(rows: &mut Rows<'_, W>, file: PDB<S>)
 
 /// Lists what a file of this size is made of: its pages, a line for each stream, and how many records
 /// of each kind the tables of types and ids have. A part that has an error has a line with the error,
-/// among those of the others. The names of streams are shown with no more bytes than they take in
-/// stream 1: a name for which fewer are left is cut, and its line says so. Returns whether each part
-/// could be read.
+/// among those of the others, and `is_whole` becomes false. The names of streams are shown with no
+/// more bytes than they take in stream 1: a name for which fewer are left is cut, and its line says
+/// so.
 ///
 /// # Errors
 /// Fails with `IoError` if the writer fails, and with `OutOfMemory` if an allocation fails.
@@ -148,15 +147,17 @@ pub fn list_summary<S: Source + Drop, W: Write>(
     file: PDB<S>,
     size: u64,
     form: Form,
+    is_whole: &mut bool,
     out: &mut Output<W>,
-) -> Result<bool>
-    ensures { WritesLines form out.old out.new (done_of result) }
+) -> Result<()>
+    ensures { WritesLines form out.old out.new result }
 {
     let mut sheet = Sheet::new(alloc, form);
     let mut rows = Rows::new(&mut sheet, out);
     let streams = file.msf();
     write_pages(&mut rows, streams.page_size(), streams.pages_used(), size);
     write_parts(&mut rows, file);
-    rows.finish()?;
-    Ok(rows.sheet.is_whole)
+    let written = rows.finish();
+    *is_whole = sheet.is_whole;
+    written
 }
