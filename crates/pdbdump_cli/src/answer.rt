@@ -3,12 +3,14 @@
 
 ghost use Rattle.std.specs.Prelude.{◌≡◌};
 ghost use Rattle.std.specs.Option.{option_copied};
-ghost use Rattle.pdbdump_rows.specs.Sink.{AddsLines};
+ghost use Rattle.pdbdump_rows.specs.{Rows.WritesLines, Sink.AddsLines};
 ghost use Rattle.pdbdump_cli.specs.Asked.{is_answer};
 
 use pdb_base::RawString;
-use pdb_container::Reply;
-use pdbdump_rows::{Rows, Value, optional_text, show_error};
+use pdb_container::{Reply, Result};
+use pdb_output::Output;
+use pdbdump_rows::{Form, Rows, Sheet, Value, optional_text, show_error};
+use std::alloc::Global;
 use std::io::Write;
 use std::ops::Range;
 
@@ -91,18 +93,29 @@ pub(crate) fn is_answer(reply: Option<&Reply>) -> bool
     !matches!(reply, None | Some(Reply::Refused(_)))
 }
 
-/// Writes a question, and after it the rows of its answer: those of the reply, or one that says that
-/// the line has no question.
-pub(crate) fn write_answered<W: Write>(
-    rows: &mut Rows<'_, W>,
-    question: &[u8],
-    reply: Option<&Reply>,
-)
+/// Writes the rows of an answer: those of the reply, or one that says that the line has no question.
+fn write_answer<W: Write>(rows: &mut Rows<'_, W>, reply: Option<&Reply>)
     ensures { AddsLines rows.old rows.new }
 {
-    write_text(rows, "question", question);
     match reply {
         Some(reply) => write_reply(rows, reply),
         None => write_text(rows, "error", NO_QUERY),
     }
+}
+
+/// Writes a question, and its answer after it.
+pub(crate) fn write_answered<W: Write>(
+    alloc: Global,
+    form: Form,
+    question: &[u8],
+    reply: Option<&Reply>,
+    out: &mut Output<W>,
+) -> Result<()>
+    ensures { WritesLines form out.old out.new result }
+{
+    let mut sheet = Sheet::new(alloc, form);
+    let mut rows = Rows::new(&mut sheet, out);
+    write_text(&mut rows, "question", question);
+    write_answer(&mut rows, reply);
+    rows.finish()
 }

@@ -14,7 +14,7 @@ use crate::question::{is_line_end, query_in};
 use pdb_cli::MOST_READS;
 use pdb_container::{BigMSF, OpenTables, Reply, Result, Source, open_msf};
 use pdb_output::Output;
-use pdbdump_rows::{Form, Rows, Sheet};
+use pdbdump_rows::Form;
 use std::alloc::Global;
 use std::io;
 use std::io::{ErrorKind, Read, Write};
@@ -84,10 +84,7 @@ impl<S: Source> AskedFile<S> {
             return Ok(true);
         }
         let reply = self.reply()?;
-        let mut sheet = Sheet::new(self.alloc, self.form);
-        let mut rows = Rows::new(&mut sheet, out);
-        write_answered(&mut rows, &self.rest, reply.as_ref());
-        rows.finish()?;
+        write_answered(self.alloc, self.form, &self.rest, reply.as_ref(), out)?;
         self.rest.clear();
         Ok(is_answer(reply.as_ref()))
     }

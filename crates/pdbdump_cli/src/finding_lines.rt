@@ -1,10 +1,10 @@
 //! What `validate` writes of a file.
 
-#![tactic(auto, using(pdbdump_rows::proofs::lemmas::Sink::adding_lines))]
+#![tactic(auto, using(pdbdump_rows::proofs::lemmas::Line::adding, pdbdump_rows::proofs::lemmas::Sink::adding_lines))]
 
-ghost use Rattle.std.specs.Prelude.{◌≡◌, ◌≤◌, length, map};
+ghost use Rattle.std.specs.Prelude.{◌≡◌, ◌≤◌, [], length, map};
 ghost use Rattle.pdb_validation.specs.Finding.{error_count, finding_view, warning_count};
-ghost use Rattle.pdbdump_rows.specs.{Rows.WritesLines, Sink.AddsLines};
+ghost use Rattle.pdbdump_rows.specs.{Line.AddsRow, Rows.WritesLines, Sink.AddsLines};
 ghost use Rattle.pdbdump_cli.specs.Validated.{AreFindingsWritten};
 
 use crate::names::{
@@ -14,7 +14,7 @@ use pdb_base::{RawString, Result};
 use pdb_output::Output;
 use pdb_validation::{Finding, Problem};
 use pdbdump_rows::names::INDEX;
-use pdbdump_rows::{Form, Rows, Sheet, Value, error_text, optional_number};
+use pdbdump_rows::{Field, Form, Line, Rows, Sheet, Value, error_text, optional_number};
 use pdbdump_types::{TextBuffer, plural};
 use std::alloc::{AllocError, Global};
 use std::io::Write;
@@ -81,33 +81,35 @@ fn number_value<'t>(number: Option<u64>) -> Value<'t> {
     }
 }
 
+/// Returns the fields of the place of a finding.
+fn place_fields(finding: &Finding) -> [Field<'static>; 4] {
+    [
+        (STREAM, optional_number(finding.stream)),
+        (INDEX, number_value(finding.index)),
+        (BYTE, number_value(finding.byte)),
+        (FILE_BYTE, number_value(finding.file_byte)),
+    ]
+}
+
+/// Adds what is told of a finding in the file at a path.
+fn show_finding(alloc: Global, line: &mut Line, path: &str, finding: &Finding)
+    ensures { AddsRow [] line.old line.new }
+{
+    line.field(FILE, Value::Text(RawString::from(path)));
+    line.field(SEVERITY, Value::Word(severity(&finding.problem)));
+    line.made_text(CODE, code_text(alloc, finding));
+    line.field(PART, Value::Word(finding.part.code()));
+    line.fields(&place_fields(finding));
+    line.made_text(PROBLEM, problem_text(alloc, &finding.problem));
+}
+
 /// Writes the row of a finding in the file at a path.
 fn write_finding<W: Write>(rows: &mut Rows<'_, W>, path: &str, finding: &Finding)
     ensures { AddsLines rows.old rows.new }
 {
     let alloc = rows.alloc();
-    let code = code_text(alloc, finding);
-    let words = problem_text(alloc, &finding.problem);
     rows.begin();
-    rows.sheet
-        .line
-        .field(FILE, Value::Text(RawString::from(path)));
-    rows.sheet
-        .line
-        .field(SEVERITY, Value::Word(severity(&finding.problem)));
-    rows.sheet.line.made_text(CODE, code);
-    rows.sheet
-        .line
-        .field(PART, Value::Word(finding.part.code()));
-    rows.sheet
-        .line
-        .field(STREAM, optional_number(finding.stream));
-    rows.sheet.line.field(INDEX, number_value(finding.index));
-    rows.sheet.line.field(BYTE, number_value(finding.byte));
-    rows.sheet
-        .line
-        .field(FILE_BYTE, number_value(finding.file_byte));
-    rows.sheet.line.made_text(PROBLEM, words);
+    show_finding(alloc, &mut rows.sheet.line, path, finding);
     rows.end();
 }
 

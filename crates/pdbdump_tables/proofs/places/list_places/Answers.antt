@@ -5,5 +5,5 @@ use Rattle.pdbdump_tables.proofs.places.list_places.Goals as goal
 
 pub returns : goal.returns
 returns g c =
-    lines_of_rows _ _ _ c.finish.new.self _ _ _ c.loop-offset.invariant (search rules) (search rules) c.new-rows.ensures.now
-    c.finish.ensures.out c.finish.ensures.result (search rules)
+    lines_of_rows _ _ _ c.finish.new.self _ _ _ c.loop-offset.invariant (search rules) (search rules)
+    c.new-rows.ensures.now c.finish.ensures.out c.finish.ensures.result (search rules)
