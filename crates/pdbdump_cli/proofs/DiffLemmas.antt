@@ -1,10 +1,9 @@
 -- What `diff` ends with.
-use Rattle.std.proofs.Common.{◌≡◌, ◌++◌, ℕ, arith, refl, sym, subst, inl, inr, Result, Ok, Err}
+use Rattle.std.proofs.Common.{subst, Result}
 use Rattle.pdb_base.specs.declared.error.Error.{Error}
 use Rattle.pdb_output.specs.Output.{OutputState}
 use Rattle.pdbdump_differences.specs.Compared.{IsCompared, equal, different, incomplete, stopped}
 use Rattle.pdbdump_differences.specs.declared.differences.Outcome.{Outcome}
-use Rattle.pdbdump_differences.specs.declared.differences.Outcome.TheVariants.{Equal, Different, Incomplete}
 use Rattle.pdbdump_cli.specs.Diffed.{IsEqualEnd, IsSilentEnd}
 
 -- a comparison that found nothing wrote nothing, so that its end is that of the whole

@@ -1,27 +1,21 @@
 -- The findings of `validate`, and the status with which it ends.
-use Rattle.std.proofs.Common.{◌≡◌, ◌∙◌, refl, sym, ap, subst, ℕ, ◌+◌, ◌<◌, Bool, true, false, List, [], ◌∷◌, ◌++◌}
+use Rattle.std.proofs.Common.{◌≡◌, ◌∙◌, refl, ap, ℕ, ◌+◌, ◌<◌, Bool, true, false, List, [], ◌∷◌}
 use Rattle.std.proofs.Common.{filter, get_or, length}
 use Rattle.std.proofs.Common.{length-append, map, take, Ok, Err, Result}
 use Rattle.std.proofs.lemmas.List.{map-append, take_more}
 use Rattle.std.proofs.lemmas.List.Elements.{filter-append}
-use Rattle.pdb_base.specs.Memory.{FailsOnlyForMemory}
 use Rattle.pdb_base.specs.declared.error.Error.{Error}
 use Rattle.pdb_validation.specs.Finding.{FaultPlace, finding_view, warning_count}
 use Rattle.pdb_validation.specs.Problem.{is_tolerated}
 use Rattle.pdb_validation.specs.declared.finding.Finding.{Finding}
-use Rattle.pdbdump_rows.proofs.lemmas.Rows.{row_alone, rows_joined}
 use Rattle.pdbdump_rows.specs.declared.form.Form.TheVariants as forms
-use Rattle.pdbdump_rows.specs.Line.{AddsText, IsRow}
-use Rattle.pdbdump_rows.specs.Lines.{row_text}
-use Rattle.pdbdump_rows.specs.Row.{ShownRow}
 use Rattle.pdbdump_rows.specs.Rows.{AreRows, WritesLines}
 use Rattle.pdb_base.specs.declared.error.Error.TheVariants.{OutOfMemory}
 use Rattle.pdb_output.proofs.lemmas.Written.{lacks_all}
 use Rattle.pdb_output.specs.Output.{OutputState, Writes}
 use Rattle.std.proofs.KnownBytes.{Appends-nil}
 use Rattle.pdbdump_rows.specs.declared.form.Form.{Form}
-use Rattle.pdbdump_cli.specs.Validated.{AreFindingsWritten, AreRowsIn, HasPassed, IsJudged}
-use Rattle.std.specs.Prelude.{OnOk}
+use Rattle.pdbdump_cli.specs.Validated.{AreFindingsWritten, HasPassed, IsJudged}
 
 -- the number of warnings with one finding more
 pub warnings_more : (findings : List Finding) (i : ℕ) (d : Finding) → i < length findings

@@ -1,4 +1,3 @@
-use Rattle.std.proofs.Common.{refl}
 use Rattle.pdb_base.proofs.lemmas.Refused.{passed_on}
 use Rattle.pdb_identity.specs.Identity.{file_identity}
 use Rattle.pdb_msf.specs.Header.{file_head}

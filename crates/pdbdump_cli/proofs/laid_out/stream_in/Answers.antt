@@ -1,4 +1,4 @@
-use Rattle.std.proofs.Common.{refl, None}
+use Rattle.std.proofs.Common.{None}
 use Rattle.pdb_base.proofs.lemmas.Refused.{passed_on}
 use Rattle.pdb_msf.specs.File.{stream_of}
 use Rattle.pdb_msf.specs.Header.{file_head}

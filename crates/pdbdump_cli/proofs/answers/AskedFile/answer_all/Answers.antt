@@ -1,5 +1,4 @@
-use Rattle.std.proofs.Common.{refl, inl, inr, rules}
-use Rattle.pdb_base.proofs.lemmas.Refused.{passed_on}
+use Rattle.std.proofs.Common.{refl}
 use Rattle.pdbdump_cli.proofs.AnsweredLemmas.{ends_so_far, flushed_so_far, more_so_far, nothing_read, stays}
 use Rattle.pdbdump_cli.proofs.answers.AskedFile.answer_all.Goals as goal
 
