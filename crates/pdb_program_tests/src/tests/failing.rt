@@ -244,7 +244,8 @@ fn fails_at_each_read(alloc: Global, served: Served) -> Result<bool> {
     Ok(false)
 }
 
-/// The programs, and how many calls of its output each makes.
+/// The programs, and how many calls of its output each makes: in JSON, one for each of eight lines of
+/// findings.
 const SERVED: &[(Served, usize)] = &[
     (Served::Query, 2),
     (Served::Records(Form::Text), 3),
@@ -255,7 +256,7 @@ const SERVED: &[(Served, usize)] = &[
     (Served::Key(Form::Json), 2),
     (Served::Stream, 2),
     (Served::Findings(Form::Text), 2),
-    (Served::Findings(Form::Json), 2),
+    (Served::Findings(Form::Json), 9),
     (Served::Layout(Form::Text), 2),
     (Served::Layout(Form::Json), 2),
 ];
