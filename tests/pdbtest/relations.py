@@ -299,9 +299,9 @@ class Relations:
             if is_wrong:
                 self.add(part, code, number, None, byte)
 
-        hashed, size = kind_at(stream, 20), None
-        if is_there := hashed != NO_STREAM:
-            size = None if self.is_missing(hashed) or hashed >= len(self.sizes) else self.sizes[hashed]
+        hashed = kind_at(stream, 20)
+        is_there = hashed != NO_STREAM
+        size = self.size_of(hashed) if is_there else None
         parts = [struct.unpack_from("<iI", stream, at) for at in (32, 40, 48)]
         outside = [size is not None and (at < 0 or at + many > size) for at, many in parts]
         places = parts[1][1]
@@ -349,6 +349,12 @@ class Relations:
     def is_missing(self, number):
         """Whether the file has no stream of a number."""
         return number >= self.msf.count or number < len(self.sizes) and self.sizes[number] is None
+
+    def size_of(self, number):
+        """The size of a stream, None if the file has none of this number, or if its directory ends before the size or before
+        a page number of an earlier stream."""
+        is_known = not self.is_missing(number) and number < len(self.sizes)
+        return self.sizes[number] if is_known and self.msf.starts[number] <= len(self.msf.directory) else None
 
     def check_information(self):
         """The version of stream 1, and how many streams have names."""
@@ -465,8 +471,8 @@ class Relations:
             number = kind_at(debug, place + 34)
             if number != NO_STREAM and self.is_missing(number):
                 self.add("ROLES", "STREAM-MISSING", DEBUG, index, place)
-            elif number < min(len(self.sizes), NO_STREAM):
-                if self.sizes[number] < sum(struct.unpack_from("<3I", debug, place + 36)):
+            elif number != NO_STREAM and (size := self.size_of(number)) is not None:
+                if size < sum(struct.unpack_from("<3I", debug, place + 36)):
                     self.add("ROLES", "MODULE-SIZES", DEBUG, index, place)
             place, index = behind, index + 1
 
