@@ -24,6 +24,19 @@ from pdb_container.__main__ import main
 from . import PACKAGE, SAMPLE, parts_of
 
 
+def damaged():
+    """The names and bytes of files with damage: of copies of the sample, and of what the folder holds that
+    PDB_CONTAINER_DAMAGED names."""
+    for seed in range(40):
+        numbers, copy = random.Random(seed), bytearray(SAMPLE.read_bytes())
+        # The first pages have the header, the directory and short streams.
+        for _ in range(numbers.choice([1, 4, 40])):
+            copy[numbers.choice([numbers.randrange(len(copy)), numbers.randrange(16384)])] = numbers.choice([0, 1, 0x80, 0xFF])
+        yield f"copy {seed}", bytes(copy)
+    folder = os.environ.get("PDB_CONTAINER_DAMAGED")
+    for path in sorted(pathlib.Path(folder).iterdir()) if folder else ():
+        yield path.name, path.read_bytes()
+
 
 def read_types(pdb):
     for it in pdb.types:
@@ -41,6 +54,17 @@ def read_layouts(pdb):
             str((definitions.definition_of(index), definitions.size_of(index), definitions.layout_of(index), definitions.text_of(index)))
 
 
+def read_omaps(pdb):
+    for omap in filter(None, (pdb.omap_to_src, pdb.omap_from_src)):
+        str((omap.records, omap.is_sorted, omap.lookup(0x1005), omap.ranges(range(0x1000, 0x3000))))
+
+
+def read_addresses(pdb):
+    to = pdb.address_map
+    str([(to.rva(it), to.internal_rva(it), to.place(it % 5, it), to.internal_place(it % 5, it)) for it in range(0x1000, 0x1200)])
+    str((to.rva_ranges(range(0x1000, 0x3000)), to.internal_rva_ranges(range(0x1000, 0x3000))))
+
+
 def read_ids(pdb):
     for it in pdb.ids:
         str((it, parts_of(it)))
@@ -54,10 +78,9 @@ EVERYTHING = [
     lambda pdb: [(stream.name, stream.role) for stream in pdb.streams],
     lambda pdb: list(pdb.names),
     lambda pdb: pdb.sections + pdb.original_sections,
-    lambda pdb: pdb.omap_to_src and pdb.omap_to_src.ranges(range(0x1000, 0x3000)),
-    lambda pdb: [pdb.address_map.rva(it) for it in range(0x1000, 0x1200)],
-    lambda pdb: pdb.address_map.rva_ranges(range(0x1000, 0x3000)),
-    lambda pdb: [pdb.frames.at(it) for it in range(0x1000, 0x1200)],
+    read_omaps,
+    read_addresses,
+    lambda pdb: [pdb.frames.at(it) for it in range(0x1000, 0x1200)] + list(pdb.frames),
     read_types,
     read_layouts,
     read_ids,
@@ -365,18 +388,17 @@ class OfInput(unittest.TestCase):
         self.assertIn("[stream 2]", str(found))
 
     def test_damaged_files(self):
-        data, failed = SAMPLE.read_bytes(), 0
-        for seed in range(40):
-            numbers, copy = random.Random(seed), bytearray(data)
-            # The first pages have the header, the directory and short streams.
-            for _ in range(numbers.choice([1, 4, 40])):
-                copy[numbers.choice([numbers.randrange(len(copy)), numbers.randrange(16384)])] = numbers.choice([0, 1, 0x80, 0xFF])
-            with contextlib.suppress(PdbError), Pdb(copy) as pdb:
-                for part in EVERYTHING:
-                    try:
-                        part(pdb)
-                    except PdbError:
-                        failed += 1
+        """A call on a damaged file answers, or raises a PdbError, and no other error."""
+        failed = 0
+        for name, data in damaged():
+            with self.subTest(name):
+                str((format_of(data), *map(str, validate(data, every=True))))
+                with contextlib.suppress(PdbError), Pdb(data) as pdb:
+                    for part in EVERYTHING:
+                        try:
+                            part(pdb)
+                        except PdbError:
+                            failed += 1
         self.assertGreater(failed, 0)
 
     def test_another_thread(self):

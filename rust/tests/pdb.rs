@@ -5,8 +5,11 @@ use std::error::Error;
 use std::fs::File;
 use std::io::Cursor;
 
+use damaged::damaged;
 use pdb_container::pdb::{self, FallibleIterator};
 use pdb_container::{Pdb, Shape};
+
+mod damaged;
 
 const SAMPLE: &str = concat!(env!("CARGO_MANIFEST_DIR"), "/../examples/sample.pdb");
 
@@ -179,27 +182,42 @@ fn errors_and_damage() {
     assert!(!error.to_string().is_empty());
     let bytes = std::fs::read(SAMPLE).unwrap();
     let mut failed = 0;
-    for seed in 0u32..200 {
-        let (mut copy, mut state) = (bytes.clone(), seed.wrapping_mul(0x9e37_79b9) | 1);
-        for _ in 0..40 {
-            state = state.wrapping_mul(1_664_525).wrapping_add(1_013_904_223);
-            let at = state as usize % copy.len();
-            copy[at] = (state >> 24) as u8;
-        }
-        failed += u32::from(read_all(copy).is_err());
+    for (name, copy) in damaged(&bytes) {
+        println!("{name}");
+        failed += read_all(copy).unwrap_or(1);
     }
     assert!(failed > 0);
 }
 
-/// Reads all that there is, and tells of an error of any part.
-fn read_all(bytes: Vec<u8>) -> Result<(), pdb::Error> {
+/// Reads all that there is, and counts what can't be read.
+fn read_all(bytes: Vec<u8>) -> Result<usize, pdb::Error> {
     let mut file = pdb::PDB::open(Cursor::new(bytes))?;
-    let (types, ids) = (file.type_information()?, file.id_information()?);
-    let mut read = types.iter().map(|item| Ok(item.parse().is_ok())).filter(|is_read| Ok(!is_read)).next()?.is_some();
-    read |= ids.iter().map(|item| Ok(item.parse().is_ok())).filter(|is_read| Ok(!is_read)).next()?.is_some();
-    file.string_table()?;
-    file.frame_table()?.iter().count()?;
-    let map = file.address_map()?;
-    let places = (0..0x2000).filter(|it| pdb::Rva(0x1000 + it).to_internal_offset(&map).is_some()).count();
-    if read || places == 0 { Err(pdb::Error::UnexpectedEof) } else { Ok(()) }
+    let mut failed = unread(file.type_information()) + unread(file.id_information());
+    let mut count = |is_read: bool| failed += usize::from(!is_read);
+    count(file.pdb_information().is_ok_and(|it| it.stream_names().is_ok()));
+    count(file.string_table().is_ok());
+    count(file.sections().is_ok_and(|it| it.unwrap_or_default().iter().all(|it| it.name().len() <= 8)));
+    count(
+        file.frame_table()
+            .is_ok_and(|it| it.iter_at_rva(pdb::PdbInternalRva(0x1020)).count().is_ok() && it.iter().count().is_ok()),
+    );
+    count(
+        file.address_map()
+            .is_ok_and(|map| (0..0x2000).any(|it| pdb::Rva(0x1000 + it).to_internal_offset(&map).is_some())),
+    );
+    (0..32).for_each(|number| count(file.raw_stream(pdb::StreamIndex(number)).is_ok()));
+    Ok(failed)
+}
+
+/// How many items of a table can't be read; the table counts as one. A finder has what the walk has.
+fn unread<I: pdb::ItemIndex>(table: Result<pdb::ItemInformation<'_, I>, pdb::Error>) -> usize {
+    let Ok(table) = table else { return 1 };
+    let (finder, mut failed) = (table.finder(), 0);
+    let walked = table.iter().for_each(|item| {
+        let is_read = item.parse().is_ok();
+        assert_eq!(finder.find(item.index()).and_then(|it| it.parse()).is_ok(), is_read);
+        failed += usize::from(!is_read);
+        Ok(())
+    });
+    failed + usize::from(walked.is_err())
 }

@@ -3,18 +3,26 @@
 // The first byte says what the others are: 0 a file, 1 a stream, around which a file is made, and any other the record of a
 // type or of an id, around which a table is made too; four bits of that byte are those of an index that is asked for.
 //
+// An input, which is below a megabyte, may take 500 ms of a processor, and is asked about no further record after 100 ms: so
+// no call may take long. What the longest input took is told at the end.
+//
 // clang -fsanitize=fuzzer,address,undefined fuzz.c libpdb_container.a
+// clang -fsanitize=fuzzer fuzz.c guard.c, and the library as guard.c says
 #include <pdb_container.h>
+#include <stdio.h>
 #include <stdlib.h>
 #include <string.h>
+#include <time.h>
 
 #include "guarded.h"
 #include "made.h"
 
-enum { MOST = 1 << 20, ROWS = 64, ROOM = ROWS * 128, STREAMS = 64, RECORDS = 256, HEADER = 56 };
+enum { MOST = 1 << 20, ROWS = 64, ROOM = ROWS * 128, STREAMS = 64, RECORDS = 256, HEADER = 56, ENOUGH_MS = 100, MOST_MS = 500 };
 
 static uint8_t *input, *room, *names;
-static size_t length, size;
+static size_t length, size, longest;
+static double longest_ms;
+static clock_t began;
 
 static uint8_t *end_of(uint8_t *block, size_t most, size_t used) { return used ? block + most - used : NULL; }
 
@@ -22,6 +30,8 @@ static uint8_t *end_of(uint8_t *block, size_t most, size_t used) { return used ?
 #define ITEMS(kind, count) (kind *)end_of(room, ROOM, (count) * sizeof(kind)), (count)
 #define BYTES(count) end_of(names, ROOM, count), (count)
 #define TEXT(count) (char *)BYTES(count)
+
+static double spent_ms(void) { return 1000.0 * (double)(clock() - began) / CLOCKS_PER_SEC; }
 
 // That a call left its status in the handle, if it has one, as a fault that has a text.
 static uint32_t told(const pdb_handle *handle, uint32_t status) {
@@ -62,7 +72,7 @@ static void ask_types(pdb_file *file, uint32_t number, uint32_t index) {
         uint32_t some[] = {range.first, 0x74, range.first + (range.end - range.first) / 3, range.end - 1, UINT32_MAX};
         told(it, pdb_types_find(&types, some, 5, ITEMS(pdb_found_record, 5), &length));
         told(it, pdb_types_named(&types, "Point", 5, ITEMS(uint32_t, ROWS), &length));
-        for (size_t n = 0; n < RECORDS && told(it, pdb_types_read(&types, &row, 1, &length)) == PDB_OK; n++) {
+        for (size_t n = 0; n < RECORDS && spent_ms() < ENOUGH_MS && told(it, pdb_types_read(&types, &row, 1, &length)) == PDB_OK; n++) {
             told(NULL, row.fault.status);
             ask_index(&types, row.position.index);
         }
@@ -159,9 +169,20 @@ static void ask_file(const uint8_t *bytes, size_t bytes_length, uint32_t index) 
     pdb_file_close(&file);
 }
 
+static void tell_longest(void) { fprintf(stderr, "longest: %.1f ms, for %zu bytes\n", longest_ms, longest); }
+
+static void ask_in_time(const uint8_t *bytes, size_t bytes_length, uint32_t index) {
+    began = clock();
+    ask_file(bytes, bytes_length, index);
+    double ms = spent_ms();
+    if (ms > longest_ms) longest_ms = ms, longest = bytes_length;
+    if (ms > MOST_MS) tell_longest(), abort();
+}
+
 int LLVMFuzzerTestOneInput(const uint8_t *data, size_t data_size) {
     static const uint32_t header[HEADER / 4] = {20040203, HEADER, 0x1000, 0x1001};
     if (!input) {
+        atexit(tell_longest);
         input = guarded(MOST, 0);
         room = guarded(ROOM, 0);
         names = guarded(ROOM, 0);
@@ -177,6 +198,6 @@ int LLVMFuzzerTestOneInput(const uint8_t *data, size_t data_size) {
         at[front + HEADER + 1] = (uint8_t)(rest >> 8);
     }
     if (rest) memcpy(at + front + stream, data + 1, rest);
-    ask_file(at, whole, (uint32_t)(data[0] << 4));
+    ask_in_time(at, whole, (uint32_t)(data[0] << 4));
     return 0;
 }

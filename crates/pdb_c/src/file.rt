@@ -3,7 +3,7 @@
 
 ghost use Rattle.std.specs.Prelude.{◌≡◌, ◌==◌, if◌then◌else◌};
 ghost use Rattle.pdb_msf.specs.Layout.{size_by};
-ghost use Rattle.pdb_identity.specs.Format.{format_of};
+ghost use Rattle.pdb_file.specs.Format.{format_of};
 ghost use Rattle.pdb_handles.specs.Copied.{CopiesAnswer, CopiesOrLacks, copied_of, text_if_copied};
 ghost use Rattle.pdb_handles.specs.File.{layout_said, named_stream_said, roles_said, sections_told, sizes_in};
 ghost use Rattle.pdb_handles.specs.File.{front_asked};
@@ -13,6 +13,7 @@ ghost use Rattle.pdb_handles.specs.{Identity.key_text, Listing.RowsOrLacks, List
 ghost use Rattle.pdb_handles.specs.StreamNames.{stream_names_said};
 ghost use Rattle.pdb_handles.specs.Kept.{KeepsFile};
 
+use pdb_file::Format;
 use pdb_handles::copied::{copy_list, copy_stream, write_listing};
 use pdb_handles::file::{OpenFile, Sizes, copy_front, layout_in, named_stream_in, sizes_in};
 use pdb_handles::findings::{FoundFault, findings_in};
@@ -22,7 +23,6 @@ use pdb_handles::roles::{Roles, roles_in};
 use pdb_handles::sections::{Section, sections_in};
 use pdb_handles::stream_names::{NamedStream, stream_names_in};
 use pdb_handles::{FINE, Fault};
-use pdb_identity::Format;
 use std::alloc::Global;
 
 /// Opens a file: reads its header and its directory, and keeps them. The bytes stay with the caller.

@@ -1,6 +1,5 @@
 pub mod CutLemmas
 pub mod HeaderLemmas
-pub mod EndLemmas
 pub mod DbiLaws
 pub mod RoleLaws
 pub mod NameEndLemmas
@@ -8,3 +7,4 @@ pub mod NamedLaws
 pub mod FeatureLemmas
 pub mod FeatureLaws
 pub mod FaultLaws
+mod ImageLemmas

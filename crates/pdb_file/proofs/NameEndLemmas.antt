@@ -1,12 +1,9 @@
 -- The first NUL from an offset on is found in a part of the names, or behind it.
 use Rattle.std.proofs.Common.{◌≡◌, ℕ, ◌+◌, ◌*◌, ◌-◌, ◌<◌, ◌≤◌, ◌==◌, inl, inr, List, [], ◌∷◌, ◌++◌, length, take, drop}
-use Rattle.std.proofs.Common.{Option, Some, None, get_or, slice_index, sym, ap, subst, ◌∙◌, arith}
+use Rattle.std.proofs.Common.{Option, Some, None, slice_index, sym, ap, ◌∙◌, arith}
 use Rattle.std.proofs.lemmas.Bool.{cases_lt}
-use Rattle.std.proofs.lemmas.List.{length-append}
-use Rattle.std.proofs.lemmas.Option.{get_or_from_slice_get, slice_get_within, slice_get-get_or}
+use Rattle.std.proofs.lemmas.List.{get_or_append_left, get_or_push, length-append}
 use Rattle.std.proofs.lemmas.Simd.{get_or-chunk, length-chunk}
-use Rattle.std.proofs.Math.ListN.{get_or-append}
-use Rattle.std.proofs.Math.Seq.{get_or-append_seam}
 use Rattle.memchr.specs.Find.{IsFirstByte, Passes, is_byte}
 use Rattle.pdb_file.specs.NameEnds.{AreFirstNuls, IsFirstNul}
 
@@ -57,16 +54,9 @@ module _ (names : List ℕ) (start end : ℕ) (order : start ≤ end) (within : 
 -- one more of the first NULs
 pub one_more : (names : List ℕ) (nuls : List (Option ℕ)) (nul : Option ℕ) → AreFirstNuls names nuls
     → IsFirstNul names (length names - 512 * length nuls) nul → AreFirstNuls names (nuls ++ nul ∷ [])
-one_more names nuls nul so_far here n other is =
-    let within = slice_get_within (nuls ++ nul ∷ []) n other is in
-    let at = get_or_from_slice_get (nuls ++ nul ∷ []) n other None is in
-    elim (cases_lt n (length nuls)) [
-      | inl below ↦ so_far n other (slice_get-get_or nuls n None below
-          ∙ ap (λ (o : Option ℕ). Some o) (sym (get_or-append nuls (nul ∷ []) None n below) ∙ at))
-      | inr above ↦
-          let last : length nuls ≡ n = omega (arith, within, length-append nuls (nul ∷ [])) in
-          let same : nul ≡ other = sym (get_or-append_seam nuls nul [] None)
-          ∙ ap (λ (i : ℕ). get_or (nuls ++ nul ∷ []) i None) last ∙ at in
-          subst (λ (m : ℕ). IsFirstNul names (length names - 512 * m) other) last
-          (subst (λ (o : Option ℕ). IsFirstNul names (length names - 512 * length nuls) o) same here)
-    ]
+one_more names nuls nul so_far here n within = elim (cases_lt n (length nuls)) [
+  | inl below ↦ rw (get_or_append_left nuls (nul ∷ []) None n below) (so_far n below)
+  | inr above ↦
+      let last : length nuls ≡ n = omega (arith, within, length-append nuls (nul ∷ [])) in
+      rw (get_or_push nuls nul None n last, ← last) here
+]

@@ -4,9 +4,8 @@ use Rattle.std.specs.Prelude.{ℕ, ◌+◌, ◌*◌, ◌%◌, ◌==◌, ◌||◌
 use Rattle.pdb_base.specs.Refusal.{unexpected_eof}
 use Rattle.pdb_base.specs.Answer.{Answer, ◌>>=◌, ok_if}
 use Rattle.pdb_base.specs.Index.{no_stream}
-use Rattle.pdb_base.specs.Reading.{front_at}
+use Rattle.pdb_base.specs.Reading.{front_at, number_in}
 use Rattle.pdb_base.specs.declared.index.StreamIndex.{StreamIndex}
-use Rattle.pdb_file.specs.Fields.{u16_in}
 use Rattle.pdb_file.specs.DbiHeader.{header_size, dbi_header_of}
 use Rattle.pdb_file.specs.declared.dbi_header.DBIHeader.{DBIHeader}
 use Rattle.pdb_file.specs.declared.debug_header.DBIExtraStreams.{DBIExtraStreams}
@@ -34,7 +33,7 @@ debug_header_of (byte ∷ bytes) = debug_header_behind (byte ∷ bytes)
 -- the stream at an index of the list, or no stream if the list ends before that number does
 abbrev pub stream_listed_at : ℕ → List ℕ → StreamIndex
 stream_listed_at place list =
-    record { 0 = if nat_le (2 * place + 2) (length list) then u16_in (2 * place) list else no_stream }
+    record { 0 = if nat_le (2 * place + 2) (length list) then number_in 2 (2 * place) list else no_stream }
 
 -- the streams of the eleven roles, each read at its index in the list
 unfoldable pub roles_in : List ℕ → DBIExtraStreams

@@ -1,7 +1,6 @@
 -- The features of a file, which stream 1 tells after the map of stream names: u32 numbers, one after another to the
 -- end of the stream. They are those of `PdbRaw_FeatureSig` in LLVM's RawConstants.h.
-use Rattle.std.specs.Prelude.{ℕ, ◌==◌, ◌||◌, if◌then◌else◌, Bool, List, [], ◌∷◌, Ok}
-use Rattle.std.specs.List.{list_any}
+use Rattle.std.specs.Prelude.{ℕ, ◌==◌, ◌||◌, if◌then◌else◌, false, List, [], ◌∷◌, Ok}
 use Rattle.pdb_base.specs.Answer.{Answer, ◌>>=◌}
 use Rattle.pdb_base.specs.Endian.{little_number}
 use Rattle.pdb_base.specs.Records.{values_of_size}
@@ -31,23 +30,9 @@ minimal_number = 0x494e494d
 abbrev pub numbers_in : List ℕ → List ℕ
 numbers_in bytes = values_of_size 4 (little_number 4) bytes
 
--- the numbers up to and with the first that is the last of its list, or all if none is
-abbrev pub up_to : ℕ → List ℕ → List ℕ
-up_to last [] = []
-up_to last (number ∷ numbers) = if number == last then number ∷ [] else number ∷ up_to last numbers
-
--- whether a number is among others
-abbrev pub is_among : ℕ → List ℕ → Bool
-is_among sought numbers = list_any (λ number. number == sought) numbers
-
--- which of the four features have their number among others
-abbrev pub features_among : List ℕ → Features
-features_among numbers = record {
-  vc110 = is_among vc110_number numbers;
-  vc140 = is_among vc140_number numbers;
-  no_type_merge = is_among no_type_merge_number numbers;
-  minimal = is_among minimal_number numbers;
-}
+-- no feature
+abbrev pub no_features : Features
+no_features = record { vc110 = false; vc140 = false; no_type_merge = false; minimal = false }
 
 -- features, and the one that has a number, if any has
 abbrev pub with_number : ℕ → Features → Features
@@ -58,9 +43,15 @@ with_number number features = record {
   minimal = number == minimal_number || features.minimal;
 }
 
--- the features that bytes tell: those among their numbers up to and with that of VC110, which ends the list
+-- features, and those that numbers tell up to and with that of VC110, which ends the list
+abbrev pub told_by : List ℕ → Features → Features
+told_by [] told = told
+told_by (number ∷ numbers) told =
+    if number == vc110_number then with_number number told else told_by numbers (with_number number told)
+
+-- the features that the numbers in bytes tell
 unfoldable pub features_in : List ℕ → Features
-features_in bytes = features_among (up_to vc110_number (numbers_in bytes))
+features_in bytes = told_by (numbers_in bytes) no_features
 
 -- the features that stream 1 tells after the map of stream names
 unfoldable pub features_of : PDBInformation → Answer Features

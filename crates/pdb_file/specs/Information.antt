@@ -3,17 +3,17 @@
 use Rattle.std.specs.Prelude.{ℕ, nat_le, List, length, take, drop, Ok}
 use Rattle.pdb_base.specs.Refusal.{unexpected_eof}
 use Rattle.pdb_base.specs.Answer.{Answer, ◌>>=◌, ok_if}
-use Rattle.pdb_file.specs.Fields.{u32_in}
+use Rattle.pdb_base.specs.Reading.{word_at}
 use Rattle.pdb_file.specs.declared.information.PDBInformation.{PDBInformation}
 
 -- the information with its fields, each read at its offset
 unfoldable pub information : List ℕ → PDBInformation
 information stream = record {
-  version = u32_in 0 stream;
-  signature = u32_in 4 stream;
-  age = u32_in 8 stream;
+  version = word_at 0 stream;
+  signature = word_at 4 stream;
+  age = word_at 8 stream;
   guid = take 16 (drop 12 stream);
-  names_size = u32_in 28 stream;
+  names_size = word_at 28 stream;
   names_offset = 32;
   stream = stream;
 }

@@ -7,7 +7,7 @@ use Rattle.pdb_base.specs.Index.{no_stream}
 use Rattle.pdb_base.specs.Spelling.{SpellsNumber, Begins}
 use Rattle.pdb_base.specs.declared.index.StreamIndex.{StreamIndex}
 use Rattle.pdb_space.specs.StringTableLaws.{IsNameAt}
-use Rattle.pdb_file.specs.Fields.{u32_in}
+use Rattle.pdb_base.specs.Reading.{word_at}
 use Rattle.pdb_file.specs.DbiHeader.{dbi_signature, header_size, dbi_header, dbi_header_of}
 use Rattle.pdb_file.specs.DebugHeader.{sizes_before, debug_header_behind, extra_streams}
 use Rattle.pdb_file.specs.StreamNames.{Map, Named, map_of, named_in, stream_names_of}
@@ -36,9 +36,9 @@ pub record FindsHeader (stream : List ℕ) : Type 0 where
   pub found : (header : DBIHeader) → dbi_header_of stream ≡ Ok header → HoldsHeader stream header
   pub only : (header : DBIHeader) → HoldsHeader stream header → dbi_header_of stream ≡ Ok header
   pub short : length stream < 4 → dbi_header_of stream ≡ Err unexpected_eof
-  pub unsigned : 4 ≤ length stream → u32_in 0 stream ≢ dbi_signature
+  pub unsigned : 4 ≤ length stream → word_at 0 stream ≢ dbi_signature
       → dbi_header_of stream ≡ Err (unimplemented_feature (codes "ancient DBI header"))
-  pub cut : 4 ≤ length stream → u32_in 0 stream ≡ dbi_signature → length stream < header_size
+  pub cut : 4 ≤ length stream → word_at 0 stream ≡ dbi_signature → length stream < header_size
       → dbi_header_of stream ≡ Err unexpected_eof
 
 -- ---- its debug header
@@ -139,8 +139,8 @@ pub record HoldsMap (information : PDBInformation) (table : Map) : Type 0 where
 
 -- What entry k of a table says: the name at its offset, and its stream.
 pub record IsNamed (table : Map) (k : ℕ) (named : Named) : Type 0 where
-  pub name : IsNameAt table.names (u32_in (8 * k) table.entries) named.name
-  pub stream : named.stream ≡ min (u32_in (8 * k + 4) table.entries) no_stream
+  pub name : IsNameAt table.names (word_at (8 * k) table.entries) named.name
+  pub stream : named.stream ≡ min (word_at (8 * k + 4) table.entries) no_stream
 
 -- There is a name and a stream for each entry, in order.
 pub record AreNamed (table : Map) (named : List Named) : Type 0 where

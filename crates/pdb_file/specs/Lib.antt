@@ -1,4 +1,3 @@
-pub mod Fields
 pub mod DbiHeader
 pub mod DebugHeader
 pub mod Information
@@ -9,5 +8,9 @@ pub mod SectionHeaders
 pub mod File
 pub mod Laws
 pub mod Faults
+pub mod Identity
+pub mod Key
+pub mod Format
+pub mod Image
 -- definitions of lower libraries that the contracts of this one use
 pub use Rattle.pdb_base.specs.Endian

@@ -1,6 +1,5 @@
 -- Where the names of streams end: at the first NUL from their offsets on.
-use Rattle.std.specs.Prelude.{◌≡◌, ℕ, ◌*◌, ◌-◌, List, length, Option, Some}
-use Rattle.std.specs.List.{slice_get}
+use Rattle.std.specs.Prelude.{ℕ, ◌*◌, ◌-◌, ◌<◌, List, length, get_or, Option, None}
 use Rattle.memchr.specs.Find.{IsFirst, Passes, is_byte}
 
 -- the first NUL among the names from an offset on
@@ -9,5 +8,4 @@ IsFirstNul names offset nul = IsFirst (Passes (is_byte 0) names) offset (length 
 
 -- the number `n` of these is the first NUL among the last 512 * n bytes of the names
 abbrev pub AreFirstNuls : List ℕ → List (Option ℕ) → Type 0
-AreFirstNuls names nuls = (n : ℕ) (nul : Option ℕ) → slice_get nuls n ≡ Some nul
-    → IsFirstNul names (length names - 512 * n) nul
+AreFirstNuls names nuls = (n : ℕ) → n < length nuls → IsFirstNul names (length names - 512 * n) (get_or nuls n None)

@@ -8,9 +8,8 @@ use Rattle.std.specs.Str.{bytes_eq}
 use Rattle.pdb_base.specs.Refusal.{stream_name_not_found}
 use Rattle.pdb_base.specs.Answer.{Answer, ◌>>=◌, values_of_all}
 use Rattle.pdb_base.specs.Index.{no_stream}
-use Rattle.pdb_base.specs.Reading.{front_at, number_at}
+use Rattle.pdb_base.specs.Reading.{front_at, number_at, word_at}
 use Rattle.pdb_space.specs.StringTable.{name_of}
-use Rattle.pdb_file.specs.Fields.{u32_in}
 use Rattle.pdb_file.specs.declared.information.PDBInformation.{PDBInformation}
 use Rattle.pdb_file.specs.declared.stream_names.NameMap.{NameMap}
 use Rattle.pdb_file.specs.declared.stream_names.StreamName.{StreamName}
@@ -59,8 +58,8 @@ map_of information = do
 -- A number of 0xffff or more names no stream.
 unfoldable pub named_at : Map → ℕ → Answer Named
 named_at table place = do
-  name ← name_of table.names (u32_in (8 * place) table.entries)
-  Ok (record { name = name; stream = min (u32_in (8 * place + 4) table.entries) no_stream })
+  name ← name_of table.names (word_at (8 * place) table.entries)
+  Ok (record { name = name; stream = min (word_at (8 * place + 4) table.entries) no_stream })
 
 -- all named streams of a table, in the order of their entries
 unfoldable pub named_in : Map → Answer (List Named)

@@ -86,17 +86,11 @@ impl DBIHeader {
     /// - `UnexpectedEof` if the stream has fewer than four bytes;
     /// - `UnimplementedFeature("ancient DBI header")` if these aren't the signature;
     /// - `UnexpectedEof` if the stream has fewer than the header's 64 bytes.
+    #[tactic(auto, unfolding(crate::specs::DbiHeader::dbi_header_of))]
     pub fn parse(stream: &Stream) -> Result<Self>
         ensures { Gives (λ header. header) result (dbi_header_of stream.now) }
     {
-        DBIHeader::read(stream.as_slice())
-    }
-
-    /// Reads the header at the start of bytes, and fails as `parse` does.
-    #[tactic(auto, unfolding(crate::specs::DbiHeader::dbi_header_of))]
-    pub(crate) fn read(bytes: &[u8]) -> Result<Self>
-        ensures { Gives (λ header. header) result (dbi_header_of bytes.now) }
-    {
+        let bytes = stream.as_slice();
         let signature = ParseBuffer::from(bytes).parse_u32()?;
         if signature != SIGNATURE {
             return Err(Error::UnimplementedFeature("ancient DBI header"));

@@ -2,12 +2,11 @@
 
 ghost use Rattle.std.specs.Prelude.{◌≡◌, ◌+◌, ◌<◌, sum};
 ghost use Rattle.pdb_base.specs.Answer.{Gives};
-ghost use Rattle.pdb_file.specs.DebugHeader.{debug_header_of, extra_streams, extra_streams_of, stream_listed_at};
-ghost use Rattle.pdb_file.specs.DebugHeader.{roles_in, sizes_before};
+ghost use Rattle.pdb_file.specs.DebugHeader.{extra_streams, extra_streams_of, sizes_before, stream_listed_at};
 
 use crate::dbi_header::{DBIHeader, HEADER_SIZE};
 use crate::fields::u16_in;
-use pdb_base::{Error, ParseBuffer, Result, Stream, StreamIndex};
+use pdb_base::{Error, Result, Stream, StreamIndex};
 
 /// The size in bytes of the stream numbers that have a role.
 const ROLES_SIZE: usize = 22;
@@ -77,20 +76,6 @@ fn size_before(header: &DBIHeader) -> usize
         + header.ec_substream_size as usize
 }
 
-/// Returns the debug header in stream 3, which is empty if the stream is.
-#[tactic(auto, unfolding(crate::specs::DebugHeader::debug_header_behind))]
-fn debug_header(stream: &[u8]) -> Result<&[u8]>
-    ensures { Gives (λ list. list.now) result (debug_header_of stream.now) }
-{
-    if stream.is_empty() {
-        return Ok(stream);
-    }
-    let header = DBIHeader::read(stream)?;
-    let mut buffer = ParseBuffer::from(stream);
-    buffer.take(size_before(&header))?;
-    buffer.take(header.debug_header_size as usize)
-}
-
 impl DBIExtraStreams {
     /// Reads the roles from the debug header in stream 3. If the stream is empty, no role has a
     /// stream.
@@ -102,11 +87,17 @@ impl DBIExtraStreams {
     /// # Errors
     /// Fails as `DBIHeader::parse` does, then with `UnexpectedEof` if the stream ends before the
     /// debug header does, and then as `parse` does.
-    #[tactic(auto, unfolding(crate::specs::DebugHeader::extra_streams_of))]
+    #[tactic(auto, unfolding(crate::specs::DebugHeader::extra_streams_of, crate::specs::DebugHeader::debug_header_behind))]
     pub fn new(stream: &Stream) -> Result<Self>
         ensures { Gives (λ roles. roles) result (extra_streams_of stream.now) }
     {
-        let list = debug_header(stream.as_slice())?;
+        if stream.as_slice().is_empty() {
+            return DBIExtraStreams::parse(stream.as_slice());
+        }
+        let header = DBIHeader::parse(stream)?;
+        let mut buffer = stream.parse_buffer();
+        buffer.take(size_before(&header))?;
+        let list = buffer.take(header.debug_header_size as usize)?;
         DBIExtraStreams::parse(list)
     }
 
@@ -115,22 +106,14 @@ impl DBIExtraStreams {
     ///
     /// # Errors
     /// Fails with `UnexpectedEof` if one of the first eleven numbers is cut in half.
-    #[tactic(auto, unfolding(crate::specs::DebugHeader::extra_streams))]
+    #[tactic(auto, unfolding(crate::specs::DebugHeader::extra_streams, crate::specs::DebugHeader::roles_in))]
     pub fn parse(list: &[u8]) -> Result<Self>
         ensures { Gives (λ roles. roles) result (extra_streams list.now) }
     {
         if list.len() < ROLES_SIZE && list.len() % 2 != 0 {
             return Err(Error::UnexpectedEof);
         }
-        Ok(DBIExtraStreams::of_list(list))
-    }
-
-    /// Returns the streams of the roles, each by its index in a list.
-    #[tactic(auto, unfolding(crate::specs::DebugHeader::roles_in))]
-    fn of_list(list: &[u8]) -> Self
-        ensures { result ≡ roles_in list.now }
-    {
-        DBIExtraStreams {
+        Ok(DBIExtraStreams {
             fpo: stream_listed_at(list, 0),
             exception: stream_listed_at(list, 1),
             fixup: stream_listed_at(list, 2),
@@ -142,6 +125,6 @@ impl DBIExtraStreams {
             pdata: stream_listed_at(list, 8),
             framedata: stream_listed_at(list, 9),
             original_section_headers: stream_listed_at(list, 10),
-        }
+        })
     }
 }

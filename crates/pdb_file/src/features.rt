@@ -56,7 +56,7 @@ impl Features {
     }
 
     /// Returns the features whose numbers are in some bytes.
-    #[tactic(auto, unfolding(crate::specs::Features::features_in))]
+    #[tactic(auto, unfolding(crate::specs::Features::features_in), using(crate::proofs::FeatureLemmas::told_from_next, crate::proofs::FeatureLemmas::told_at_last, crate::proofs::FeatureLemmas::told_at_end))]
     fn features_in(bytes: &[u8]) -> Features
         ensures { result ≡ features_in bytes.now }
     {

@@ -2,16 +2,13 @@
 
 ghost use Rattle.std.specs.Prelude.{◌≡◌, unwrap_or, map, IfOk, IsTrue};
 ghost use Rattle.std.specs.Option.{option_map};
-ghost use Rattle.pdb_base.specs.Answer.{Answers, AnswersUnless, Gives};
+ghost use Rattle.pdb_base.specs.Answer.{AnswersUnless};
 ghost use Rattle.pdb_msf.specs.Source.{IsFixed, IsKept};
 ghost use Rattle.pdb_msf.specs.Header.{file_head};
 ghost use Rattle.pdb_msf.specs.File.{IsFresh, Opened, ReadsFile};
-ghost use Rattle.pdb_space.specs.Omap.{omap_table_of};
-ghost use Rattle.pdb_file.specs.SectionHeaders.{section_headers_of};
-ghost use Rattle.pdb_file.specs.File.{answer_if_present, file_address_map, file_frame_table, file_ids};
-ghost use Rattle.pdb_file.specs.File.{file_information};
-ghost use Rattle.pdb_file.specs.File.{file_named_stream, file_number, file_roles, file_string_table, file_types};
-ghost use Rattle.pdb_file.specs.File.{omap_numbered, rearranged_map, sections_numbered, stream_at, stream_numbered};
+ghost use Rattle.pdb_file.specs.File.{file_address_map, file_frame_table, file_ids, file_information};
+ghost use Rattle.pdb_file.specs.File.{file_named_stream, file_roles, file_string_table, file_types, omap_numbered};
+ghost use Rattle.pdb_file.specs.File.{sections_numbered, stream_at, stream_numbered};
 
 use crate::debug_header::DBIExtraStreams;
 use crate::information::PDBInformation;
@@ -31,7 +28,7 @@ const INFORMATION_STREAM: u32 = 1;
 pub const TYPE_STREAM: u32 = 2;
 
 /// The number of the stream of debug information.
-const DEBUG_STREAM: u32 = 3;
+pub(crate) const DEBUG_STREAM: u32 = 3;
 
 /// The number of the stream that holds the table of ids.
 pub const ID_STREAM: u32 = 4;
@@ -184,8 +181,10 @@ impl<S: Source> PDB<S> {
         ensures { ReadsFile S.state self.old self.new (option_map (λ sections. sections.items)) result
             (λ file head. sections_numbered file head number) }
     {
-        let stream = self.numbered_stream(alloc, number)?;
-        sections_in(alloc, stream)
+        match self.numbered_stream(alloc, number)? {
+            Some(stream) => Ok(Some(section_headers(alloc, &stream)?)),
+            None => Ok(None),
+        }
     }
 
     /// Reads the OMAP table in the stream of a number, or returns None if there is no number.
@@ -197,26 +196,10 @@ impl<S: Source> PDB<S> {
         ensures { ReadsFile S.state self.old self.new (λ table. table) result
             (λ file head. omap_numbered file head number) }
     {
-        let stream = self.numbered_stream(alloc, number)?;
-        omap_in(stream)
-    }
-
-    /// Reads the OMAP tables, and returns the map of an image with the sections `sections`, which a
-    /// tool made from one with the sections `original`.
-    #[tactic(auto, unfolding(crate::specs::File::rearranged_map))]
-    fn rearranged_map(
-        &mut self,
-        alloc: Global,
-        roles: &DBIExtraStreams,
-        sections: Vec<ImageSectionHeader>,
-        original: Vec<ImageSectionHeader>,
-    ) -> Result<AddressMap>
-        ensures { ReadsFile S.state self.old self.new (λ map. map) result
-            (λ file head. rearranged_map file head roles.now sections.items original.items) }
-    {
-        let to_original = self.numbered_omap(alloc, roles.omap_to_src.msf_number())?;
-        let to_transformed = self.numbered_omap(alloc, roles.omap_from_src.msf_number())?;
-        Ok(AddressMap::new(original, Some(sections), to_original, to_transformed))
+        match self.numbered_stream(alloc, number)? {
+            Some(stream) => Ok(Some(OMAPTable::parse(stream)?)),
+            None => Ok(None),
+        }
     }
 
     /// Reads the address map.
@@ -238,7 +221,7 @@ impl<S: Source> PDB<S> {
     ///   and then `InvalidStreamLength` if a record is cut short.
     ///
     /// Fails with `OutOfMemory` if an allocation fails.
-    #[tactic(auto, unfolding(crate::specs::File::file_address_map))]
+    #[tactic(auto, unfolding(crate::specs::File::file_address_map, crate::specs::File::rearranged_map))]
     pub fn address_map(&mut self, alloc: Global) -> Result<AddressMap>
         ensures { ReadsFile S.state self.old self.new (λ map. map) result file_address_map }
     {
@@ -246,10 +229,12 @@ impl<S: Source> PDB<S> {
         let sections = self.numbered_sections(alloc, roles.section_headers.msf_number())?;
         let sections = sections.unwrap_or(Vec::new(alloc));
         let original = roles.original_section_headers.msf_number();
-        match self.numbered_sections(alloc, original)? {
-            Some(original) => self.rearranged_map(alloc, &roles, sections, original),
-            None => Ok(AddressMap::new(sections, None, None, None)),
-        }
+        let Some(original) = self.numbered_sections(alloc, original)? else {
+            return Ok(AddressMap::new(sections, None, None, None));
+        };
+        let to_original = self.numbered_omap(alloc, roles.omap_to_src.msf_number())?;
+        let to_transformed = self.numbered_omap(alloc, roles.omap_from_src.msf_number())?;
+        Ok(AddressMap::new(original, Some(sections), to_original, to_transformed))
     }
 
     /// Reads the frame table: the FPO stream holds the records of the older format, the frame data
@@ -268,30 +253,20 @@ impl<S: Source> PDB<S> {
         FrameTable::parse(old, new)
     }
 
-    /// Returns the number of the first stream that has a name.
-    #[tactic(auto, unfolding(crate::specs::File::file_number))]
-    fn number_named(&mut self, alloc: Global, name: &[u8]) -> Result<u32>
-        ensures { ReadsFile S.state self.old self.new (λ number. number) result
-            (λ file head. file_number file head name.now) }
-    {
-        let information = self.pdb_information(alloc)?;
-        let names = information.stream_names(alloc)?;
-        names.number(name)
-    }
-
     /// Returns the bytes of the first stream that has a name.
     ///
     /// # Errors
     /// Fails as `pdb_information` does for stream 1, then as `PDBInformation::stream_names` does,
     /// then with `StreamNameNotFound` if no stream has the name or the first entry with it names no
     /// stream, and then as `get` does for the stream's number.
-    #[tactic(auto, unfolding(crate::specs::File::file_named_stream))]
+    #[tactic(auto, unfolding(crate::specs::File::file_named_stream, crate::specs::File::file_number))]
     pub fn named_stream(&mut self, alloc: Global, name: &[u8]) -> Result<Stream>
         ensures { ReadsFile S.state self.old self.new (λ stream. stream) result
             (λ file head. file_named_stream file head name.now) }
     {
-        let number = self.number_named(alloc, name)?;
-        self.msf.get(alloc, number, None)
+        let information = self.pdb_information(alloc)?;
+        let names = information.stream_names(alloc)?;
+        self.msf.get(alloc, names.number(name)?, None)
     }
 
     /// Reads the string table, which is the stream named `/names`.
@@ -303,25 +278,5 @@ impl<S: Source> PDB<S> {
         ensures { ReadsFile S.state self.old self.new (λ names. names) result file_string_table }
     {
         StringTable::parse(self.named_stream(alloc, b"/names")?)
-    }
-}
-
-/// Parses the section headers in a stream, or returns None if there is no stream.
-fn sections_in(alloc: Global, stream: Option<Stream>) -> Result<Option<Vec<ImageSectionHeader>>>
-    ensures { Answers (option_map (λ sections. sections.items)) result (answer_if_present section_headers_of stream) }
-{
-    match stream {
-        Some(stream) => Ok(Some(section_headers(alloc, &stream)?)),
-        None => Ok(None),
-    }
-}
-
-/// Parses the OMAP table in a stream, or returns None if there is no stream.
-fn omap_in(stream: Option<Stream>) -> Result<Option<OMAPTable>>
-    ensures { Gives (λ table. table) result (answer_if_present omap_table_of stream) }
-{
-    match stream {
-        Some(stream) => Ok(Some(OMAPTable::parse(stream)?)),
-        None => Ok(None),
     }
 }

@@ -4,10 +4,10 @@
 ghost use Rattle.std.specs.Prelude.{ℕ, List};
 ghost use Rattle.pdb_file.specs.declared.information.PDBInformation.{PDBInformation};
 ghost use Rattle.pdb_base.specs.Rules.{FollowsRules};
-ghost use Rattle.pdb_file.specs.Faults.{map_within, named_rules, IsNamedStream, named_stream_rules};
+ghost use Rattle.pdb_file.specs.Faults.{IsNamedStream, map_within, named_rules, named_stream_rules};
 ghost use Rattle.pdb_file.specs.File.{file_named_stream};
 ghost use Rattle.pdb_msf.specs.Header.{Head};
-ghost use Rattle.pdb_file.specs.Laws.{AreNamed, FindsHeader, FindsDebugHeader, FindsFeatures, FindsNamed, FindsRoles};
+ghost use Rattle.pdb_file.specs.Laws.{AreNamed, FindsDebugHeader, FindsFeatures, FindsHeader, FindsNamed, FindsRoles};
 ghost use Rattle.pdb_file.specs.StreamNames.{stream_names_of};
 
 pub mod derived;

@@ -39,6 +39,7 @@ impl<'n> Model for NameEnds<'n> {
 
 /// Returns the place of the first NUL from `start` on, given that of the first NUL from `end` on.
 /// Only the bytes from `start` to `end` are searched.
+#[tactic(auto, using(crate::proofs::NameEndLemmas::found_in_part, crate::proofs::NameEndLemmas::found_behind))]
 fn first_nul(names: &[u8], start: usize, end: usize, behind: Option<usize>) -> Option<usize>
     requires order { start ≤ end }
     requires within { end ≤ length names.now }

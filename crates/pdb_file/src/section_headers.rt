@@ -14,7 +14,7 @@ const HEADER_SIZE: usize = 40;
 /// # Errors
 /// Fails with `UnexpectedEof` if the last header is cut short, before memory is requested, and with
 /// `OutOfMemory` if an allocation fails.
-#[tactic(auto, unfolding(crate::specs::SectionHeaders::section_headers_of))]
+#[tactic(auto, unfolding(crate::specs::SectionHeaders::section_headers_of), using(crate::proofs::HeaderLemmas::header_refused, crate::proofs::HeaderLemmas::header_step, crate::proofs::HeaderLemmas::all_headers))]
 pub fn section_headers(alloc: Global, stream: &Stream) -> Result<Vec<ImageSectionHeader>>
     ensures { Answers (λ headers. headers.items) result (section_headers_of stream.now) }
 {

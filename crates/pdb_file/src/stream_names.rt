@@ -4,7 +4,7 @@ ghost use Rattle.std.specs.Prelude.{◌≡◌, ◌+◌, ◌*◌, ◌/◌, ◌<�
 ghost use Rattle.pdb_base.specs.Answer.{Answers, Gives};
 ghost use Rattle.pdb_base.specs.Memory.{LacksOnlyIf};
 ghost use Rattle.pdb_base.specs.Place.{left};
-ghost use Rattle.pdb_file.specs.StreamNames.{behind_set, entries_at, map_of, map_view, named_at, named_in, named_view};
+ghost use Rattle.pdb_file.specs.StreamNames.{behind_set, map_of, map_view, named_at, named_in, named_view};
 ghost use Rattle.pdb_file.specs.StreamNames.{number_named, stream_names_of};
 
 use crate::fields::u32_in;
@@ -93,28 +93,6 @@ fn skip_set(buffer: &mut ParseBuffer<'_>) -> Result<()>
     Ok(())
 }
 
-/// Reads the entries of the table, as many as its count says, after the count, the capacity and the
-/// two sets of bits.
-#[tactic(auto, unfolding(crate::specs::StreamNames::entries_at))]
-fn entries<'n>(buffer: &mut ParseBuffer<'n>) -> Result<&'n [u8]>
-    ensures { Gives (λ entries. (entries.now, left buffer.new)) result (entries_at (left buffer.old)) }
-{
-    let count = buffer.parse_u32()?;
-    let _capacity = buffer.parse_u32()?;
-    skip_set(buffer)?;
-    skip_set(buffer)?;
-    buffer.take(ENTRY_SIZE * count as usize)
-}
-
-/// Reads all bytes that are left.
-#[tactic(auto, using(crate::proofs::CutLemmas::front_of_all))]
-fn take_rest<'n>(buffer: &mut ParseBuffer<'n>) -> Result<&'n [u8]>
-    ensures { Gives (λ rest. rest.now) result (Ok (left buffer.old)) }
-{
-    let count = buffer.len();
-    buffer.take(count)
-}
-
 impl<'n> NameMap<'n> {
     /// Returns the stream of the entry at index `place`, with its name. An entry is the `u32`
     /// offset of the name and the `u32` number of the stream.
@@ -135,7 +113,7 @@ impl<'n> NameMap<'n> {
 
     /// Returns all streams that have names. Memory is requested twice: for the index of the names'
     /// ends, and for as many streams as there are entries.
-    #[tactic(auto, unfolding(crate::specs::StreamNames::named_in))]
+    #[tactic(auto, unfolding(crate::specs::StreamNames::named_in), using(pdb_base::proofs::lemmas::Collected::collected_more, pdb_base::proofs::lemmas::Collected::collected_stops, pdb_base::proofs::lemmas::Refused::passed_on))]
     fn all_named(&self, alloc: Global) -> Result<Vec<StreamName<'n>>>
         ensures { Answers (λ names. map named_view names.items) result (named_in (map_view self.now)) }
     {
@@ -151,15 +129,20 @@ impl<'n> NameMap<'n> {
 
 impl PDBInformation {
     /// Returns the names, the entries of the table of streams, and the bytes after the table.
-    #[tactic(auto, unfolding(crate::specs::StreamNames::map_of))]
+    #[tactic(auto, unfolding(crate::specs::StreamNames::map_of, crate::specs::StreamNames::entries_at), using(crate::proofs::CutLemmas::front_of_all))]
     pub(crate) fn name_map(&self) -> Result<NameMap<'_>>
         ensures { Gives map_view result (map_of self.now) }
     {
         let mut buffer = self.stream.parse_buffer();
         buffer.take(self.names_offset)?;
         let names = buffer.take(self.names_size)?;
-        let entries = entries(&mut buffer)?;
-        let behind = take_rest(&mut buffer)?;
+        let count = buffer.parse_u32()?;
+        let _capacity = buffer.parse_u32()?;
+        skip_set(&mut buffer)?;
+        skip_set(&mut buffer)?;
+        let entries = buffer.take(ENTRY_SIZE * count as usize)?;
+        let rest = buffer.len();
+        let behind = buffer.take(rest)?;
         Ok(NameMap {
             names,
             entries,
@@ -178,7 +161,7 @@ impl PDBInformation {
     /// Fails with `UnexpectedEof` if the stream ends before the entries do, or if there is no NUL
     /// among the names at or after an offset. Fails with `OutOfMemory` if an allocation fails.
     /// Memory is allocated only after all entries are known to be in the stream.
-    #[tactic(auto, unfolding(crate::specs::StreamNames::stream_names_of))]
+    #[tactic(auto, unfolding(crate::specs::StreamNames::stream_names_of), using(crate::proofs::FaultLaws::no_want_before, pdb_base::proofs::lemmas::Refused::passed_on))]
     pub fn stream_names(&self, alloc: Global) -> Result<StreamNames<'_>>
         ensures names { Answers (λ names. names) result (stream_names_of self.now) }
         ensures memory { LacksOnlyIf result (IsOk (map_of self.now)) }

@@ -6,12 +6,12 @@ use Rattle.pdb_validation.specs.Problem.{ProblemValue, failure, inconsistent, is
 use Rattle.pdb_validation.specs.Whole.{faults_of}
 use Rattle.pdb_validation.specs.declared.finding.Part.{Part}
 use Rattle.pdb_validation.specs.declared.finding.Part.TheVariants as parts
-use Rattle.pdb_consistency.specs.declared.inconsistency.Inconsistency.{Inconsistency}
-use Rattle.pdb_consistency.specs.declared.inconsistency.Inconsistency.TheVariants as kinds
-use Rattle.pdb_consistency.specs.declared.mismatch.Extent.{Extent}
-use Rattle.pdb_consistency.specs.declared.mismatch.Extent.TheVariants.{First, All}
+use Rattle.pdb_validation.specs.declared.inconsistency.Inconsistency.{Inconsistency}
+use Rattle.pdb_validation.specs.declared.inconsistency.Inconsistency.TheVariants as kinds
+use Rattle.pdb_validation.specs.declared.mismatch.Extent.{Extent}
+use Rattle.pdb_validation.specs.declared.mismatch.Extent.TheVariants.{First, All}
 use Rattle.pdb_handles.specs.declared.findings.FoundFault.{FoundFault}
-use Rattle.pdb_handles.specs.declared.findings.ProblemNumbers.{ProblemNumbers}
+use Rattle.pdb_handles.specs.declared.fault.Fault.{Fault}
 use Rattle.pdb_handles.specs.Fault.{fault_of_refusal, fine}
 use Rattle.pdb_handles.specs.Frame.{flag}
 
@@ -33,75 +33,46 @@ part_number parts.OmapFromSource = 12
 part_number parts.OldFrames = 13
 part_number parts.NewFrames = 14
 
--- the number of what is inconsistent
-abbrev pub inconsistency_number : Inconsistency → ℕ
-inconsistency_number kinds.DirectoryTooLarge = 1
-inconsistency_number kinds.StreamsTooLarge = 2
-inconsistency_number kinds.OutOfOrder = 3
-inconsistency_number (kinds.PageShared page) = 4
-inconsistency_number (kinds.PageFree page) = 5
-inconsistency_number (kinds.StreamMissing stream) = 6
-inconsistency_number kinds.DebugSizes = 7
-inconsistency_number (kinds.ReferenceNotBelow index) = 8
-inconsistency_number kinds.RecordUnaligned = 9
-inconsistency_number (kinds.KindNotRead kind) = 10
-inconsistency_number (kinds.HashCount count) = 11
-inconsistency_number (kinds.HashTooLarge value) = 12
-inconsistency_number (kinds.IndexOffset index) = 13
-inconsistency_number kinds.BucketsCut = 14
-inconsistency_number (kinds.NameOffset offset) = 15
-inconsistency_number (kinds.NameCount count) = 16
-inconsistency_number kinds.SectionsOverlap = 17
-inconsistency_number (kinds.FreePageMap number) = 18
-inconsistency_number (kinds.PageCount count) = 19
-inconsistency_number (kinds.UnknownVersion version) = 20
-inconsistency_number (kinds.UnknownMachine machine) = 21
-inconsistency_number (kinds.NamedStreamCount count) = 22
-inconsistency_number (kinds.RecordBytes number) = 23
-inconsistency_number (kinds.HashSize size) = 24
-inconsistency_number kinds.NoHashStream = 25
-inconsistency_number (kinds.HashPart size) = 26
-inconsistency_number (kinds.NameUnreached offset) = 27
-inconsistency_number kinds.ModuleCut = 28
-inconsistency_number (kinds.ModuleSizes stream) = 29
-inconsistency_number (kinds.SymbolHashVersion version) = 30
-inconsistency_number kinds.SymbolHashSizes = 31
-inconsistency_number kinds.PublicSizes = 32
-inconsistency_number kinds.SymbolCut = 33
+-- the number of what is inconsistent, and the number that goes with it, or 0
+abbrev pub inconsistency_numbers : Inconsistency → ℕ × ℕ
+inconsistency_numbers kinds.DirectoryTooLarge = (1, 0)
+inconsistency_numbers kinds.StreamsTooLarge = (2, 0)
+inconsistency_numbers kinds.OutOfOrder = (3, 0)
+inconsistency_numbers (kinds.PageShared page) = (4, page)
+inconsistency_numbers (kinds.PageFree page) = (5, page)
+inconsistency_numbers (kinds.StreamMissing stream) = (6, stream)
+inconsistency_numbers kinds.DebugSizes = (7, 0)
+inconsistency_numbers (kinds.ReferenceNotBelow index) = (8, index)
+inconsistency_numbers kinds.RecordUnaligned = (9, 0)
+inconsistency_numbers (kinds.KindNotRead kind) = (10, kind)
+inconsistency_numbers (kinds.HashCount count) = (11, count)
+inconsistency_numbers (kinds.HashTooLarge value) = (12, value)
+inconsistency_numbers (kinds.IndexOffset index) = (13, index)
+inconsistency_numbers kinds.BucketsCut = (14, 0)
+inconsistency_numbers (kinds.NameOffset offset) = (15, offset)
+inconsistency_numbers (kinds.NameCount count) = (16, count)
+inconsistency_numbers kinds.SectionsOverlap = (17, 0)
+inconsistency_numbers (kinds.FreePageMap number) = (18, number)
+inconsistency_numbers (kinds.PageCount count) = (19, count)
+inconsistency_numbers (kinds.UnknownVersion version) = (20, version)
+inconsistency_numbers (kinds.UnknownMachine machine) = (21, machine)
+inconsistency_numbers (kinds.NamedStreamCount count) = (22, count)
+inconsistency_numbers (kinds.RecordBytes number) = (23, number)
+inconsistency_numbers (kinds.HashSize size) = (24, size)
+inconsistency_numbers kinds.NoHashStream = (25, 0)
+inconsistency_numbers (kinds.HashPart size) = (26, size)
+inconsistency_numbers (kinds.NameUnreached offset) = (27, offset)
+inconsistency_numbers kinds.ModuleCut = (28, 0)
+inconsistency_numbers (kinds.ModuleSizes stream) = (29, stream)
+inconsistency_numbers (kinds.SymbolHashVersion version) = (30, version)
+inconsistency_numbers kinds.SymbolHashSizes = (31, 0)
+inconsistency_numbers kinds.PublicSizes = (32, 0)
+inconsistency_numbers kinds.SymbolCut = (33, 0)
 
--- the number that goes with what is inconsistent, or 0
-abbrev pub detail_of : Inconsistency → ℕ
-detail_of (kinds.PageShared page) = page
-detail_of (kinds.PageFree page) = page
-detail_of (kinds.StreamMissing stream) = stream
-detail_of (kinds.ReferenceNotBelow index) = index
-detail_of (kinds.KindNotRead kind) = kind
-detail_of (kinds.HashCount count) = count
-detail_of (kinds.HashTooLarge value) = value
-detail_of (kinds.IndexOffset index) = index
-detail_of (kinds.NameOffset offset) = offset
-detail_of (kinds.NameCount count) = count
-detail_of (kinds.FreePageMap number) = number
-detail_of (kinds.PageCount count) = count
-detail_of (kinds.UnknownVersion version) = version
-detail_of (kinds.UnknownMachine machine) = machine
-detail_of (kinds.NamedStreamCount count) = count
-detail_of (kinds.RecordBytes number) = number
-detail_of (kinds.HashSize size) = size
-detail_of (kinds.HashPart size) = size
-detail_of (kinds.NameUnreached offset) = offset
-detail_of (kinds.ModuleSizes stream) = stream
-detail_of (kinds.SymbolHashVersion version) = version
-detail_of other = 0
-
--- what is wrong, in numbers
-abbrev pub problem_numbers : ProblemValue → ProblemNumbers
-problem_numbers (failure refusal) = record { inconsistency = 0; number = 0; fault = fault_of_refusal refusal }
-problem_numbers (inconsistent what) = record {
-  inconsistency = inconsistency_number what;
-  number = detail_of what;
-  fault = fine;
-}
+-- what is wrong in numbers: those of what is inconsistent, or 0 and 0, and the fault of an error
+abbrev pub problem_numbers : ProblemValue → (ℕ × ℕ) × Fault
+problem_numbers (failure refusal) = ((0, 0), fault_of_refusal refusal)
+problem_numbers (inconsistent what) = (inconsistency_numbers what, fine)
 
 -- the fault of a part, for the caller
 abbrev pub finding_of : FaultPlace → FoundFault
@@ -116,9 +87,9 @@ finding_of found = record {
   has_byte = flag (is_some found.byte);
   has_file_byte = flag (is_some found.file_byte);
   is_warning = flag (is_tolerated found.problem);
-  inconsistency = (problem_numbers found.problem).inconsistency;
-  number = (problem_numbers found.problem).number;
-  fault = (problem_numbers found.problem).fault;
+  inconsistency = (problem_numbers found.problem).0.0;
+  number = (problem_numbers found.problem).0.1;
+  fault = (problem_numbers found.problem).1;
 }
 
 -- how much of each part is told: the first thing for 0, and everything for any other number

@@ -6,11 +6,11 @@ use Rattle.uuid.specs.Text.{hyphenated_text, upper}
 use Rattle.pdb_base.specs.Answer.{Answer, ◌>>=◌}
 use Rattle.pdb_file.specs.declared.dbi_header.DBIHeader.{DBIHeader}
 use Rattle.pdb_file.specs.declared.features.Features.{Features}
-use Rattle.pdb_identity.specs.Identity.{age_of, file_identity}
-use Rattle.pdb_identity.specs.Key.{lower_key, upper_key}
-use Rattle.pdb_identity.specs.declared.format.Format.{Format}
-use Rattle.pdb_identity.specs.declared.format.Format.TheVariants as formats
-use Rattle.pdb_identity.specs.declared.identity.Identity.{Identity}
+use Rattle.pdb_file.specs.Identity.{age_of, file_identity}
+use Rattle.pdb_file.specs.Key.{lower_key, upper_key}
+use Rattle.pdb_file.specs.declared.format.Format.{Format}
+use Rattle.pdb_file.specs.declared.format.Format.TheVariants as formats
+use Rattle.pdb_file.specs.declared.identity.Identity.{Identity}
 use Rattle.pdb_handles.specs.declared.identity.FileIdentity.{FileIdentity}
 use Rattle.pdb_handles.specs.File.{read_of_file}
 use Rattle.pdb_handles.specs.Frame.{flag}

@@ -3,15 +3,12 @@
 ghost use Rattle.std.specs.Prelude.{◌≡◌, map, Ok};
 ghost use Rattle.pdb_base.specs.Answer.{Answers};
 ghost use Rattle.pdb_validation.specs.Finding.{finding_view};
-ghost use Rattle.pdb_validation.specs.Problem.{problem_view};
-ghost use Rattle.pdb_handles.specs.Findings.{detail_of, extent_of, finding_of, findings_said, inconsistency_number};
-ghost use Rattle.pdb_handles.specs.Findings.{part_number, problem_numbers};
+ghost use Rattle.pdb_handles.specs.Findings.{extent_of, finding_of, findings_said, inconsistency_numbers, part_number};
 
 use crate::fault::{FINE, Fault};
 use crate::frames::flag;
 use pdb_base::Result;
-use pdb_consistency::{Extent, Inconsistency};
-use pdb_validation::{Finding, Part, Problem, validate};
+use pdb_validation::{Extent, Finding, Inconsistency, Part, Problem, validate};
 use std::alloc::Global;
 
 /// What is found wrong in a part of a file, and where.
@@ -69,95 +66,44 @@ fn part_number(part: Part) -> u32
     }
 }
 
-/// Returns the number of what is inconsistent.
-fn inconsistency_number(what: Inconsistency) -> u32
-    ensures { result ≡ inconsistency_number what }
+/// Returns the number of what is inconsistent, and the number that goes with it, or 0.
+fn inconsistency_numbers(what: Inconsistency) -> (u32, u32)
+    ensures { result ≡ inconsistency_numbers what }
 {
     match what {
-        Inconsistency::DirectoryTooLarge => 1,
-        Inconsistency::StreamsTooLarge => 2,
-        Inconsistency::OutOfOrder => 3,
-        Inconsistency::PageShared(_) => 4,
-        Inconsistency::PageFree(_) => 5,
-        Inconsistency::StreamMissing(_) => 6,
-        Inconsistency::DebugSizes => 7,
-        Inconsistency::ReferenceNotBelow(_) => 8,
-        Inconsistency::RecordUnaligned => 9,
-        Inconsistency::KindNotRead(_) => 10,
-        Inconsistency::HashCount(_) => 11,
-        Inconsistency::HashTooLarge(_) => 12,
-        Inconsistency::IndexOffset(_) => 13,
-        Inconsistency::BucketsCut => 14,
-        Inconsistency::NameOffset(_) => 15,
-        Inconsistency::NameCount(_) => 16,
-        Inconsistency::SectionsOverlap => 17,
-        Inconsistency::FreePageMap(_) => 18,
-        Inconsistency::PageCount(_) => 19,
-        Inconsistency::UnknownVersion(_) => 20,
-        Inconsistency::UnknownMachine(_) => 21,
-        Inconsistency::NamedStreamCount(_) => 22,
-        Inconsistency::RecordBytes(_) => 23,
-        Inconsistency::HashSize(_) => 24,
-        Inconsistency::NoHashStream => 25,
-        Inconsistency::HashPart(_) => 26,
-        Inconsistency::NameUnreached(_) => 27,
-        Inconsistency::ModuleCut => 28,
-        Inconsistency::ModuleSizes(_) => 29,
-        Inconsistency::SymbolHashVersion(_) => 30,
-        Inconsistency::SymbolHashSizes => 31,
-        Inconsistency::PublicSizes => 32,
-        Inconsistency::SymbolCut => 33,
-    }
-}
-
-/// Returns the number that goes with what is inconsistent, or 0.
-fn detail_of(what: Inconsistency) -> u32
-    ensures { result ≡ detail_of what }
-{
-    match what {
-        Inconsistency::PageShared(page) | Inconsistency::PageFree(page) => page,
-        Inconsistency::StreamMissing(stream) | Inconsistency::ModuleSizes(stream) => stream,
-        Inconsistency::ReferenceNotBelow(index) | Inconsistency::IndexOffset(index) => index,
-        Inconsistency::KindNotRead(kind) => kind as u32,
-        Inconsistency::HashCount(count) | Inconsistency::NameCount(count) => count,
-        Inconsistency::HashTooLarge(value) => value,
-        Inconsistency::NameOffset(offset) | Inconsistency::NameUnreached(offset) => offset,
-        Inconsistency::FreePageMap(number) | Inconsistency::RecordBytes(number) => number,
-        Inconsistency::PageCount(count) | Inconsistency::NamedStreamCount(count) => count,
-        Inconsistency::UnknownVersion(version) => version,
-        Inconsistency::SymbolHashVersion(version) => version,
-        Inconsistency::UnknownMachine(machine) => machine as u32,
-        Inconsistency::HashSize(size) | Inconsistency::HashPart(size) => size,
-        _ => 0,
-    }
-}
-
-/// What is wrong, in numbers.
-#[derive(Clone, Copy)]
-struct ProblemNumbers {
-    /// What is inconsistent, or 0 for an error.
-    inconsistency: u32,
-    /// The number that goes with it.
-    number: u32,
-    /// The error.
-    fault: Fault,
-}
-
-/// Returns what is wrong in numbers.
-fn problem_numbers(problem: &Problem) -> ProblemNumbers
-    ensures { result ≡ problem_numbers (problem_view problem.now) }
-{
-    match problem {
-        Problem::Error(error) => ProblemNumbers {
-            inconsistency: 0,
-            number: 0,
-            fault: Fault::of(error),
-        },
-        Problem::Inconsistent(what) => ProblemNumbers {
-            inconsistency: inconsistency_number(*what),
-            number: detail_of(*what),
-            fault: Fault::status(FINE),
-        },
+        Inconsistency::DirectoryTooLarge => (1, 0),
+        Inconsistency::StreamsTooLarge => (2, 0),
+        Inconsistency::OutOfOrder => (3, 0),
+        Inconsistency::PageShared(page) => (4, page),
+        Inconsistency::PageFree(page) => (5, page),
+        Inconsistency::StreamMissing(stream) => (6, stream),
+        Inconsistency::DebugSizes => (7, 0),
+        Inconsistency::ReferenceNotBelow(index) => (8, index),
+        Inconsistency::RecordUnaligned => (9, 0),
+        Inconsistency::KindNotRead(kind) => (10, kind as u32),
+        Inconsistency::HashCount(count) => (11, count),
+        Inconsistency::HashTooLarge(value) => (12, value),
+        Inconsistency::IndexOffset(index) => (13, index),
+        Inconsistency::BucketsCut => (14, 0),
+        Inconsistency::NameOffset(offset) => (15, offset),
+        Inconsistency::NameCount(count) => (16, count),
+        Inconsistency::SectionsOverlap => (17, 0),
+        Inconsistency::FreePageMap(number) => (18, number),
+        Inconsistency::PageCount(count) => (19, count),
+        Inconsistency::UnknownVersion(version) => (20, version),
+        Inconsistency::UnknownMachine(machine) => (21, machine as u32),
+        Inconsistency::NamedStreamCount(count) => (22, count),
+        Inconsistency::RecordBytes(number) => (23, number),
+        Inconsistency::HashSize(size) => (24, size),
+        Inconsistency::NoHashStream => (25, 0),
+        Inconsistency::HashPart(size) => (26, size),
+        Inconsistency::NameUnreached(offset) => (27, offset),
+        Inconsistency::ModuleCut => (28, 0),
+        Inconsistency::ModuleSizes(stream) => (29, stream),
+        Inconsistency::SymbolHashVersion(version) => (30, version),
+        Inconsistency::SymbolHashSizes => (31, 0),
+        Inconsistency::PublicSizes => (32, 0),
+        Inconsistency::SymbolCut => (33, 0),
     }
 }
 
@@ -165,7 +111,13 @@ fn problem_numbers(problem: &Problem) -> ProblemNumbers
 fn finding_of(found: &Finding) -> FoundFault
     ensures { result ≡ finding_of (finding_view found.now) }
 {
-    let problem = problem_numbers(&found.problem);
+    let (inconsistency, number, fault) = match &found.problem {
+        Problem::Error(error) => (0, 0, Fault::of(error)),
+        Problem::Inconsistent(what) => {
+            let (inconsistency, number) = inconsistency_numbers(*what);
+            (inconsistency, number, Fault::status(FINE))
+        }
+    };
     FoundFault {
         index: found.index.unwrap_or(0),
         byte: found.byte.unwrap_or(0),
@@ -177,9 +129,9 @@ fn finding_of(found: &Finding) -> FoundFault
         has_byte: flag(found.byte.is_some()),
         has_file_byte: flag(found.file_byte.is_some()),
         is_warning: flag(found.problem.is_warning()),
-        inconsistency: problem.inconsistency,
-        number: problem.number,
-        fault: problem.fault,
+        inconsistency,
+        number,
+        fault,
     }
 }
 

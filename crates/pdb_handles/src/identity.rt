@@ -1,11 +1,10 @@
 //! What identifies a file: its numbers, its key, and its format.
 
 ghost use Rattle.std.specs.Prelude.{◌≡◌, ℕ, List, string_bytes, Ok};
-ghost use Rattle.std.specs.Option.{option_map_or};
 ghost use Rattle.uuid.specs.Text.{hyphenated_text, upper};
 ghost use Rattle.pdb_base.specs.Answer.{Answer, Answers};
-ghost use Rattle.pdb_identity.specs.Identity.{file_identity};
-ghost use Rattle.pdb_identity.specs.Key.{lower_key, upper_key};
+ghost use Rattle.pdb_file.specs.Identity.{file_identity};
+ghost use Rattle.pdb_file.specs.Key.{lower_key, upper_key};
 ghost use Rattle.pdb_handles.specs.Copied.{CopiesOrLacks, text_answered, text_copied, text_if_copied};
 ghost use Rattle.pdb_handles.specs.Identity.{feature_bits, format_number, identity_of, identity_said, key_text};
 ghost use Rattle.pdb_handles.specs.File.{read_of_file};
@@ -15,8 +14,7 @@ use crate::fault::{Fault, NONE};
 use crate::file::open_file;
 use crate::frames::flag;
 use pdb_base::Result;
-use pdb_file::Features;
-use pdb_identity::{Format, Identity, LowerKey, UpperKey};
+use pdb_file::{Features, Format, Identity, LowerKey, UpperKey};
 use std::alloc::Global;
 use uuid::Uuid;
 
@@ -60,16 +58,6 @@ fn feature_bits(features: Features) -> u32
         + 8 * flag(features.minimal)
 }
 
-/// Returns the bits of the features, or 0 if there are none to be found.
-fn optional_bits(features: Option<Features>) -> u32
-    ensures { result ≡ option_map_or feature_bits features 0 }
-{
-    match features {
-        Some(features) => feature_bits(features),
-        None => 0,
-    }
-}
-
 impl FileIdentity {
     /// Converts what identifies a file for the caller.
     fn of(identity: &Identity) -> FileIdentity
@@ -86,7 +74,7 @@ impl FileIdentity {
             flags: 0,
             guid: identity.guid.to_bytes_le(),
             has_features: flag(identity.features.is_some()),
-            features: optional_bits(identity.features),
+            features: identity.features.map_or(0, feature_bits),
         };
         match identity.debug_header {
             Some(header) => FileIdentity {

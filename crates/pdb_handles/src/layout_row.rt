@@ -19,7 +19,7 @@ use std::alloc::Global;
 
 /// A field of a class, or bits that no field takes.
 #[repr(C)]
-#[derive(Clone, Copy)]
+#[derive(Clone, Copy, Default)]
 pub struct LayoutRow {
     /// Where it begins, in bytes from the start of the class.
     pub offset: u64,
@@ -48,22 +48,6 @@ pub struct LayoutRow {
     /// Whether the class itself names that base class, and not a base class, as 0 or 1.
     pub is_direct: u32,
 }
-
-/// A `LayoutRow` of zeros.
-const NO_LAYOUT: LayoutRow = LayoutRow {
-    offset: 0,
-    size: 0,
-    name_offset: 0,
-    name_length: 0,
-    kind: 0,
-    extent: 0,
-    bit: 0,
-    bits: 0,
-    type_index: 0,
-    base_class: 0,
-    base_position: 0,
-    is_direct: 0,
-};
 
 /// Returns an entry that also says what a field is, whose name begins here.
 fn with_kind(here: usize, kind: FieldKind<'_>, row: LayoutRow) -> LayoutRow
@@ -116,7 +100,7 @@ fn field_row(here: usize, field: &LayoutField<'_>) -> LayoutRow
     let row = LayoutRow {
         offset: field.place.offset,
         type_index: field.place.field_type.0,
-        ..NO_LAYOUT
+        ..LayoutRow::default()
     };
     with_kind(here, field.place.kind, with_extent(field.extent, row))
 }
@@ -141,7 +125,7 @@ fn bytes_row(kind: u32, bits: Span) -> LayoutRow
         kind,
         offset: (bits.start / 8) as u64,
         size: ((bits.end - bits.start) / 8) as u64,
-        ..NO_LAYOUT
+        ..LayoutRow::default()
     }
 }
 
@@ -161,7 +145,7 @@ fn gap_row(gap: Gap) -> LayoutRow
             extent: 1,
             bit: (start % 8) as u32,
             bits: (end - start).min(0xffff_ffff) as u32,
-            ..NO_LAYOUT
+            ..LayoutRow::default()
         },
         GapKind::VirtualBases => bytes_row(6, gap.bits),
     }

@@ -2,19 +2,18 @@
 use Rattle.std.proofs.Common.{◌≡◌, ◌⊎◌, inl, inr, ℕ, zero, suc, ◌<◌, false, List, [], ◌∷◌, ◌++◌, map, refl, sym, ap}
 use Rattle.std.proofs.Common.{◌∙◌, subst, arith, Option, Some, None, Ok, Err}
 use Rattle.std.specs.List.{flat_map}
-use Rattle.std.proofs.lemmas.Bool.{cases_lt, false≢true}
+use Rattle.std.proofs.lemmas.Bool.{cases_lt}
+use Rattle.std.proofs.lemmas.Bool.Decides.{nat_tests}
 use Rattle.std.specs.Ordering.{is_ge, nat_cmp}
-use Rattle.std.specs.declared.cmp.Ordering.TheVariants.{Equal, Greater}
-use Rattle.std.specs.Cmp.{nat_cmp_is}
 use Rattle.std.proofs.lemmas.List.{append_assoc}
 use Rattle.std.proofs.lemmas.Grind.{flat_map-append}
 use Rattle.pdb_base.specs.declared.index.TypeIndex.{TypeIndex}
 use Rattle.std.specs.Global.{Vec}
 use Rattle.pdb_base.specs.declared.error.Error.{Error}
 use Rattle.pdb_base.specs.Refusal.{Refusal, refusal_of}
-use Rattle.pdb_base.specs.Answer.{Answer, Answers, ◌>>=◌}
+use Rattle.pdb_base.specs.Answer.{Answer, Answers}
 use Rattle.pdb_values.specs.declared.type_data.TypeData.{TypeData}
-use Rattle.pdb_base.proofs.lemmas.Collected.{ok, err, ok_is, err_is, ok_is_no_err, answer_cases, option_cases}
+use Rattle.pdb_base.proofs.lemmas.Collected.{ok, answer_cases, option_cases}
 use Rattle.pdb_values.specs.TypeValue.{TypeValue}
 use Rattle.pdb_values.specs.TypeView.{type_value}
 use Rattle.pdb_tpi.specs.Chain.{LookUp, ContinuedList, listed_value, list_of, not_below, Lead, IsChain, GoesUp, Breaks}
@@ -34,13 +33,11 @@ twice_in_front fields more (Err e) = refl
 
 pub fields_listed : (look : LookUp) (index : ℕ) (list : ContinuedList) → list_of look index ≡ Ok list
     → fields_of look index ≡ join_fields (λ i. fields_of look i) index list
-fields_listed look index list is = fields_step look index
-    ∙ ap (λ (answer : Answer ContinuedList). answer >>= join_fields (λ i. fields_of look i) index) is
+fields_listed look index list is = fields_step look index ∙ rw is refl
 
 pub fields_refused : (look : LookUp) (index : ℕ) (e : Refusal) → list_of look index ≡ Err e
     → fields_of look index ≡ Err e
-fields_refused look index e is = fields_step look index
-    ∙ ap (λ (answer : Answer ContinuedList). answer >>= join_fields (λ i. fields_of look i) index) is
+fields_refused look index e is = fields_step look index ∙ rw is refl
 
 -- ---- along a chain by a loop: the fields so far, and those of the lists in which the last list goes on
 
@@ -68,26 +65,14 @@ follows_refused look index fields above next e so_far below is =
 
 -- an index that is not above another, nor the same, is below it
 pub not_ge : (a b : ℕ) → is_ge (nat_cmp a b) ≡ false → a < b
-not_ge a b is = elim (cases_lt a b) [
-  | inl below ↦ below
-  | inr above ↦ elim (cases_lt b a) [
-    | inl more ↦ absurd (false≢true (sym is ∙ ap is_ge (sym (nat_cmp_is a b Greater more))))
-    | inr less ↦ absurd (false≢true (sym is ∙ ap is_ge (sym (nat_cmp_is a b Equal (omega (arith, above, less))))))
-  ]
-]
+not_ge a b is = grind (arith, nat_tests)
 
 -- a list that is refused refuses the fields
-pub list_refused : (look : LookUp) (index : ℕ) (e : Error) → Answers listed_value (Err e) (list_of look index)
-    → Answers {X = Vec TypeData} (λ fields. map type_value fields.items) (Err e) (fields_of look index)
-list_refused look index e (inl is) = inl (fields_refused look index (refusal_of e) is)
-list_refused look index e (inr want) = inr want
-
-pub next_refused : (look : LookUp) (index : ℕ) (fields : List TypeValue) (above : ℕ) (next : TypeIndex) (e : Error)
-    → Follows look index fields above (Some next) → next.0 < above → Answers listed_value (Err e) (list_of look next.0)
-    → Answers {X = Vec TypeData} (λ fields. map type_value fields.items) (Err e) (fields_of look index)
-next_refused look index fields above next e so_far below (inl is) =
-    inl (follows_refused look index fields above next (refusal_of e) so_far below is)
-next_refused look index fields above next e so_far below (inr want) = inr want
+pub refused_on : (e : Error) (list : Answer ContinuedList) (fields : Answer (List TypeValue))
+    → (list ≡ Err (refusal_of e) → fields ≡ Err (refusal_of e)) → Answers listed_value (Err e) list
+    → Answers {X = Vec TypeData} (λ fields. map type_value fields.items) (Err e) fields
+refused_on e list fields on (inl is) = inl (on is)
+refused_on e list fields on (inr want) = inr want
 
 -- ---- chains
 
@@ -97,16 +82,12 @@ led : (look : LookUp) (from : ℕ) (lists : List ContinuedList) (to : ℕ) → L
 led look from [] to same = ap (λ (i : ℕ). fields_of look i) same ∙ sym (none_in_front (fields_of look to))
 led look from (list ∷ lists) to (is, (next, goes_on, below, lead)) =
     fields_listed look from list is
-    ∙ ap (λ (continuation : Option TypeIndex). in_front list.fields
-    (fields_behind (λ i. fields_of look i) from continuation)) goes_on
-    ∙ ap (in_front list.fields) (goes_below (λ i. fields_of look i) from next below ∙ led look next.0 lists to lead)
+    ∙ rw (goes_on, goes_below (λ i. fields_of look i) from next below, led look next.0 lists to lead) refl
     ∙ twice_in_front list.fields (flat_map (λ list. list.fields) lists) (fields_of look to)
 
 last_fields : (look : LookUp) (at : ℕ) (last : ContinuedList) → list_of look at ≡ Ok last → last.continuation ≡ None
     → fields_of look at ≡ Ok (flat_map (λ list. list.fields) (last ∷ []))
-last_fields look at last is ends = fields_listed look at last is
-    ∙ ap (λ (continuation : Option TypeIndex). in_front last.fields
-    (fields_behind (λ i. fields_of look i) at continuation)) ends
+last_fields look at last is ends = fields_listed look at last is ∙ rw ends refl
 
 chain_fields : (look : LookUp) (index : ℕ) (lists : List ContinuedList) → IsChain look index lists
     → fields_of look index ≡ Ok (flat_map (λ list. list.fields) lists)
@@ -123,10 +104,7 @@ break_refuses : (look : LookUp) (at : ℕ) (refusal : Refusal) → (list_of look
 break_refuses look at refusal (inl is) = fields_refused look at refusal is
 break_refuses look at refusal (inr (up, is)) =
     fields_listed look at up.list up.is
-    ∙ ap (λ (continuation : Option TypeIndex). in_front up.list.fields
-    (fields_behind (λ i. fields_of look i) at continuation)) up.goes_on
-    ∙ ap (in_front up.list.fields) (goes_up (λ i. fields_of look i) at up.next up.above)
-    ∙ ap (λ (e : Refusal). err {A = List TypeValue} e) (sym is)
+    ∙ rw (up.goes_on, goes_up (λ i. fields_of look i) at up.next up.above, is) refl
 
 chain_refused : (look : LookUp) (index : ℕ) (refusal : Refusal) → Breaks look index refusal
     → fields_of look index ≡ Err refusal
@@ -199,83 +177,51 @@ has_chain (suc most) look index few = elim (answer_cases (list_of look index)) [
   ]
 ]
 
-fields_chained : (look : LookUp) (index : ℕ) (fields : List TypeValue) → fields_of look index ≡ Ok fields
-    → HasChain look index → (lists : List ContinuedList) × IsChain look index lists
-    × (fields ≡ flat_map (λ list. list.fields) lists)
-fields_chained look index fields is (inl (lists, chain)) =
-    (lists, chain, ok_is fields (flat_map (λ list. list.fields) lists) (sym is ∙ chain_fields look index lists chain))
-fields_chained look index fields is (inr (refusal, broken)) =
-    absurd (ok_is_no_err fields refusal (sym is ∙ chain_refused look index refusal broken))
-
-fields_broken : (look : LookUp) (index : ℕ) (refusal : Refusal) → fields_of look index ≡ Err refusal
-    → HasChain look index → Breaks look index refusal
-fields_broken look index refusal is (inl (lists, chain)) =
-    absurd (ok_is_no_err (flat_map (λ list. list.fields) lists) refusal
-    (sym (chain_fields look index lists chain) ∙ is))
-fields_broken look index refusal is (inr (other, broken)) =
-    subst (Breaks look index) (err_is {A = List TypeValue} other refusal
-    (sym (chain_refused look index other broken) ∙ is)) broken
-
 -- ---- there is one chain
-
--- the list of an index is one
-one_list : (look : LookUp) (index : ℕ) (list other : ContinuedList) → list_of look index ≡ Ok list
-    → list_of look index ≡ Ok other → list ≡ other
-one_list look index list other is also = ok_is list other (sym is ∙ also)
-
-no_next : (continuation : Option TypeIndex) (next : TypeIndex) → continuation ≡ None → continuation ≡ Some next → ⊥
-no_next continuation next none some = cc
-
-one_next : (continuation : Option TypeIndex) (next other : TypeIndex) → continuation ≡ Some next
-    → continuation ≡ Some other → next ≡ other
-one_next continuation next other is also = cc
-
--- a last list leads nowhere
-ends_here : (look : LookUp) (from : ℕ) (last list : ContinuedList) (next : TypeIndex) → list_of look from ≡ Ok last
-    → last.continuation ≡ None → list_of look from ≡ Ok list → list.continuation ≡ Some next → ⊥
-ends_here look from last list next is_last ends is goes_on =
-    no_next list.continuation next (ap (λ (l : ContinuedList). l.continuation) (one_list look from list last is is_last)
-    ∙ ends) goes_on
 
 one_chain_from : (look : LookUp) (from : ℕ) (before others : List ContinuedList) (at to : ℕ) (last end : ContinuedList)
     → Lead look from before at → list_of look at ≡ Ok last → last.continuation ≡ None
     → Lead look from others to → list_of look to ≡ Ok end → end.continuation ≡ None → before ++ last ∷ [] ≡ others
     ++ end ∷ []
 one_chain_from look from [] [] at to last end here is ends there also done =
-    ap (λ (l : ContinuedList). l ∷ []) (one_list look from last end (ap (list_of look) here ∙ is)
-    (ap (list_of look) there ∙ also))
+    let same : last ≡ end = cc in ap (λ (l : ContinuedList). l ∷ []) same
 one_chain_from look from [] (list ∷ others) at to last end here is ends
     (first, (next, goes_on, below, lead)) also done =
-    absurd (ends_here look from last list next (ap (list_of look) here ∙ is) ends first goes_on)
+    absurd cc
 one_chain_from look from (list ∷ before) [] at to last end
     (first, (next, goes_on, below, lead)) is ends there also done =
-    absurd (ends_here look from end list next (ap (list_of look) there ∙ also) done first goes_on)
+    absurd cc
 one_chain_from look from (list ∷ before) (other ∷ others) at to last end (first, (next, goes_on, below, lead)) is ends
     (second, (other_next, also_on, also_below, also_lead)) also done =
-    let same = one_list look from list other first second in
-    let same_next = one_next list.continuation next other_next goes_on
-    (ap (λ (l : ContinuedList). l.continuation) same ∙ also_on) in
+    let same : list ≡ other = cc in
+    let same_next : next ≡ other_next = cc in
     let behind = one_chain_from look next.0 before others at to last end lead is ends
     (subst (λ (n : TypeIndex). Lead look n.0 others to) (sym same_next) also_lead) also done in
     ap (λ (l : ContinuedList). l ∷ (before ++ last ∷ [])) same ∙ ap (λ (all : List ContinuedList). other ∷ all) behind
-
-one_chain : (look : LookUp) (index : ℕ) (lists others : List ContinuedList) → IsChain look index lists
-    → IsChain look index others → lists ≡ others
-one_chain look index lists others chain other =
-    chain.are
-    ∙ one_chain_from look index chain.before other.before chain.at other.at chain.last other.last chain.lead
-    chain.is_last chain.ends other.lead other.is_last other.ends
-    ∙ sym other.are
 
 pub chain_answer : (look : LookUp) (index : ℕ) → IsChainAnswer look index
 chain_answer look index =
     let has = has_chain (suc index) look index (omega arith) in
     record {
       joined = chain_fields look index;
-      chained = λ fields is. fields_chained look index fields is has;
-      one = one_chain look index;
+      chained = λ fields is. elim has [
+        | inl (lists, chain) ↦ (lists, chain, (let whole = chain_fields look index lists chain in cc))
+        | inr (refusal, broken) ↦ absurd (let bad = chain_refused look index refusal broken in cc)
+      ];
+      one = λ lists others chain other. chain.are
+          ∙ one_chain_from look index chain.before other.before chain.at other.at chain.last other.last chain.lead
+          chain.is_last chain.ends other.lead other.is_last other.ends
+          ∙ sym other.are;
       refused = chain_refused look index;
-      broken = λ refusal is. fields_broken look index refusal is has;
-      never_both = λ lists refusal chain broken. ok_is_no_err (flat_map (λ list. list.fields) lists) refusal
-          (sym (chain_fields look index lists chain) ∙ chain_refused look index refusal broken);
+      broken = λ refusal is. elim has [
+        | inl (lists, chain) ↦ absurd (let whole = chain_fields look index lists chain in cc)
+        | inr (other, broken) ↦
+            let bad = chain_refused look index other broken in
+            let same : other ≡ refusal = cc in
+            subst (Breaks look index) same broken
+      ];
+      never_both = λ lists refusal chain broken.
+          let whole = chain_fields look index lists chain in
+          let bad = chain_refused look index refusal broken in
+          cc;
     }

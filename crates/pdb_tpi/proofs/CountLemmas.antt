@@ -1,6 +1,6 @@
 -- How many lengths a walk reads.
-use Rattle.std.proofs.Common.{◌≡◌, ℕ, add-zero, ◌+◌, ◌-◌, ◌≤◌, ◌<◌, ◌||◌, Bool, true, false, leb, ltb, cond, List}
-use Rattle.std.proofs.Common.{length, refl, sym, ap, ◌∙◌, arith, Ok, inl, inr}
+use Rattle.std.proofs.Common.{◌≡◌, ℕ, add-zero, ◌+◌, ◌-◌, ◌≤◌, ◌<◌, Bool, true, false, leb, cond, List, length, refl}
+use Rattle.std.proofs.Common.{sym, ap, ◌∙◌, arith, Ok, inl, inr}
 use Rattle.std.proofs.lemmas.Bool.{cases_lt, le-ltb, lt-ltb}
 use Rattle.std.proofs.lemmas.Option.{slice_get_within}
 use Rattle.pdb_base.specs.Count.{one_more, after_calls}
@@ -17,26 +17,7 @@ nth_within table n item e = slice_get_within (walk table) n item (nth_ok table n
 -- an item's length is read
 pub reads_item : (stand : WalkPosition) (calls : ℕ) → steps_taken stand < length (walk stand.table)
     → reads_one stand calls ≡ one_more calls
-reads_item stand calls within = let here : ltb (steps_taken stand) (length (walk stand.table)) ≡ true =
-    lt-ltb (steps_taken stand) (length (walk stand.table)) within in rw here refl
-
--- the lengths up to an item of the walk
-pub reads_found : (table : Table) (from steps : ℕ) → from + steps < length (walk table)
-    → reads_between table from (from + steps) ≡ steps + 1
-unfolding reads_between
-reads_found table from steps within =
-    let here : ltb (from + steps) (length (walk table)) ≡ true = lt-ltb (from + steps) (length (walk table)) within in
-    rw here (omega arith)
-
--- and those up to where the walk stops
-pub reads_stopped : (table : Table) (from steps done : ℕ) → length (walk table) ≡ from + done → done ≤ steps
-    → reads_between table from (from + steps) ≡ done + cond (leb 2 (length (walk_rest table))) 1 0
-unfolding reads_between
-reads_stopped table from steps done all le =
-    let here : ltb (from + steps) (length (walk table)) ≡ false =
-    le-ltb (from + steps) (length (walk table)) (omega arith) in
-    rw here (let less : length (walk table) - from ≡ done = omega arith in
-    ap (λ (n : ℕ). n + cond (leb 2 (length (walk_rest table))) 1 0) less)
+reads_item stand calls within = rw (lt-ltb (steps_taken stand) (length (walk stand.table)) within) refl
 
 stops_by : (test : Bool) (calls done : ℕ)
     → cond test (one_more (after_calls done calls)) (after_calls done calls) ≡ after_calls (done + cond test 1 0) calls
@@ -49,25 +30,26 @@ pub last_count : (start now : WalkPosition) (steps done calls : ℕ) → now.tab
     → (steps_taken now < length (walk now.table) → done ≡ steps)
     → reads_one now (after_calls done calls) ≡ after_calls
     (reads_between start.table (steps_taken start) (steps_taken start + steps)) calls
+unfolding reads_between
 last_count start now steps done calls table place reached le last =
+    let to = steps_taken start + steps in
     let same : length (walk now.table) ≡ length (walk start.table) = ap (λ (t : Table). length (walk t)) table in
     elim (cases_lt (steps_taken now) (length (walk now.table))) [
       | inl within ↦
           let whole : done ≡ steps = last within in
-          reads_item now (after_calls done calls) within
-          ∙ one_call calls done
-          ∙ ap (λ (n : ℕ). after_calls n calls) (ap (λ (n : ℕ). n + 1) whole
-          ∙ sym (reads_found start.table (steps_taken start) steps (omega (arith, same, whole, place, within))))
+          let there : to < length (walk start.table) = omega (arith, same, whole, place, within) in
+          let reads : to - steps_taken start + 1 ≡ done + 1 = omega (arith, whole) in
+          reads_item now (after_calls done calls) within ∙ one_call calls done
+          ∙ rw (lt-ltb to (length (walk start.table)) there, reads) refl
       | inr stops ↦
-          let here : ltb (steps_taken now) (length (walk now.table)) ≡ false =
-          le-ltb (steps_taken now) (length (walk now.table)) stops in
           let rests : length (walk_rest now.table) ≡ length (walk_rest start.table) =
           ap (λ (t : Table). length (walk_rest t)) table in
-          ap (λ (b : Bool). cond (b || leb 2 (length (walk_rest now.table))) (one_more (after_calls done calls))
-          (after_calls done calls)) here
-          ∙ ap (λ (n : ℕ). cond (leb 2 n) (one_more (after_calls done calls)) (after_calls done calls)) rests
-          ∙ stops_by (leb 2 (length (walk_rest start.table))) calls done
-          ∙ ap (λ (n : ℕ). after_calls n calls) (sym
-          (reads_stopped start.table (steps_taken start) steps done
-          (omega (arith, same, place, stops, reached)) le))
+          let all : length (walk start.table) ≡ steps_taken start + done = omega (arith, same, place, stops, reached) in
+          let less : length (walk start.table) - steps_taken start ≡ done = omega (arith, all) in
+          rw (
+            le-ltb (steps_taken now) (length (walk now.table)) stops,
+            rests,
+            le-ltb to (length (walk start.table)) (omega (arith, all, le)),
+            less,
+          ) (stops_by (leb 2 (length (walk_rest start.table))) calls done)
     ]

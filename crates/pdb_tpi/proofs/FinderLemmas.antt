@@ -1,16 +1,12 @@
 -- What a finder knows, and what a look-up answers.
 use Rattle.std.proofs.Common.{◌≡◌, ℕ, ◌+◌, ◌-◌, ◌*◌, ◌/◌, ◌%◌, ◌≤◌, ◌<◌, ◌&&◌, Bool, true, false, leb, ltb, cond, List}
-use Rattle.std.proofs.Common.{[], ◌∷◌, ◌++◌, length, map, take, get_or, min, max, refl, sym, ap, subst, ◌∙◌, arith}
-use Rattle.std.proofs.Common.{◌⊎◌, inl, inr, Option, Some, None, Ok}
-use Rattle.std.specs.Prelude.{IfSome}
-use Rattle.std.proofs.lemmas.Bool.{cases_lt, le-ltb, lt-ltb, false≢true}
-use Rattle.std.proofs.lemmas.Bool.Decides.{nat_tests}
+use Rattle.std.proofs.Common.{[], ◌∷◌, ◌++◌, length, map, take, get_or, min, max, refl, sym, ap, subst, ◌∙◌, arith, inl}
+use Rattle.std.proofs.Common.{inr, Some, Ok}
+use Rattle.std.proofs.lemmas.Bool.{cases_lt, le-ltb, lt-ltb, lt-leb, le-leb, and_from, cond_both}
 use Rattle.std.proofs.lemmas.List.{get_or_push, get_or_append_left, length_push}
 use Rattle.std.proofs.lemmas.List.Folds.{fold-map}
 use Rattle.std.proofs.lemmas.List.Sums.{fold_more}
 use Rattle.pdb_base.specs.Count.{after_calls}
-use Rattle.pdb_base.specs.Refusal.{type_not_found}
-use Rattle.pdb_base.proofs.lemmas.Collected.{ok, err, ok_is, ok_is_no_err}
 use Rattle.pdb_base.proofs.lemmas.Count.{few_calls}
 use Rattle.pdb_tpi.specs.Table.{Table, IsTable, count_in_header}
 use Rattle.pdb_tpi.specs.Steps.{WalkPosition, walk, walk_rest, nth_item}
@@ -103,32 +99,24 @@ block_learned table positions capacity block end places is some place below =
 
 -- ---- what a look-up in a known block answers
 
+pub has_counted : (table : Table) (i : ℕ) → table.header.minimum_index ≤ i → i < table.header.maximum_index
+    → has_index table i ≡ true
+has_counted table i least most = and_from _ _ (le-leb table.header.minimum_index i least)
+    (lt-ltb i table.header.maximum_index most)
+
 pub find_known : (table : Table) (known i first : ℕ) → first ≡ table.header.minimum_index → first ≤ i
     → i < table.header.maximum_index → (i - first) / 8 < known → find_of table known i ≡ nth_item table (i - first)
 unfolding find_of item_of
 find_known table known i first e least below within =
     let place : i - first ≡ i - table.header.minimum_index = ap (λ (n : ℕ). i - n) e in
     let block : block_of table i < known = rw (← place) within in
-    let last : ltb i table.header.maximum_index ≡ true = lt-ltb i table.header.maximum_index below in
-    let above : ltb i table.header.minimum_index ≡ false = le-ltb i table.header.minimum_index (omega arith) in
-    let counted : leb table.header.minimum_index i ≡ true = grind (arith, nat_tests) in
-    let test : leb known (block_of table i) ≡ false = grind (arith, nat_tests) in
-    let before : leb table.header.maximum_index i ≡ false = grind (arith, nat_tests) in
-    rw (counted, last, test, above, before, place) refl
-
--- and reads: the lengths from the start of the block on
-pub reads_known : (table : Table) (known i first held : ℕ) → first ≡ table.header.minimum_index → first ≤ i
-    → i < table.header.maximum_index → (i - first) / 8 < known → held ≡ known
-    → reads_of table known i ≡ reads_between table (8 * min ((i - first) / 8) (held - 1)) (i - first)
-unfolding reads_of
-reads_known table known i first held e least below within same =
-    let place : i - first ≡ i - table.header.minimum_index = ap (λ (n : ℕ). i - n) e in
-    let block : block_of table i < known = rw (← place) within in
-    let start : min ((i - first) / 8) (held - 1) ≡ (i - first) / 8 = omega arith in
-    let last : ltb i table.header.maximum_index ≡ true = lt-ltb i table.header.maximum_index below in
-    let counted : leb table.header.minimum_index i ≡ true = grind (arith, nat_tests) in
-    let test : ltb (block_of table i) known ≡ true = lt-ltb (block_of table i) known block in
-    rw (counted, last, test, start, place) refl
+    rw (
+      has_counted table i (omega arith) below,
+      lt-leb known (block_of table i) block,
+      le-ltb i table.header.minimum_index (omega arith),
+      lt-leb table.header.maximum_index i below,
+      place,
+    ) refl
 
 -- ---- the walk within a block
 
@@ -136,53 +124,29 @@ reads_known table known i first held e least below within same =
 pub within_block : (place : ℕ) → (8 * (place / 8) + place % 8 ≡ place) × (place % 8 < 8)
 within_block place = (omega arith, omega arith)
 
-few_stopped : (test : Bool) (done steps : ℕ) → done ≤ steps → done + cond test 1 0 ≤ steps + 1
-few_stopped true done steps le = omega arith
-few_stopped false done steps le = omega arith
+one_at_most : (test : Bool) → cond test 1 0 ≤ 1
+one_at_most true = omega arith
+one_at_most false = omega arith
 
 few_between : (table : Table) (from to : ℕ) → from ≤ to → reads_between table from to ≤ to - from + 1
 unfolding reads_between
 few_between table from to le = elim (cases_lt to (length (walk table))) [
-  | inl within ↦ let here : ltb to (length (walk table)) ≡ true = lt-ltb to (length (walk table)) within in
-      rw here (omega arith)
-  | inr stops ↦
-      let here : ltb to (length (walk table)) ≡ false = le-ltb to (length (walk table)) stops in
-      rw here (few_stopped (leb 2 (length (walk_rest table))) (length (walk table) - from) (to - from) (omega arith))
+  | inl within ↦ rw (lt-ltb to (length (walk table)) within) (omega arith)
+  | inr stops ↦ rw (le-ltb to (length (walk table)) stops)
+      (omega (arith, one_at_most (leb 2 (length (walk_rest table)))))
 ]
-
-few_reads_by : (table : Table) (known i : ℕ) (test : Bool)
-    → cond test (reads_between table (8 * block_of table i) (i - table.header.minimum_index)) 0 ≤ 8
-few_reads_by table known i false = omega arith
-few_reads_by table known i true =
-    let place = i - table.header.minimum_index in
-    let in_block = within_block place in
-    omega (arith, in_block.0, in_block.1, few_between table (8 * block_of table i) place (omega (arith, in_block.0)))
 
 -- a look-up reads eight lengths at most
 pub few_reads : (table : Table) (known i : ℕ) → reads_of table known i ≤ 8
 unfolding reads_of
-few_reads table known i = few_reads_by table known i (has_index table i && ltb (block_of table i) known)
-
--- and so does the walk from a known block to a place in it
-pub few_in_block : (table : Table) (place known calls : ℕ) → place / 8 < known
-    → after_calls (reads_between table (8 * min (place / 8) (known - 1)) place) calls ≤ calls + 8
-few_in_block table place known calls within =
-    let block : min (place / 8) (known - 1) ≡ place / 8 = omega arith in
-    let place_in = within_block place in
-    rw block
-    (omega (
-      arith,
-      place_in.0,
-      place_in.1,
-      few_between table (8 * (place / 8)) place (omega (arith, place_in.0)),
-      few_calls (reads_between table (8 * (place / 8)) place) calls,
-    ))
+few_reads table known i =
+    let place = i - table.header.minimum_index in
+    let in_block = within_block place in
+    let few = few_between table (8 * block_of table i) place (omega (arith, in_block.0)) in
+    cond_both (has_index table i && ltb (block_of table i) known) _ 0 (λ n. n ≤ 8)
+    (λ _. omega (arith, in_block.0, in_block.1, few)) (λ _. omega arith)
 
 -- ---- several iterators
-
-pub known_start : (table : Table) (known : ℕ) → known_of table known [] ≡ known
-unfolding known_of
-known_start table known = refl
 
 pub known_next : (table : Table) (known : ℕ) (shown : List WalkPosition) (i : ℕ) (d : WalkPosition) → i < length shown
     → known_of table known (map (λ (s : WalkPosition). s.index) (take (i + 1) shown))
@@ -198,7 +162,7 @@ known_next table known shown i d within =
 -- ---- what is learned
 
 -- each block that is known is one that the walk reaches
-pub known_reached : (table : Table) (positions : List ℕ) (capacity : ℕ) → ArePlaces table positions capacity
+known_reached : (table : Table) (positions : List ℕ) (capacity : ℕ) → ArePlaces table positions capacity
     → length positions ≤ last_reached table + 1
 known_reached table positions capacity places = elim (cases_lt 0 (length positions)) [
   | inr none ↦ omega (arith, none)
@@ -207,70 +171,23 @@ known_reached table positions capacity places = elim (cases_lt 0 (length positio
       omega (arith, reached, some)
 ]
 
-pub has_counted : (table : Table) (i : ℕ) → table.header.minimum_index ≤ i → i < table.header.maximum_index
-    → has_index table i ≡ true
-has_counted table i least most =
-    let last : ltb i table.header.maximum_index ≡ true = lt-ltb i table.header.maximum_index most in
-    let above : ltb i table.header.minimum_index ≡ false = le-ltb i table.header.minimum_index least in
-    let counted : leb table.header.minimum_index i ≡ true = grind (arith, nat_tests) in
-    rw (counted, last) refl
-
-and_false : (test : Bool) → (test && false) ≡ false
-and_false true = refl
-and_false false = refl
-
-has_not : (table : Table) (i : ℕ) → (i < table.header.minimum_index) ⊎ (table.header.maximum_index ≤ i)
-    → has_index table i ≡ false
-has_not table i (inl below) =
-    let before : ltb i table.header.minimum_index ≡ true = lt-ltb i table.header.minimum_index below in
-    let counted : leb table.header.minimum_index i ≡ false = grind (arith, nat_tests) in
-    rw counted refl
-has_not table i (inr above) =
-    let last : ltb i table.header.maximum_index ≡ false = le-ltb i table.header.maximum_index above in
-    rw last (and_false (leb table.header.minimum_index i))
-
--- So many blocks are known once those up to that of an index are learned.
-pub record IsUpTo (table : Table) (old i now : ℕ) : Type 0 where
-  pub next : now ≡ known_up_to table old i
-  pub learned : IsLearned table now i
-
--- nothing is learned for an index that isn't counted
-pub up_to_not : (table : Table) (old i : ℕ) → (i < table.header.minimum_index) ⊎ (table.header.maximum_index ≤ i)
-    → IsUpTo table old i old
-up_to_not table old i out =
-    let not = has_not table i out in
-    record { next = rw not refl; learned = λ counted. absurd (false≢true (sym not ∙ counted)) }
-
--- and otherwise the blocks up to that of the index, or up to the last one that the walk reaches
-pub up_to_is : (table : Table) (old i now : ℕ) → table.header.minimum_index ≤ i → i < table.header.maximum_index
-    → old ≤ now → now ≤ max old (block_of table i + 1) → now ≤ last_reached table + 1
-    → (block_of table i < now) ⊎ (last_reached table < now) → IsUpTo table old i now
-up_to_is table old i now least most grown within reached (inl whole) =
-    let counted = has_counted table i least most in
-    record {
-      next = rw counted (omega (arith, grown, within, reached, whole));
-      learned = λ has. omega (arith, whole);
-    }
-up_to_is table old i now least most grown within reached (inr stops) =
-    let counted = has_counted table i least most in
-    record {
-      next = rw counted (omega (arith, grown, within, reached, stops));
-      learned = λ has. omega (arith, stops);
-    }
+-- so many blocks are known once those up to that of an index are learned, as far as the walk reaches
+pub up_to_is : (table : Table) (positions : List ℕ) (capacity old i : ℕ) → ArePlaces table positions capacity
+    → table.header.minimum_index ≤ i → i < table.header.maximum_index → old ≤ length positions
+    → length positions ≤ max old (block_of table i + 1)
+    → min (block_of table i) (last_reached table) < length positions → length positions ≡ known_up_to table old i
+up_to_is table positions capacity old i places least most grown within learned =
+    let reached = known_reached table positions capacity places in
+    rw (has_counted table i least most) (omega (arith, grown, within, reached, learned))
 
 -- ---- what a look-up in the whole table reads
-
-few_behind : (test : Bool) (walked from : ℕ) → walked < 8 * (from + 1) → walked - 8 * from + cond test 1 0 ≤ 8
-few_behind true walked from within = omega (arith, within)
-few_behind false walked from within = omega (arith, within)
 
 -- behind the last block that the walk reaches
 few_stopping : (table : Table) (from to : ℕ) → length (walk table) < 8 * (from + 1) → length (walk table) ≤ to
     → reads_between table (8 * from) to ≤ 8
 unfolding reads_between
-few_stopping table from to within stops =
-    let here : ltb to (length (walk table)) ≡ false = le-ltb to (length (walk table)) stops in
-    rw here (few_behind (leb 2 (length (walk_rest table))) (length (walk table)) from within)
+few_stopping table from to within stops = rw (le-ltb to (length (walk table)) stops)
+    (omega (arith, within, one_at_most (leb 2 (length (walk_rest table)))))
 
 few_learned : (table : Table) (known place : ℕ) → min (place / 8) (last_reached table) < known
     → reads_between table (8 * min (place / 8) (known - 1)) place ≤ 8
@@ -291,21 +208,23 @@ few_learned table known place learned =
           (omega (arith, learned, behind)))
     ]
 
-few_from_by : (table : Table) (known i : ℕ) (test : Bool)
-    → (test ≡ true → min (block_of table i) (last_reached table) < known)
-    → cond test (reads_between table (8 * min (block_of table i) (known - 1)) (i - table.header.minimum_index)) 0 ≤ 8
-few_from_by table known i true learned = few_learned table known (i - table.header.minimum_index) (learned refl)
-few_from_by table known i false learned = omega arith
+-- and so does the walk from a known block to a place in it
+pub few_in_block : (table : Table) (place known calls now : ℕ)
+    → now ≡ after_calls (reads_between table (8 * min (place / 8) (known - 1)) place) calls → place / 8 < known
+    → now ≤ calls + 8
+few_in_block table place known calls now counted within =
+    omega (
+      arith,
+      counted,
+      few_learned table known place (omega (arith, within)),
+      few_calls (reads_between table (8 * min (place / 8) (known - 1)) place) calls,
+    )
 
 -- eight lengths at most, once nothing is left to learn for it
 pub few_reads_from : (table : Table) (known i : ℕ) → IsLearned table known i → reads_from table known i ≤ 8
 unfolding reads_from
-few_reads_from table known i learned = few_from_by table known i (has_index table i) learned
-
-pub few_from : (table : Table) (known i calls : ℕ) → IsLearned table known i
-    → after_calls (reads_from table known i) calls ≤ calls + 8
-few_from table known i calls learned =
-    omega (arith, few_reads_from table known i learned, few_calls (reads_from table known i) calls)
+few_reads_from table known i learned = cond_both (has_index table i) _ 0 (λ n. n ≤ 8)
+    (λ has. few_learned table known (i - table.header.minimum_index) (learned has)) (λ _. omega arith)
 
 -- ---- the place of an index
 
@@ -315,53 +234,33 @@ pub record IsPlaced (table : Table) (i place : ℕ) : Type 0 where
   pub most : i < table.header.maximum_index
   pub is : i - table.header.minimum_index ≡ place
 
-placed_by : (table : Table) (i : ℕ) (answer : Option ℕ) (below above : Bool) → ltb i table.header.minimum_index ≡ below
-    → leb table.header.maximum_index i ≡ above
-    → cond below (ok None) (cond above (err (type_not_found i)) (ok (Some (i - table.header.minimum_index))))
-    ≡ Ok answer
-    → IfSome answer (IsPlaced table i)
-placed_by table i answer true above below_is above_is e = subst (λ (o : Option ℕ). IfSome o (IsPlaced table i))
-    (ok_is {A = Option ℕ} None answer e) tt
-placed_by table i answer false true below_is above_is e = absurd (ok_is_no_err answer (type_not_found i) (sym e))
-placed_by table i answer false false below_is above_is e =
-    let least : table.header.minimum_index ≤ i = grind (arith, nat_tests) in
-    let most : i < table.header.maximum_index = grind (arith, nat_tests) in
-    subst (λ (o : Option ℕ). IfSome o (IsPlaced table i))
-    (ok_is {A = Option ℕ} (Some (i - table.header.minimum_index)) answer e)
-    (record { least = least; most = most; is = refl })
+pub placed : (table : Table) (i place : ℕ) → place_in_walk table i ≡ Ok (Some place) → IsPlaced table i place
+placed table i place e = elim (cases_lt i table.header.minimum_index) [
+  | inl below ↦ absurd (let none = rw (lt-ltb i table.header.minimum_index below) at e in cc)
+  | inr least ↦ elim (cases_lt i table.header.maximum_index) [
+    | inl most ↦
+        let there = rw (
+          le-ltb i table.header.minimum_index least,
+          lt-leb table.header.maximum_index i most,
+        ) at e in
+        record { least = least; most = most; is = cc }
+    | inr past ↦
+        let out = rw (le-ltb i table.header.minimum_index least, le-leb table.header.maximum_index i past) at e in
+        absurd cc
+  ]
+]
 
-pub placed : (table : Table) (i : ℕ) (answer : Option ℕ) → place_in_walk table i ≡ Ok answer
-    → IfSome answer (IsPlaced table i)
-placed table i answer e = placed_by table i answer (ltb i table.header.minimum_index)
-    (leb table.header.maximum_index i) refl refl e
-
--- the item of an index with a place is that of the walk
-pub item_placed : (table : Table) (i place : ℕ) → IsPlaced table i place → item_of table i ≡ nth_item table place
-unfolding item_of
-item_placed table i place is =
-    let least = is.least in
-    let most = is.most in
-    let above : ltb i table.header.minimum_index ≡ false = le-ltb i table.header.minimum_index least in
-    let last : ltb i table.header.maximum_index ≡ true = lt-ltb i table.header.maximum_index most in
-    let before : leb table.header.maximum_index i ≡ false = grind (arith, nat_tests) in
-    rw (above, before, is.is) refl
-
--- and so many lengths are read
-pub reads_placed : (table : Table) (known i place : ℕ) → IsPlaced table i place
-    → reads_from table known i ≡ reads_between table (8 * min (place / 8) (known - 1)) place
-unfolding reads_from
-reads_placed table known i place is = rw (has_counted table i is.least is.most, is.is) refl
-
--- so eight at most, once nothing is left to learn for it
-pub few_placed : (table : Table) (known held i place calls now : ℕ) → place_in_walk table i ≡ Ok (Some place)
-    → held ≡ known → now ≡ after_calls (reads_between table (8 * min (place / 8) (held - 1)) place) calls
-    → IsLearned table known i → now ≤ calls + 8
-few_placed table known held i place calls now found same counted learned =
-    let is : IsPlaced table i place = placed table i (Some place) found in
-    let start : 8 * min (place / 8) (held - 1) ≡ 8 * min (place / 8) (known - 1) =
-    ap (λ (n : ℕ). 8 * min (place / 8) (n - 1)) same in
-    let reads = reads_placed table known i place is in
-    let read : now ≡ after_calls (reads_from table known i) calls =
-    counted ∙ ap (λ (n : ℕ). after_calls (reads_between table n place) calls) start
-    ∙ sym (ap (λ (n : ℕ). after_calls n calls) reads) in
-    omega (arith, read, few_from table known i calls learned)
+-- eight lengths at most are read for it, once nothing is left to learn
+pub few_placed : (table : Table) (positions held : List ℕ) (i place calls now : ℕ)
+    → place_in_walk table i ≡ Ok (Some place) → held ≡ positions
+    → now ≡ after_calls (reads_between table (8 * min (place / 8) (length held - 1)) place) calls
+    → IsLearned table (length positions) i → now ≤ calls + 8
+few_placed table positions held i place calls now found same counted learned =
+    let is = placed table i place found in
+    let block : min (place / 8) (last_reached table) < length positions =
+    rw (← is.is) (learned (has_counted table i is.least is.most)) in
+    rw (counted, same) (omega (
+      arith,
+      few_learned table (length positions) place block,
+      few_calls (reads_between table (8 * min (place / 8) (length positions - 1)) place) calls,
+    ))

@@ -1,8 +1,7 @@
 -- The item at the front of bytes: what is known where it is there.
-use Rattle.std.proofs.Common.{◌≡◌, ℕ, ◌+◌, ◌≤◌, ◌<◌, inl, inr, true, false, leb, List, [], length, take, drop}
-use Rattle.std.proofs.Common.{refl, sym, ap, ◌∙◌, arith, Ok, Err}
-use Rattle.std.proofs.lemmas.Bool.{cases_lt}
-use Rattle.std.proofs.lemmas.Bool.Decides.{nat_tests}
+use Rattle.std.proofs.Common.{◌≡◌, ℕ, ◌+◌, ◌≤◌, ◌<◌, inl, inr, leb, List, [], length, take, drop, refl, sym, ap, ◌∙◌}
+use Rattle.std.proofs.Common.{arith, Ok, Err}
+use Rattle.std.proofs.lemmas.Bool.{cases_lt, le-leb, leb-true, lt-leb}
 use Rattle.std.proofs.lemmas.List.{length-take-le, length-drop}
 use Rattle.byteorder.specs.Endian.{little_number}
 use Rattle.pdb_base.specs.Refusal.{unexpected_eof, type_too_short}
@@ -47,9 +46,8 @@ front_item bytes item e = elim (cases_lt (length bytes) 2) [
       let is : take word behind ≡ item = sym (ap (λ (x : List ℕ × List ℕ). x.0) whole.1)
       ∙ ok_is front.0.0 item front.2 in
       let len : length item ≡ word = sym (ap (λ (x : List ℕ). length x) is) ∙ length-take-le word behind whole.0 in
-      let test : leb 2 word ≡ true = required_holds (leb 2 word) type_too_short kind.0 kind.1 in
       record {
-        kind = let least : 2 ≤ word = grind (arith, nat_tests) in omega arith;
+        kind = omega (arith, len, leb-true 2 word (required_holds (leb 2 word) type_too_short kind.0 kind.1));
         within = omega (arith, whole.0, len, length-drop 2 bytes);
         word = sym len;
         is = sym is ∙ ap (λ (n : ℕ). take n behind) (sym len);
@@ -60,10 +58,9 @@ pub item_front : (bytes item : List ℕ) → IsPrefix bytes item → first_item 
 unfolding first_item
 item_front bytes item front =
     let long : 2 ≤ length bytes = let w = front.within in omega arith in
-    let kind : leb 2 (length item) ≡ true = let k = front.kind in grind (arith, nat_tests) in
     let behind : length item ≤ length (drop 2 bytes) = let w = front.within in omega (arith, length-drop 2 bytes) in
-    rw (number_whole 2 bytes long, front.word, kind, front_whole (length item) (drop 2 bytes) behind)
-    (ap (λ (x : List ℕ). ok x) (sym front.is))
+    rw (number_whole 2 bytes long, front.word, le-leb 2 (length item) front.kind)
+    (rw (front_whole (length item) (drop 2 bytes) behind) (ap (λ (x : List ℕ). ok x) (sym front.is)))
 
 -- no item is at the front of no bytes
 pub empty_front : first_item [] ≡ Err unexpected_eof
@@ -80,15 +77,12 @@ pub unkind_front : (bytes : List ℕ) → 2 ≤ length bytes → little_number 2
     → first_item bytes ≡ Err type_too_short
 unfolding first_item
 unkind_front bytes long few =
-    let word = little_number 2 (take 2 bytes) in
-    let kind : leb 2 word ≡ false = grind (arith, nat_tests) in
-    rw (number_whole 2 bytes long, kind) refl
+    rw (number_whole 2 bytes long, lt-leb 2 (little_number 2 (take 2 bytes)) few) refl
 
 pub cut_front : (bytes : List ℕ) → 2 ≤ little_number 2 (take 2 bytes) → 2 ≤ length bytes
     → length bytes < 2 + little_number 2 (take 2 bytes) → first_item bytes ≡ Err unexpected_eof
 unfolding first_item
 cut_front bytes some long cut =
     let word = little_number 2 (take 2 bytes) in
-    let kind : leb 2 word ≡ true = grind (arith, nat_tests) in
     let short : length (drop 2 bytes) < word = omega (arith, length-drop 2 bytes) in
-    rw (number_whole 2 bytes long, kind, front_cut word (drop 2 bytes) short) refl
+    rw (number_whole 2 bytes long, le-leb 2 word some, front_cut word (drop 2 bytes) short) refl

@@ -1,9 +1,9 @@
 -- The blocks that are known are the most that were shown in their order.
-use Rattle.std.proofs.Common.{◌≡◌, ℕ, suc, ◌+◌, ◌-◌, ◌<◌, ◌&&◌, Bool, true, false, ltb, eqb, List, [], ◌∷◌, ◌++◌, map}
-use Rattle.std.proofs.Common.{refl, sym, ap, subst, ◌∙◌, arith, inl, inr}
+use Rattle.std.proofs.Common.{◌≡◌, ℕ, suc, ◌+◌, ◌-◌, ◌<◌, ◌&&◌, true, false, ltb, eqb, List, [], ◌∷◌, ◌++◌, map, refl}
+use Rattle.std.proofs.Common.{sym, ap, subst, ◌∙◌, arith, inl, inr}
 use Rattle.std.specs.List.{fold, range_with_len}
-use Rattle.std.proofs.lemmas.Bool.{cases_lt, lt-ltb, eq-eqb, false≢true}
-use Rattle.std.proofs.lemmas.Bool.Decides.{nat_tests}
+use Rattle.std.proofs.lemmas.Bool.{and_from, and_parts, cases_Bool, cases_lt, eq-eqb, eqb-true, false≢true, lt-ltb}
+use Rattle.std.proofs.lemmas.Bool.{ltb-true}
 use Rattle.std.proofs.lemmas.List.{append_assoc}
 use Rattle.pdb_tpi.specs.Table.{Table}
 use Rattle.pdb_tpi.specs.Finder.{first_of_block, known_after, known_of, StandIn, AreShown, IsKnown}
@@ -36,13 +36,6 @@ firsts_more : (table : Table) (old known : ℕ) → old < known → firsts_from 
     ∷ firsts_from table (old + 1) known
 firsts_more table old known more = let count : known - old ≡ suc (known - (old + 1)) = omega arith in rw count refl
 
-none_shown : (table : Table) (old : ℕ) (shown : List ℕ) → AreShown table old shown old
-none_shown table old shown = record {
-  more = omega arith;
-  below = λ block from to. absurd (omega arith);
-  in_order = let none : old - old ≡ 0 = omega arith in rw none tt;
-}
-
 no_place : (before behind : List ℕ) (first : ℕ) → [] ≡ before ++ first ∷ behind → ⊥
 no_place [] behind first is = cc
 no_place (b ∷ before) behind first is = cc
@@ -50,14 +43,13 @@ no_place (b ∷ before) behind first is = cc
 -- more blocks begin with the first of them
 shown_first : (table : Table) (old known : ℕ) (shown : List ℕ) → AreShown table old shown known → old < known
     → StandIn (first_of_block table old ∷ firsts_from table (old + 1) known) shown
-shown_first table old known shown are more = let P : List ℕ → Type 0 = λ fs. StandIn fs shown in
-    subst P (firsts_more table old known more) are.in_order
+shown_first table old known shown are more =
+    subst (λ (firsts : List ℕ). StandIn firsts shown) (firsts_more table old known more) are.in_order
 
 shown_with : (table : Table) (old known : ℕ) (shown : List ℕ) → old < known
     → StandIn (first_of_block table old ∷ firsts_from table (old + 1) known) shown
     → StandIn (firsts_from table old known) shown
-shown_with table old known shown more in_order = let P : List ℕ → Type 0 = λ fs. StandIn fs shown in
-    subst P (sym (firsts_more table old known more)) in_order
+shown_with table old known shown more in_order = rw (firsts_more table old known more) in_order
 
 -- ---- one more iterator
 
@@ -121,7 +113,11 @@ known_later table old i shown known other ih = record {
 
 known_none : (table : Table) (old : ℕ) → IsKnown table old [] old
 known_none table old = record {
-  reached = none_shown table old [];
+  reached = record {
+    more = omega arith;
+    below = λ block from to. absurd (omega arith);
+    in_order = let none : old - old ≡ 0 = omega arith in rw none tt;
+  };
   most = λ other are. elim (cases_lt old other) [
     | inr few ↦ few
     | inl some ↦ let first = shown_first table old other [] are some in
@@ -129,30 +125,19 @@ known_none table old = record {
   ];
 }
 
-not_both : (table : Table) (old i : ℕ) → eqb i (first_of_block table old) && ltb i table.header.maximum_index ≡ false
-    → i ≡ first_of_block table old → i < table.header.maximum_index → ⊥
-not_both table old i test is below =
-    let same : eqb i (first_of_block table old) ≡ true = eq-eqb i (first_of_block table old) is in
-    let less : ltb i table.header.maximum_index ≡ true = lt-ltb i table.header.maximum_index below in
-    false≢true (sym test ∙ rw (same, less) refl)
-
-known_by : (table : Table) (old i : ℕ) (shown : List ℕ) (test : Bool) → eqb i (first_of_block table old)
-    && ltb i table.header.maximum_index ≡ test
-    → ((from : ℕ) → IsKnown table from shown (fold (known_after table) from shown))
-    → IsKnown table old (i ∷ shown) (fold (known_after table) (known_after table old i) shown)
-known_by table old i shown true test ih =
-    let is : i ≡ first_of_block table old = grind (arith, nat_tests) in
-    let below : i < table.header.maximum_index = grind (arith, nat_tests) in
-    rw test (known_here table old i shown (fold (known_after table) (old + 1) shown) is below (ih (old + 1)))
-known_by table old i shown false test ih =
-    let other : i ≡ first_of_block table old → i < table.header.maximum_index → ⊥ =
-    λ is below. not_both table old i test is below in
-    rw test (known_later table old i shown (fold (known_after table) old shown) other (ih old))
-
 known_is : (table : Table) (shown : List ℕ) (old : ℕ) → IsKnown table old shown (fold (known_after table) old shown)
 known_is table [] old = known_none table old
-known_is table (i ∷ shown) old = known_by table old i shown
-    (eqb i (first_of_block table old) && ltb i table.header.maximum_index) refl (known_is table shown)
+known_is table (i ∷ shown) old =
+    let first = first_of_block table old in
+    elim (cases_Bool (eqb i (first_of_block table old) && ltb i table.header.maximum_index)) [
+      | inl here ↦
+          let tests = and_parts (eqb i first) (ltb i table.header.maximum_index) here in
+          rw here (known_here table old i shown (fold (known_after table) (old + 1) shown) (eqb-true i first tests.0)
+          (ltb-true i table.header.maximum_index tests.1) (known_is table shown (old + 1)))
+      | inr other ↦ rw other (known_later table old i shown (fold (known_after table) old shown)
+          (λ is below. false≢true (sym other ∙ and_from _ _ (eq-eqb i first is)
+          (lt-ltb i table.header.maximum_index below))) (known_is table shown old))
+    ]
 
 pub is_known : (table : Table) (known : ℕ) (shown : List ℕ) → IsKnown table known shown (known_of table known shown)
 unfolding known_of

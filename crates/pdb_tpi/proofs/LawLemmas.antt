@@ -1,6 +1,6 @@
 -- There is exactly one walk, and what else the definitions say.
-use Rattle.std.proofs.Common.{◌≡◌, ◌≢◌, ℕ, zero, suc, ◌+◌, ◌-◌, ◌*◌, ◌%◌, ◌^◌, ◌≤◌, ◌<◌, true, ltb, List, [], ◌∷◌, ◌++◌}
-use Rattle.std.proofs.Common.{length, take, drop, refl, sym, ap, ◌∙◌, arith, Ok, Err, inl, inr}
+use Rattle.std.proofs.Common.{◌≡◌, ℕ, zero, suc, ◌+◌, ◌-◌, ◌*◌, ◌%◌, ◌^◌, ◌≤◌, ◌<◌, List, [], ◌∷◌, ◌++◌, length, take}
+use Rattle.std.proofs.Common.{drop, refl, sym, ap, ◌∙◌, arith, Ok, Err, inl, inr}
 use Rattle.std.specs.Prelude.{IsTrue}
 use Rattle.std.specs.List.{flat_map}
 use Rattle.std.specs.Int.{byte_at}
@@ -11,8 +11,7 @@ use Rattle.std.proofs.lemmas.List.{append-nil, drop-drop}
 use Rattle.byteorder.specs.Endian.{little_bytes, little_number}
 use Rattle.byteorder.specs.Numbers.{length-bytes_low_first, little_number-reads_back}
 use Rattle.pdb_base.specs.Refusal.{Refusal, unexpected_eof, type_too_short}
-use Rattle.pdb_base.specs.Answer.{Answer}
-use Rattle.pdb_base.proofs.lemmas.Collected.{ok_is_no_err}
+use Rattle.pdb_base.proofs.lemmas.Collected.{answer_cases, ok_is_no_err}
 use Rattle.pdb_tpi.specs.Table.{Table}
 use Rattle.pdb_tpi.specs.Walk.{with_length, IsItem, IsWalk, first_item, behind, items, rest}
 use Rattle.pdb_tpi.specs.Steps.{room, body, walk, walk_rest}
@@ -30,10 +29,8 @@ front_of : (head item more : List ℕ) → length head ≡ 2 → little_number 2
     → IsPrefix (head ++ item ++ more) item
 front_of head item more len word kind =
     let all : head ++ item ++ more ≡ head ++ (item ++ more) = append_assoc head item more in
-    let front : take 2 (head ++ (item ++ more)) ≡ head = ap (λ (n : ℕ). take n (head ++ (item ++ more))) (sym len)
-    ∙ take-append_seam head (item ++ more) in
-    let tail : drop 2 (head ++ (item ++ more)) ≡ item ++ more =
-    ap (λ (n : ℕ). drop n (head ++ (item ++ more))) (sym len) ∙ drop-append_seam head (item ++ more) in
+    let front : take 2 (head ++ (item ++ more)) ≡ head = rw (← len) (take-append_seam head (item ++ more)) in
+    let tail : drop 2 (head ++ (item ++ more)) ≡ item ++ more = rw (← len) (drop-append_seam head (item ++ more)) in
     record {
       kind = kind;
       within = omega (
@@ -43,9 +40,8 @@ front_of head item more len word kind =
         length-append item more,
         len,
       );
-      word = ap (λ (l : List ℕ). little_number 2 (take 2 l)) all ∙ ap (little_number 2) front ∙ word;
-      is = sym (ap (λ (l : List ℕ). take (length item) (drop 2 l)) all ∙ ap (take (length item)) tail
-          ∙ take-append_seam item more);
+      word = rw (all, front) word;
+      is = sym (rw (all, tail) (take-append_seam item more));
     }
 
 pub framed_front : (item more : List ℕ) → IsItem item → first_item (with_length item ++ more) ≡ Ok item
@@ -57,25 +53,18 @@ framed_front item more is =
     item_front (with_length item ++ more) item (front_of head item more
     (length-bytes_low_first 0 2 (length item)) word is.least)
 
--- two bytes are those of the number that they say
-two_bytes : (a b : ℕ) → a < 256 → b < 256 → little_bytes 2 (little_number 2 (a ∷ b ∷ [])) ≡ a ∷ b ∷ []
-two_bytes a b fits_a fits_b =
-    let number = a + 256 * (b + 256 * 0) in
-    let low : byte_at 0 number ≡ a = omega arith in
-    let high : byte_at 1 number ≡ b = omega arith in
-    rw (low, high) refl
-
-two_of : (front : List ℕ) → length front ≡ 2 → AreBytes front → little_bytes 2 (little_number 2 front) ≡ front
+-- two bytes are those of the number that they say, which is a u16
+two_of : (front : List ℕ) → length front ≡ 2 → AreBytes front
+    → (little_bytes 2 (little_number 2 front) ≡ front) × (little_number 2 front < 2 ^ 16)
 two_of [] len fits = absurd (omega (arith, len))
 two_of (a ∷ []) len fits = absurd (omega (arith, len))
-two_of (a ∷ b ∷ []) len fits = two_bytes a b fits.0 fits.1.0
+two_of (a ∷ b ∷ []) len fits =
+    let x = fits.0 in
+    let y = fits.1.0 in
+    let low : byte_at 0 (a + 256 * (b + 256 * 0)) ≡ a = omega arith in
+    let high : byte_at 1 (a + 256 * (b + 256 * 0)) ≡ b = omega arith in
+    (rw (low, high) refl, omega arith)
 two_of (a ∷ b ∷ c ∷ more) len fits = absurd (omega (arith, len))
-
-small_of : (front : List ℕ) → length front ≡ 2 → AreBytes front → little_number 2 front < 2 ^ 16
-small_of [] len fits = absurd (omega (arith, len))
-small_of (a ∷ []) len fits = absurd (omega (arith, len))
-small_of (a ∷ b ∷ []) len fits = let x = fits.0 in let y = fits.1.0 in omega arith
-small_of (a ∷ b ∷ c ∷ more) len fits = absurd (omega (arith, len))
 
 bytes_taken : (n : ℕ) (bytes : List ℕ) → AreBytes bytes → AreBytes (take n bytes)
 bytes_taken zero bytes fits = tt
@@ -94,18 +83,15 @@ front_framed bytes item fits e =
     let front = front_item bytes item e in
     let kind = front.kind in
     let within = front.within in
-    let two : length (take 2 bytes) ≡ 2 = length-take-le 2 bytes (omega arith) in
-    let head : little_bytes 2 (length item) ≡ take 2 bytes = ap (little_bytes 2) (sym front.word)
-    ∙ two_of (take 2 bytes) two (bytes_taken 2 bytes fits) in
-    let most : length item < 2 ^ 16 = rw (← front.word) (small_of (take 2 bytes) two (bytes_taken 2 bytes fits)) in
-    let tail : behind item bytes ≡ drop (length item) (drop 2 bytes) = sym (drop-drop (length item) 2 bytes) in (
+    let two = two_of (take 2 bytes) (length-take-le 2 bytes (omega arith)) (bytes_taken 2 bytes fits) in
+    let head : little_bytes 2 (length item) ≡ take 2 bytes = ap (little_bytes 2) (sym front.word) ∙ two.0 in
+    let most : length item < 2 ^ 16 = rw (← front.word) two.1 in
+    let tail : behind item bytes ≡ drop (length item) (drop 2 bytes) = sym (drop-drop (length item) 2 bytes) in
+    let all : item ++ behind item bytes ≡ drop 2 bytes = ap (λ (i : List ℕ). i ++ behind item bytes) front.is
+    ∙ rw tail (take-append-drop (length item) (drop 2 bytes)) in (
       record { least = kind; most = most },
       append_assoc (little_bytes 2 (length item)) item (behind item bytes)
-          ∙ ap (λ (h : List ℕ). h ++ (item ++ behind item bytes)) head
-          ∙ ap (λ (i : List ℕ). take 2 bytes ++ (i ++ behind item bytes)) front.is
-          ∙ ap (λ (t : List ℕ). take 2 bytes ++ (take (length item) (drop 2 bytes) ++ t)) tail
-          ∙ ap (λ (t : List ℕ). take 2 bytes ++ t) (take-append-drop (length item) (drop 2 bytes))
-          ∙ take-append-drop 2 bytes,
+          ∙ ap (λ (h : List ℕ). h ++ (item ++ behind item bytes)) head ∙ rw all (take-append-drop 2 bytes),
     )
 
 length_framed : (item : List ℕ) → length (with_length item) ≡ 2 + length item
@@ -118,17 +104,13 @@ behind_framed item more = ap (λ (n : ℕ). drop n (with_length item ++ more)) (
 
 -- ---- the walk that there is
 
-no_front : (bytes item more : List ℕ) (fault : Refusal) → first_item bytes ≡ Err fault → IsItem item
-    → bytes ≢ with_length item ++ more
-no_front bytes item more fault e is same =
-    ok_is_no_err item fault (sym (ap first_item same ∙ framed_front item more is) ∙ e)
-
 walk_stops : (limit : ℕ) (bytes : List ℕ) (fault : Refusal) → first_item bytes ≡ Err fault → IsWalk limit bytes [] bytes
 walk_stops limit bytes fault e = record {
   joined = refl;
   sized = tt;
   few = omega arith;
-  ends = λ less item more is. no_front bytes item more fault e is;
+  ends = λ less item more is same.
+      ok_is_no_err item fault (sym (ap first_item same ∙ framed_front item more is) ∙ e);
 }
 
 walk_goes_on : (limit : ℕ) (bytes item left : List ℕ) (found : List (List ℕ)) → AreBytes bytes
@@ -144,17 +126,6 @@ walk_goes_on limit bytes item left found fits e further =
       ends = λ less. further.ends (omega (arith, less));
     }
 
-walk_by : (limit : ℕ) (bytes : List ℕ) (answer : Answer (List ℕ)) → AreBytes bytes → first_item bytes ≡ answer
-    → ((further : List ℕ) → AreBytes further → IsWalk limit further (items limit further) (rest limit further))
-    → IsWalk (suc limit) bytes (items (suc limit) bytes) (rest (suc limit) bytes)
-walk_by limit bytes (Ok item) fits e ih =
-    rw (items_more limit bytes item e, rest_more limit bytes item e)
-    (walk_goes_on limit bytes item (rest limit (behind item bytes)) (items limit (behind item bytes)) fits e
-    (ih (behind item bytes) (bytes_dropped (2 + length item) bytes fits)))
-walk_by limit bytes (Err fault) fits e ih =
-    rw (items_none (suc limit) bytes fault e, rest_none (suc limit) bytes fault e)
-    (walk_stops (suc limit) bytes fault e)
-
 walk_is : (limit : ℕ) (bytes : List ℕ) → AreBytes bytes → IsWalk limit bytes (items limit bytes) (rest limit bytes)
 walk_is zero bytes fits = rw (items_full bytes, rest_full bytes) (record {
   joined = refl;
@@ -162,23 +133,28 @@ walk_is zero bytes fits = rw (items_full bytes, rest_full bytes) (record {
   few = omega arith;
   ends = λ less. absurd (omega (arith, less));
 })
-walk_is (suc limit) bytes fits = walk_by limit bytes (first_item bytes) fits refl (walk_is limit)
+walk_is (suc limit) bytes fits = elim (answer_cases (first_item bytes)) [
+  | inl (item, e) ↦ rw (items_more limit bytes item e, rest_more limit bytes item e)
+      (walk_goes_on limit bytes item (rest limit (behind item bytes)) (items limit (behind item bytes)) fits e
+      (walk_is limit (behind item bytes) (bytes_dropped (2 + length item) bytes fits)))
+  | inr (fault, e) ↦ rw (items_none (suc limit) bytes fault e, rest_none (suc limit) bytes fault e)
+      (walk_stops (suc limit) bytes fault e)
+]
 
 -- ---- and no other
 
-abbrev Same : ℕ → List ℕ → List (List ℕ) → List ℕ → Type 0
-Same limit bytes found left = (found ≡ items limit bytes) × (left ≡ rest limit bytes)
-
-only_by : (limit : ℕ) (bytes : List ℕ) (found : List (List ℕ)) (left : List ℕ) (answer : Answer (List ℕ))
-    → AreBytes bytes → first_item bytes ≡ answer → IsWalk (suc limit) bytes found left
-    → ((further : List ℕ) (more : List (List ℕ)) → AreBytes further → IsWalk limit further more left
-    → Same limit further more left) → Same (suc limit) bytes found left
-only_by limit bytes [] left (Ok item) fits e walk ih =
-    let front = front_framed bytes item fits e in
-    absurd (walk.ends (omega arith) item (behind item bytes) front.0 (walk.joined ∙ sym front.1))
-only_by limit bytes [] left (Err fault) fits e walk ih =
-    (sym (items_none (suc limit) bytes fault e), walk.joined ∙ sym (rest_none (suc limit) bytes fault e))
-only_by limit bytes (item ∷ found) left answer fits e walk ih =
+walk_only : (limit : ℕ) (bytes : List ℕ) (found : List (List ℕ)) (left : List ℕ) → AreBytes bytes
+    → IsWalk limit bytes found left → (found ≡ items limit bytes) × (left ≡ rest limit bytes)
+walk_only zero bytes [] left fits walk = (sym (items_full bytes), walk.joined ∙ sym (rest_full bytes))
+walk_only zero bytes (item ∷ found) left fits walk = absurd (omega (arith, walk.few))
+walk_only (suc limit) bytes [] left fits walk = elim (answer_cases (first_item bytes)) [
+  | inl (item, e) ↦
+      let front = front_framed bytes item fits e in
+      absurd (walk.ends (omega arith) item (behind item bytes) front.0 (walk.joined ∙ sym front.1))
+  | inr (fault, e) ↦
+      (sym (items_none (suc limit) bytes fault e), walk.joined ∙ sym (rest_none (suc limit) bytes fault e))
+]
+walk_only (suc limit) bytes (item ∷ found) left fits walk =
     let more = flat_map with_length found ++ left in
     let whole : with_length item ++ more ≡ bytes = sym (append_assoc (with_length item)
     (flat_map with_length found) left)
@@ -186,31 +162,15 @@ only_by limit bytes (item ∷ found) left answer fits e walk ih =
     let front : first_item bytes ≡ Ok item = ap first_item (sym whole) ∙ framed_front item more walk.sized.0 in
     let tail : behind item bytes ≡ more = ap (behind item) (sym whole) ∙ behind_framed item more in
     let few = walk.few in
-    let further = ih (behind item bytes) found (bytes_dropped (2 + length item) bytes fits) (record {
+    let further = walk_only limit (behind item bytes) found left (bytes_dropped (2 + length item) bytes fits) (record {
       joined = sym tail;
       sized = walk.sized.1;
       few = omega arith;
       ends = λ less. walk.ends (omega (arith, less));
     }) in (
       ap (λ (f : List (List ℕ)). item ∷ f) further.0 ∙ sym (items_more limit bytes item front),
-      further.1
-          ∙ sym (rest_more limit bytes item front),
+      further.1 ∙ sym (rest_more limit bytes item front),
     )
-
-none_found : (found : List (List ℕ)) → length found ≤ 0 → found ≡ []
-none_found [] few = refl
-none_found (item ∷ found) few = absurd (omega (arith, few))
-
-walk_only : (limit : ℕ) (bytes : List ℕ) (found : List (List ℕ)) (left : List ℕ) → AreBytes bytes
-    → IsWalk limit bytes found left → Same limit bytes found left
-walk_only zero bytes found left fits walk =
-    let none = none_found found walk.few in (
-      none ∙ sym (items_full bytes),
-      sym (ap (λ (f : List (List ℕ)). flat_map with_length f ++ left) none) ∙ walk.joined
-          ∙ sym (rest_full bytes),
-    )
-walk_only (suc limit) bytes found left fits walk =
-    only_by limit bytes found left (first_item bytes) fits refl walk (λ further more. walk_only limit further more left)
 
 pub walks_once : (limit : ℕ) (bytes : List ℕ) → AreBytes bytes → WalksOnce limit bytes
 walks_once limit bytes fits = record {
@@ -225,35 +185,26 @@ table_walk table fits = walk_is (room table) (body table) (bytes_dropped table.h
 
 -- ---- four bytes an item
 
-four_by : (limit : ℕ) (bytes : List ℕ) (answer : Answer (List ℕ)) → first_item bytes ≡ answer
-    → ((further : List ℕ) → 4 * length (items limit further) + length (rest limit further) ≤ length further)
-    → 4 * length (items (suc limit) bytes) + length (rest (suc limit) bytes) ≤ length bytes
-four_by limit bytes (Ok item) e ih =
-    let front = front_item bytes item e in
-    let kind = front.kind in
-    let within = front.within in
-    rw (items_more limit bytes item e, rest_more limit bytes item e)
-    (omega (arith, ih (behind item bytes), length-drop (2 + length item) bytes))
-four_by limit bytes (Err fault) e ih = rw (items_none (suc limit) bytes fault e, rest_none (suc limit) bytes fault e)
-    (omega arith)
-
 pub item_per_four_bytes : (limit : ℕ) (bytes : List ℕ)
     → 4 * length (items limit bytes) + length (rest limit bytes) ≤ length bytes
 item_per_four_bytes zero bytes = rw (items_full bytes, rest_full bytes) (omega arith)
-item_per_four_bytes (suc limit) bytes = four_by limit bytes (first_item bytes) refl (item_per_four_bytes limit)
+item_per_four_bytes (suc limit) bytes = elim (answer_cases (first_item bytes)) [
+  | inl (item, e) ↦
+      let front = front_item bytes item e in
+      let behind_it = item_per_four_bytes limit (behind item bytes) in
+      rw (items_more limit bytes item e, rest_more limit bytes item e)
+      (omega (arith, behind_it, length-drop (2 + length item) bytes, front.kind, front.within))
+  | inr (fault, e) ↦ rw (items_none (suc limit) bytes fault e, rest_none (suc limit) bytes fault e) (omega arith)
+]
 
 -- ---- faults
-
-cut_fault : (bytes : List ℕ) → 2 ≤ little_number 2 (take 2 bytes) → length bytes < 2 + little_number 2 (take 2 bytes)
-    → first_item bytes ≡ Err unexpected_eof
-cut_fault bytes some cut = elim (cases_lt (length bytes) 2)
-    [ inl short ↦ short_front bytes short | inr long ↦ cut_front bytes some long cut ]
 
 pub has_fault : (bytes : List ℕ) → HasFault bytes
 has_fault bytes = record {
   no_length = λ short. fault_is bytes unexpected_eof (short_front bytes short);
   too_short = λ long few. fault_is bytes type_too_short (unkind_front bytes long few);
-  cut = λ some cut. fault_is bytes unexpected_eof (cut_fault bytes some cut);
+  cut = λ some cut. fault_is bytes unexpected_eof (elim (cases_lt (length bytes) 2)
+      [ inl short ↦ short_front bytes short | inr long ↦ cut_front bytes some long cut ]);
   whole = λ item more is same. fault_whole bytes item (ap first_item same ∙ framed_front item more is);
 }
 
@@ -265,9 +216,8 @@ found_reads : (table : Table) (known i : ℕ) → IsTrue (has_index table i) →
 unfolding reads_of reads_between
 found_reads table known i counted known_block within =
     let place = i - table.header.minimum_index in
-    let test : ltb (block_of table i) known ≡ true = lt-ltb (block_of table i) known known_block in
-    let here : ltb place (length (walk table)) ≡ true = lt-ltb place (length (walk table)) within in
-    rw (counted, test, here) (omega (arith, within_block place))
+    rw (counted, lt-ltb (block_of table i) known known_block, lt-ltb place (length (walk table)) within)
+    (omega (arith, within_block place))
 
 pub reads_few : (table : Table) (known i : ℕ) → ReadsFew table known i
 reads_few table known i = record { few = few_reads table known i; found = found_reads table known i }

@@ -1,6 +1,6 @@
 -- The lists that are looked up for fields, and what a loop over them has still to read.
-use Rattle.std.proofs.Common.{◌≡◌, ◌≢◌, inl, inr, ℕ, zero, suc, ◌+◌, ◌≤◌, ◌<◌, List, [], ◌∷◌, map, length, refl, sym}
-use Rattle.std.proofs.Common.{ap, ◌∙◌, subst, arith, Option, Some, None, Ok, Err}
+use Rattle.std.proofs.Common.{◌≡◌, ◌≢◌, inl, inr, ℕ, zero, suc, add-zero, ◌+◌, ◌≤◌, ◌<◌, List, [], ◌∷◌, map, length}
+use Rattle.std.proofs.Common.{refl, sym, ap, ◌∙◌, subst, arith, Option, Some, None, Ok, Err}
 use Rattle.std.specs.List.{sum_by}
 use Rattle.std.proofs.lemmas.Bool.{cases_lt, lt-ltb, le-ltb}
 use Rattle.std.proofs.lemmas.List.Sums.{sum_by-cons}
@@ -8,10 +8,10 @@ use Rattle.pdb_base.specs.declared.index.TypeIndex.{TypeIndex}
 use Rattle.pdb_base.specs.declared.error.Error.{Error}
 use Rattle.pdb_base.specs.declared.error.Error.TheVariants.{OutOfMemory}
 use Rattle.pdb_base.specs.Answer.{Answer, Answers}
-use Rattle.pdb_base.specs.Count.{after_calls}
+use Rattle.pdb_base.specs.Count.{after_calls, one_more}
 use Rattle.pdb_base.specs.Memory.{HasItem}
 use Rattle.pdb_base.specs.Refusal.{Refusal, refusal_of}
-use Rattle.pdb_base.proofs.lemmas.Count.{call_before, few_calls}
+use Rattle.pdb_base.proofs.lemmas.Count.{few_calls}
 use Rattle.pdb_tpi.specs.Chain.{LookUp, ContinuedList, listed_value, list_of}
 use Rattle.pdb_tpi.specs.LookedUp.{lists_behind, lists_after, lists_along, lists_looked_up, OneNeedsMemory}
 use Rattle.pdb_tpi.specs.LookedUp.{ListNeedsMemory}
@@ -56,30 +56,24 @@ looked_up_step look index =
 
 looked_up_listed : (look : LookUp) (index : ℕ) (list : ContinuedList) → list_of look index ≡ Ok list
     → lists_looked_up look index ≡ index ∷ behind_list look index list.continuation
-looked_up_listed look index list is = looked_up_step look index
-    ∙ ap (λ (answer : Answer ContinuedList). index ∷ lists_after (λ i. lists_looked_up look i) index answer) is
+looked_up_listed look index list is = looked_up_step look index ∙ rw is refl
 
 looked_up_refused : (look : LookUp) (index : ℕ) (e : Refusal) → list_of look index ≡ Err e
     → lists_looked_up look index ≡ index ∷ []
-looked_up_refused look index e is = looked_up_step look index
-    ∙ ap (λ (answer : Answer ContinuedList). index ∷ lists_after (λ i. lists_looked_up look i) index answer) is
+looked_up_refused look index e is = looked_up_step look index ∙ rw is refl
 
-pub goes_below : (look : LookUp) (above : ℕ) (next : TypeIndex) → next.0 < above
+goes_below : (look : LookUp) (above : ℕ) (next : TypeIndex) → next.0 < above
     → behind_list look above (Some next) ≡ lists_looked_up look next.0
 goes_below look above next below = rw (lt-ltb next.0 above below) refl
-
-pub goes_up : (look : LookUp) (above : ℕ) (next : TypeIndex) → above ≤ next.0 → behind_list look above (Some next) ≡ []
-goes_up look above next up = rw (le-ltb next.0 above up) refl
 
 -- ---- what is left to read
 
 after_more : (more further calls : ℕ)
     → after_calls further (after_calls more calls) ≡ after_calls (more + further) calls
-after_more zero further calls = ap (λ (n : ℕ). after_calls n calls) (let e : further ≡ 0 + further = omega arith in e)
-after_more (suc more) further calls =
-    call_before (after_calls more calls) further
-    ∙ after_more more (further + 1) calls
-    ∙ ap (λ (n : ℕ). after_calls n calls) (let e : more + (further + 1) ≡ suc more + further = omega arith in e)
+after_more more zero calls = ap (λ (n : ℕ). after_calls n calls) (sym (add-zero more))
+after_more more (suc further) calls =
+    let all : suc (more + further) ≡ more + suc further = omega arith in
+    ap one_more (after_more more further calls) ∙ ap (λ (n : ℕ). after_calls n calls) all
 
 -- With so many calls counted, these lists are what is left of all: what they read makes up the whole count, and where
 -- one takes memory, one of all does.

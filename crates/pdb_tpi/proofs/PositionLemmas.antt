@@ -1,47 +1,39 @@
 -- Where the items of a walk begin.
 use Rattle.std.proofs.Common.{◌≡◌, ℕ, zero, suc, ◌+◌, ◌-◌, ◌≤◌, ◌<◌, List, [], ◌∷◌, length, take, drop, get_or, refl}
-use Rattle.std.proofs.Common.{sym, ap, subst, ◌∙◌, arith, Ok, Err, Option, Some, None, inl, inr, false, leb, ltb}
+use Rattle.std.proofs.Common.{sym, ap, subst, ◌∙◌, arith, Ok, Err, Option, Some, None, inl, inr}
 use Rattle.std.specs.List.{slice_get, sum_by}
-use Rattle.std.proofs.lemmas.Bool.Decides.{nat_tests}
+use Rattle.std.proofs.lemmas.Bool.{le-ltb, lt-leb}
 use Rattle.std.proofs.lemmas.List.{drop-drop, length-drop}
 use Rattle.std.proofs.lemmas.List.Sums.{sum_by-cons, sum_by_more, sum_by-take-drop}
-use Rattle.std.proofs.lemmas.Option.{slice_get_cases}
+use Rattle.std.proofs.lemmas.Option.{get_or_from_slice_get, slice_get_within}
 use Rattle.std.specs.Option.{option_map}
 use Rattle.pdb_base.specs.Answer.{Answer, ◌>>=◌}
-use Rattle.pdb_base.proofs.lemmas.Collected.{ok, ok_is, ok_is_no_err}
+use Rattle.pdb_base.proofs.lemmas.Collected.{answer_cases, ok}
 use Rattle.pdb_tpi.specs.declared.open_table.RecordPlace.{RecordPlace}
 use Rattle.pdb_tpi.specs.Table.{Table}
-use Rattle.pdb_tpi.specs.Walk.{first_item, behind, items, rest, fault_of}
+use Rattle.pdb_tpi.specs.Walk.{first_item, behind, items, rest}
 use Rattle.pdb_tpi.specs.Steps.{WalkPosition, IsStep, steps_taken, room, body, walk, walk_rest, nth_item}
 use Rattle.pdb_tpi.specs.Place.{IsPlace}
 use Rattle.pdb_tpi.specs.Finder.{item_of}
 use Rattle.pdb_tpi.specs.OpenTable.{record_bytes, place_of_record, item_size, item_position, record_place, step_located}
 use Rattle.pdb_tpi.proofs.FrontLemmas.{front_item}
 use Rattle.pdb_tpi.proofs.WalkLemmas.{items_more, rest_more, items_none, rest_none, items_full, rest_full, nth_some}
-use Rattle.pdb_tpi.proofs.WalkLemmas.{nth_none}
 use Rattle.pdb_tpi.proofs.StepLemmas.{nth_ok, step_none, step_some}
 
 -- items from the front of bytes on, and what is left behind them, take all of the bytes
-sized_from : (limit : ℕ) (bytes : List ℕ) (answer : Answer (List ℕ)) → first_item bytes ≡ answer
-    → ((further : List ℕ) → sum_by item_size (items limit further) + length (rest limit further) ≡ length further)
-    → sum_by item_size (items (suc limit) bytes) + length (rest (suc limit) bytes) ≡ length bytes
-sized_from limit bytes (Ok item) e ih =
-    let within = (front_item bytes item e).within in
-    rw (items_more limit bytes item e, rest_more limit bytes item e)
-    (omega (
-      arith,
-      sum_by-cons item_size item (items limit (behind item bytes)),
-      ih (behind item bytes),
-      length-drop (2 + length item) bytes,
-      within,
-    ))
-sized_from limit bytes (Err fault) e ih =
-    rw (items_none (suc limit) bytes fault e, rest_none (suc limit) bytes fault e) (omega arith)
-
 all_sized : (limit : ℕ) (bytes : List ℕ) → sum_by item_size (items limit bytes) + length (rest limit bytes)
     ≡ length bytes
 all_sized zero bytes = rw (items_full bytes, rest_full bytes) (omega arith)
-all_sized (suc limit) bytes = sized_from limit bytes (first_item bytes) refl (all_sized limit)
+all_sized (suc limit) bytes = elim (answer_cases (first_item bytes)) [
+  | inl (item, e) ↦ rw (items_more limit bytes item e, rest_more limit bytes item e) (omega (
+    arith,
+    sum_by-cons item_size item (items limit (behind item bytes)),
+    all_sized limit (behind item bytes),
+    length-drop (2 + length item) bytes,
+    (front_item bytes item e).within,
+  ))
+  | inr (fault, e) ↦ rw (items_none (suc limit) bytes fault e, rest_none (suc limit) bytes fault e) (omega arith)
+]
 
 whole_sized : (table : Table) → sum_by item_size (walk table) + length (walk_rest table) ≡ length (body table)
 unfolding walk walk_rest
@@ -74,13 +66,11 @@ stands_at table index position place =
 record_ends : (table : Table) (n : ℕ) (item : List ℕ) → nth_item table n ≡ Ok item
     → item_position table (n + 1) ≡ item_position table n + 2 + length item
 unfolding item_position
-record_ends table n item e = elim ((slice_get_cases (walk table) n).1) [
-  | inl here ↦
-      let same : here.0 ≡ item = ok_is here.0 item (sym (nth_some table n here.0 here.2) ∙ e) in
-      let size : item_size (get_or (walk table) n here.0) ≡ item_size item = ap item_size (here.3 ∙ same) in
-      omega (arith, sum_by_more item_size (walk table) n here.0 here.1, size)
-  | inr past ↦ absurd (ok_is_no_err item (fault_of (walk_rest table)) (sym e ∙ nth_none table n past.1))
-]
+record_ends table n item e =
+    let there = nth_ok table n item e in
+    let size : item_size (get_or (walk table) n item) ≡ item_size item =
+    ap item_size (get_or_from_slice_get (walk table) n item item there) in
+    omega (arith, sum_by_more item_size (walk table) n item (slice_get_within (walk table) n item there), size)
 
 no_item_there : (all : List (List ℕ)) (item : List ℕ) (n : ℕ) → all ≡ [] → slice_get all n ≡ Some item → ⊥
 no_item_there [] item n none is = cc
@@ -137,9 +127,8 @@ pub record IsRecordBefore (table : Table) (n : ℕ) (item : List ℕ) (end : ℕ
 pub record_placed : (table : Table) (n index end : ℕ) (item : List ℕ) → IsPlace table index end
     → index ≡ table.header.minimum_index + n + 1 → nth_item table n ≡ Ok item → IsRecordBefore table n item end
 record_placed table n index end item place is e =
-    let next : index - table.header.minimum_index ≡ n + 1 = omega arith in
     let stands : end ≡ item_position table (n + 1) =
-    stands_at table index end place ∙ ap (item_position table) next in
+    stands_at table index end place ∙ ap (item_position table) (omega arith) in
     let ends = record_ends table n item e in
     let at : ℕ → RecordPlace = λ offset. record { offset = offset; length = length item } in
     record { before = omega (arith, stands, ends); place = ap at (omega (arith, stands, ends)) }
@@ -151,11 +140,10 @@ pub record_found : (table : Table) (i place end : ℕ) (item : List ℕ) (found 
     → found ≡ record { offset = end - length item; length = length item } → place_of_record table i ≡ Ok (Some found)
 unfolding item_of
 record_found table i place end item found is below e behind there =
-    let least : ltb i table.header.minimum_index ≡ false = grind (arith, nat_tests) in
-    let most : leb table.header.maximum_index i ≡ false = grind (arith, nat_tests) in
     let n : i - table.header.minimum_index ≡ place = omega arith in
     let at = record_placed table place _ end item behind refl e in
-    rw (least, most, n, e) (ap (λ (p : RecordPlace). ok (Some p)) (sym at.place ∙ sym there))
+    rw (le-ltb i table.header.minimum_index (omega arith), lt-leb table.header.maximum_index i below, n, e)
+    (ap (λ (p : RecordPlace). ok (Some p)) (sym at.place ∙ sym there))
 
 -- the places of the records that steps return
 abbrev told : WalkPosition → Answer (Option (ℕ × List ℕ) × WalkPosition) → Answer (Option RecordPlace × WalkPosition)

@@ -1,7 +1,7 @@
 -- A table that was read is sound, and its first item follows the header.
 use Rattle.std.proofs.Common.{◌≡◌, ℕ, ◌-◌, ◌^◌, ◌≤◌, ◌<◌, Bool, true, false, leb, List, [], ◌∷◌, length, refl, ap}
 use Rattle.std.proofs.Common.{subst, arith, Ok}
-use Rattle.std.proofs.lemmas.Bool.Decides.{nat_tests}
+use Rattle.std.proofs.lemmas.Bool.{leb-true}
 use Rattle.pdb_base.specs.Refusal.{Refusal}
 use Rattle.pdb_base.specs.Answer.{Answer, ◌>>=◌, ok_if}
 use Rattle.pdb_base.proofs.lemmas.Collected.{ok_is, bind_ok, required_holds}
@@ -30,14 +30,11 @@ checked_is header len x e =
     let most = then_required (leb header.header_size 1024) _ _ x least.1 in
     let whole = then_required (leb header.header_size len) _ _ x most.1 in
     let typed = then_required (leb 4096 header.minimum_index) _ _ x whole.1 in
-    let ordered : leb header.minimum_index header.maximum_index ≡ true =
-    required_holds (leb header.minimum_index header.maximum_index) _ x typed.1 in
-    let within : leb header.header_size len ≡ true = whole.0 in
-    let above : leb 4096 header.minimum_index ≡ true = typed.0 in
+    let ordered = required_holds (leb header.minimum_index header.maximum_index) _ x typed.1 in
     record {
-      typed = grind (arith, nat_tests);
-      within = grind (arith, nat_tests);
-      ordered = grind (arith, nat_tests);
+      typed = leb-true 4096 header.minimum_index typed.0;
+      within = leb-true header.header_size len whole.0;
+      ordered = leb-true header.minimum_index header.maximum_index ordered;
     }
 
 read_is : (bytes : List ℕ) (header : Header) → read_header_of bytes ≡ Ok header → IsChecked header (length bytes)
@@ -53,15 +50,13 @@ pub table_is : (bytes : List ℕ) (header : Header) → header_of bytes ≡ Ok h
     → length bytes < 0xffffffff → IsTable (record { bytes = bytes; header = header })
 unfolding header_of
 table_is [] header e indexed short =
-    let empty : IsTable (record { bytes = []; header = empty_header }) =
-    record {
+    subst (λ (h : Header). IsTable (record { bytes = []; header = h })) (ok_is empty_header header e) (record {
       within = omega arith;
       ordered = omega arith;
       typed = λ some. absurd (some refl);
       indexed = omega arith;
       short = short;
-    } in
-    subst (λ (h : Header). IsTable (record { bytes = []; header = h })) (ok_is empty_header header e) empty
+    })
 table_is (byte ∷ bytes) header e indexed short =
     let is = read_is (byte ∷ bytes) header e in
     record { within = is.within; ordered = is.ordered; typed = λ some. is.typed; indexed = indexed; short = short }

@@ -1,33 +1,19 @@
 -- The walk, one item after another.
-use Rattle.std.proofs.Common.{◌≡◌, ℕ, zero, suc, ◌+◌, ◌-◌, ◌^◌, ◌≤◌, ◌<◌, true, false, ltb, cond, List, [], ◌∷◌, length}
-use Rattle.std.proofs.Common.{drop, refl, ap, ◌∙◌, arith, Ok, Err, Option, Some, None}
+use Rattle.std.proofs.Common.{◌≡◌, ℕ, zero, suc, ◌+◌, ◌-◌, ◌^◌, ◌≤◌, ◌<◌, ltb, cond, List, [], ◌∷◌, length, drop, refl}
+use Rattle.std.proofs.Common.{ap, ◌∙◌, arith, Ok, Err, Some, None, inl, inr}
 use Rattle.std.specs.List.{slice_get}
-use Rattle.std.specs.Option.{option_map_or}
-use Rattle.std.specs.Result.{result_ok}
 use Rattle.std.proofs.lemmas.Bool.{le-ltb, lt-ltb}
 use Rattle.std.proofs.lemmas.Bool.Decides.{nat_tests}
 use Rattle.std.proofs.lemmas.List.{drop-drop, length-drop}
 use Rattle.std.proofs.lemmas.Option.{slice_get_past}
 use Rattle.pdb_base.specs.Refusal.{Refusal, type_not_found}
-use Rattle.pdb_base.proofs.lemmas.Collected.{err}
+use Rattle.pdb_base.proofs.lemmas.Collected.{answer_cases}
 use Rattle.pdb_base.specs.Count.{one_more}
 use Rattle.pdb_tpi.specs.Table.{Table}
 use Rattle.pdb_tpi.specs.Walk.{first_item, behind, items, rest, fault_of}
 use Rattle.pdb_tpi.specs.Steps.{room, walk, walk_rest, nth_item, reads_one}
 use Rattle.pdb_tpi.specs.Place.{IsPlace}
 use Rattle.pdb_tpi.proofs.FrontLemmas.{front_item}
-
--- ---- how many items there can be
-
-few_by : (limit : ℕ) (bytes : List ℕ) (first : Option (List ℕ)) → ((rest : List ℕ) → length (items limit rest) ≤ limit)
-    → length (option_map_or (λ item. item ∷ items limit (behind item bytes)) first []) ≤ suc limit
-few_by limit bytes None few = omega arith
-few_by limit bytes (Some item) few = let rest = few (behind item bytes) in omega (arith, rest)
-
-pub items_few : (limit : ℕ) (bytes : List ℕ) → length (items limit bytes) ≤ limit
-unfolding items
-items_few zero bytes = omega arith
-items_few (suc limit) bytes = few_by limit bytes (result_ok (first_item bytes)) (items_few limit)
 
 -- ---- one step of the walk
 
@@ -59,15 +45,21 @@ pub rest_full : (bytes : List ℕ) → rest 0 bytes ≡ bytes
 unfolding rest
 rest_full bytes = refl
 
+-- there are no more items than the limit
+pub items_few : (limit : ℕ) (bytes : List ℕ) → length (items limit bytes) ≤ limit
+items_few zero bytes = rw (items_full bytes) (omega arith)
+items_few (suc limit) bytes = elim (answer_cases (first_item bytes)) [
+  | inl (item, e) ↦ rw (items_more limit bytes item e) (omega (arith, items_few limit (behind item bytes)))
+  | inr (fault, e) ↦ rw (items_none (suc limit) bytes fault e) (omega arith)
+]
+
 -- ---- what is left of a list
 
 pub dropped_some : {A : Type 0} (n : ℕ) (xs : List A) (x : A) (ys : List A) → drop n xs ≡ x ∷ ys
     → (slice_get xs n ≡ Some x) × (n < length xs) × (drop (suc n) xs ≡ ys)
 dropped_some zero [] x ys e = absurd cc
 dropped_some {A} zero (z ∷ zs) x ys e =
-    let heads : z ≡ x = cc in
-    let tails : zs ≡ ys = cc in
-    (ap (λ (a : A). Some a) heads, omega arith, tails)
+    (cc, omega arith, cc)
 dropped_some (suc n) [] x ys e = absurd cc
 dropped_some (suc n) (z ∷ zs) x ys e = let ih = dropped_some n zs x ys e in (ih.0, (let h = ih.1 in omega arith), ih.2)
 
@@ -180,19 +172,16 @@ pub reads_next : (table : Table) (index position calls : ℕ) (item : List ℕ) 
     → counted (drop position table.bytes) calls ≡ reads_one (record { table = table; index = index }) calls
 reads_next table index position calls item next e =
     let within = (front_item (drop position table.bytes) item e).within in
-    let test : ltb (length (drop position table.bytes)) 2 ≡ false =
-    le-ltb (length (drop position table.bytes)) 2 (omega arith) in
-    let here : ltb (index - table.header.minimum_index) (length (walk table)) ≡ true =
-    lt-ltb (index - table.header.minimum_index) (length (walk table)) next.within in
-    rw (test, here) refl
+    rw (
+      le-ltb (length (drop position table.bytes)) 2 (omega arith),
+      lt-ltb (index - table.header.minimum_index) (length (walk table)) next.within,
+    ) refl
 
 pub reads_behind : (table : Table) (index position calls : ℕ) → IsBehind table index position
     → counted (drop position table.bytes) calls ≡ reads_one (record { table = table; index = index }) calls
 reads_behind table index position calls is =
-    let all = is.all in
-    let here : ltb (index - table.header.minimum_index) (length (walk table)) ≡ false =
-    le-ltb (index - table.header.minimum_index) (length (walk table)) (omega arith) in
-    rw (here, is.rest) (let bytes = drop position table.bytes in grind (arith, nat_tests))
+    rw (le-ltb (index - table.header.minimum_index) (length (walk table)) (omega (arith, is.all)), is.rest)
+    (let bytes = drop position table.bytes in grind (arith, nat_tests))
 
 -- ---- what a read answers
 
@@ -206,8 +195,7 @@ pub read_fault : (table : Table) (index position : ℕ) (fault : Refusal) → Is
 read_fault table index position fault place e =
     let end = place_end table index position fault place e in
     nth_none table (index - table.header.minimum_index) end.none
-    ∙ ap (λ (bytes : List ℕ). err (fault_of bytes)) end.rest
-    ∙ ap (λ (f : Refusal). err f) (fault_is (drop position table.bytes) fault e)
+    ∙ rw (end.rest, fault_is (drop position table.bytes) fault e) refl
 
 pub read_full : (table : Table) (index position : ℕ) (item : List ℕ) → IsPlace table index position
     → first_item (drop position table.bytes) ≡ Ok item → 2 ^ 32 ≤ index
@@ -215,5 +203,4 @@ pub read_full : (table : Table) (index position : ℕ) (item : List ℕ) → IsP
 read_full table index position item place e last =
     let end = place_full table index position place last in
     nth_none table (index - table.header.minimum_index) end.none
-    ∙ ap (λ (bytes : List ℕ). err (fault_of bytes)) end.rest
-    ∙ ap (λ (f : Refusal). err f) (fault_whole (drop position table.bytes) item e)
+    ∙ rw (end.rest, fault_whole (drop position table.bytes) item e) refl

@@ -18,19 +18,17 @@ record IsOneStep {X : Type 0} (seen : X → ℕ × List ℕ) (table : Table) (n 
   pub at_place : IsAnswerAt seen table n result
   pub goes_on : (next ≡ stand_at table (n + 1)) ⊎ ((length (walk table) ≤ n) × (next ≡ stand_at table n))
 
-place_there : (table : Table) (n : ℕ) → steps_taken (stand_at table n) ≡ n
-place_there table n = omega arith
-
 one_step : {X : Type 0} (seen : X → ℕ × List ℕ) (table : Table) (n : ℕ) (result : Result (Option X) Error)
     (next : WalkPosition) → IsStep seen (stand_at table n) result next → IsOneStep seen table n result next
 one_step seen table n (Ok (Some x)) next step =
     let old = stand_at table n in
     let given = step_some seen old x next step in
+    let there : steps_taken old ≡ n = omega arith in
     let index_is : old.index + 1 ≡ table.header.minimum_index + (n + 1) = omega arith in
     record {
       at_place = inl (record {
         item = (seen x).1;
-        in_walk = rw (place_there table n) at given.there;
+        in_walk = rw there at given.there;
         given = x;
         is = refl;
         same = ap (λ (i : ℕ). (i, (seen x).1)) (sym given.index);
@@ -39,18 +37,16 @@ one_step seen table n (Ok (Some x)) next step =
     }
 one_step seen table n (Ok None) next step =
     let old = stand_at table n in
-    let there = place_there table n in
     let ended = step_none seen old next step in
-    let past : length (walk table) ≤ n = let h = ended.0 in omega (arith, there) in
+    let past : length (walk table) ≤ n = omega (arith, ended.0) in
     record {
       at_place = inr (past, inl (ended.1, refl));
       goes_on = inr (past, ended.2);
     }
 one_step seen table n (Err e) next step =
     let old = stand_at table n in
-    let there = place_there table n in
     let refused = step_err seen old next e step in
-    let past : length (walk table) ≤ n = let h = refused.past in omega (arith, there) in
+    let past : length (walk table) ≤ n = omega (arith, refused.past) in
     record {
       at_place = inr (past, inr (refused.some, record { error = e; is = refl; same = sym refused.is }));
       goes_on = inr (past, step.kept);

@@ -59,7 +59,7 @@ impl<'f, 't> Types<'f, 't> {
 }
 
 /// Looks up a list of fields by its index, parses it, and counts the lengths that are read.
-#[tactic(auto, unfolding(crate::specs::Chain::list_of))]
+#[tactic(auto, using(crate::proofs::LookUpLemmas::answers_no_want, crate::proofs::LookUpLemmas::passes_no_want), unfolding(crate::specs::Chain::list_of))]
 fn field_list<'t>(
     types: Types<'_, 't>,
     alloc: Global,

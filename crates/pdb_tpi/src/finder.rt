@@ -53,6 +53,7 @@ impl<I: ItemIndex> ItemInformation<I> {
     ///
     /// # Errors
     /// Fails as `finder` does.
+    #[tactic(auto, using(crate::proofs::FinderLemmas::no_blocks, crate::proofs::FinderLemmas::some_blocks))]
     pub(crate) fn positions(&self, alloc: Global) -> Result<Vec<u32>>
         ensures positions { Answers (λ positions. length positions.items) result (Ok (known_when_new self.now)) }
         ensures places { IfOk result (λ positions. ArePlaces self.now positions.items (vec_capacity positions)) }
@@ -169,6 +170,7 @@ impl<'t, I: ItemIndex> ItemFinder<'t, I> {
     }
 
     /// Learns from one iterator after another, as `update` does.
+    #[tactic(auto, unfolding(crate::specs::Finder::known_of))]
     pub fn update_all(&mut self, iterators: &[ItemIter<'_, I>])
         requires { All (λ iterator. iterator.table ≡ self.old.table) iterators.now }
         ensures next { self.new ≡
@@ -192,7 +194,7 @@ impl<'t, I: ItemIndex> ItemFinder<'t, I> {
     /// Fails with `TypeNotFound` for an index from the maximum on, with `TypeNotIndexed` if the
     /// index is in no block that is known, with the fault at which the walk stops if that is before
     /// the item, and with `UnexpectedEof` if the walk ends before the item.
-    #[tactic(auto, unfolding(crate::specs::Finder::find_of, crate::specs::Finder::item_of, crate::specs::Finder::reads_of))]
+    #[tactic(auto, using(crate::proofs::FinderLemmas::few_in_block), unfolding(crate::specs::Finder::find_of, crate::specs::Finder::item_of, crate::specs::Finder::reads_of))]
     pub fn find_counted(&self, index: I, count: &mut Count) -> Result<Item<'t, I>>
         ensures item { Gives item_bytes result (find_of self.now.table self.now.known (I.number index)) }
         ensures index { IfOk result (λ item. index_of item ≡ index) }

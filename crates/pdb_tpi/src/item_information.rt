@@ -41,7 +41,7 @@ impl<I: ItemIndex> ItemInformation<I> {
     /// 56 to 1024 bytes; `UnexpectedEof` if the stream has fewer bytes than that size;
     /// `InvalidTypeInformationHeader` if the minimum index is below 4096, or if the maximum is
     /// below the minimum.
-    #[tactic(auto, unfolding(crate::specs::Table::table_of))]
+    #[tactic(auto, using(crate::proofs::TableLemmas::table_is), unfolding(crate::specs::Table::table_of))]
     pub fn parse(stream: Stream) -> Result<Self>
         ensures { Gives (λ table. table) result (table_of stream) }
     {
@@ -77,6 +77,7 @@ impl<I: ItemIndex> ItemInformation<I> {
     }
 
     /// Returns an iterator over all items.
+    #[tactic(auto, using(crate::proofs::TableLemmas::place_first))]
     pub fn iter(&self) -> ItemIter<'_, I>
         ensures { result ≡ record { table = self.now; index = self.now.header.minimum_index } }
     {

@@ -76,6 +76,7 @@ impl<'t, I: ItemIndex> ItemIter<'t, I> {
     }
 
     /// Returns the next item, or the fault at which the walk stops before it.
+    #[tactic(auto, using(crate::proofs::WalkLemmas::place_full, crate::proofs::WalkLemmas::place_next, crate::proofs::WalkLemmas::read_full, crate::proofs::WalkLemmas::reads_next, crate::proofs::WalkLemmas::reads_behind))]
     pub(crate) fn read(&mut self, count: &mut Count) -> Result<Item<'t, I>>
         ensures item { Gives item_bytes result (nth_item self.old.table (steps_taken self.old)) }
         ensures index { IfOk result (λ item. I.number (index_of item) ≡ self.old.index) }
@@ -123,6 +124,7 @@ impl<'t, I: ItemIndex> FallibleIterator for ItemIter<'t, I> {
 
     ghost next_gives = { IsStep (λ item. (I.number (index_of item), item_bytes item)) };
 
+    #[tactic(auto, using(crate::proofs::StepLemmas::none_left, crate::proofs::StepLemmas::step_ends, crate::proofs::StepLemmas::step_gives, crate::proofs::StepLemmas::leaves_fewer))]
     fn next(&mut self) -> Result<Option<Item<'t, I>>> {
         let table = self.table;
         if table.bytes_from(self.position).is_empty() {

@@ -18,13 +18,14 @@ pub mod derived;
 pub mod steps;
 
 /// The fields of a header are at fixed offsets.
+#[tactic(auto, using(crate::proofs::HeaderLemmas::fields_stand))]
 pub fn header()
     ensures { (bytes : List ℕ) → HasTableHeaderAtOffsets bytes }
 {}
 
 /// The items that a table's walk gives are a walk of its bytes. Any bytes have exactly one walk,
 /// with at most one item per four bytes.
-#[tactic(auto, using(crate::proofs::LawLemmas::item_per_four_bytes))]
+#[tactic(auto, using(crate::proofs::LawLemmas::table_walk, crate::proofs::LawLemmas::item_per_four_bytes))]
 pub fn walk()
     ensures tables { (table : Table) → AreBytes table.bytes →
         IsWalk (room table) (body table) (walk table) (walk_rest table) }
@@ -69,6 +70,7 @@ pub fn record_places()
 
 /// After iterators were fed to a finder, it knows the greatest number of blocks that were fed in
 /// their order, and no other number is the greatest.
+#[tactic(auto, using(crate::proofs::KnownLemmas::is_known, crate::proofs::KnownLemmas::only_known))]
 pub fn known_blocks()
     ensures is { (table : Table) (known : ℕ) (shown : List ℕ) → IsKnown table known shown (known_of table known shown) }
     ensures only { (table : Table) (known : ℕ) (shown : List ℕ) (most : ℕ) →

@@ -129,7 +129,7 @@ impl<I: ItemIndex> OpenTable<I> {
     /// the walk stops if that is before the item, and with `UnexpectedEof` if the walk ends before
     /// the item.
     #[inline(always)]
-    #[tactic(auto, unfolding(crate::specs::Finder::item_of, crate::specs::Finder::reads_from))]
+    #[tactic(auto, using(crate::proofs::FinderLemmas::few_placed, crate::proofs::FinderLemmas::placed, crate::proofs::PositionLemmas::record_found), unfolding(crate::specs::Finder::item_of, crate::specs::Finder::reads_from))]
     pub fn find_counted(&self, index: I, count: &mut Count) -> Result<Option<RecordPlace>>
         ensures place { Gives (λ place. place) result (place_of_record self.now.table (I.number index)) }
         ensures counted { calls_of count.new ≡
@@ -163,7 +163,7 @@ impl<I: ItemIndex> OpenTable<I> {
     /// # Errors
     /// Fails as `find_counted` does.
     #[inline(always)]
-    #[tactic(auto, unfolding(crate::specs::Finder::item_of, crate::specs::Finder::reads_from))]
+    #[tactic(auto, using(crate::proofs::FinderLemmas::few_placed), unfolding(crate::specs::Finder::item_of, crate::specs::Finder::reads_from))]
     pub fn item_counted(&self, index: I, count: &mut Count) -> Result<Item<'_, I>>
         ensures item { Gives item_bytes result (item_of self.now.table (I.number index)) }
         ensures index { IfOk result (λ item. index_of item ≡ index) }

@@ -41,7 +41,7 @@ impl<'t> Item<'t, TypeIndex> {
     /// are known to hold the list's first item. So an argument list whose count says more than the
     /// bytes hold gives `UnexpectedEof`, also as the first entry of a list of fields.
     #[inline(always)]
-    #[tactic(auto, unfolding(crate::specs::Record::type_of))]
+    #[tactic(auto, using(crate::proofs::RecordLemmas::primitive_no_want, crate::proofs::RecordLemmas::gives_no_want), unfolding(crate::specs::Record::type_of))]
     pub fn parse(&self, alloc: Global) -> Result<TypeData<'t>>
         ensures read { Answers type_value result (type_of (index_of self.now).0 (item_bytes self.now)) }
         ensures primitive { (index_of self.now).0 < first_record →

@@ -40,21 +40,6 @@ next_agrees most one other pair pairs = refl
 
 -- ---- a list of pairs that is read from its start, and grows
 
--- what one pair decides
-next_is : (one other : Table) (most place : ℕ) (pairs : List TypePair) (pair : TypePair) (all : Bool)
-    → all ≡ agree_along (most - place) one other (drop place pairs) → place < length pairs → place < most
-    → pair ≡ get_or pairs place pair
-    → all ≡ agree_with (agree_along (most - (place + 1)) one other) (drop (place + 1) pairs)
-    (next_pairs one other pair)
-next_is one other most place pairs pair all so_far within left at =
-    let count : most - place ≡ suc (most - (place + 1)) = omega arith in
-    let here : drop place pairs ≡ pair ∷ drop (place + 1) pairs =
-    rw (add-one, drop-cons pairs place pair within)
-    (ap (λ (x : TypePair). x ∷ drop (suc place) pairs) (sym at)) in
-    so_far ∙ ap (λ (n : ℕ). agree_along n one other (drop place pairs)) count
-    ∙ ap (agree_along (suc (most - (place + 1))) one other) here
-    ∙ next_agrees (most - (place + 1)) one other pair (drop (place + 1) pairs)
-
 with_more : (one other : Table) (most place : ℕ) (pairs new : List TypePair) (next : Option (List TypePair))
     → place ≤ length pairs → with_pairs pairs next ≡ Some new
     → agree_with (agree_along most one other) (drop place pairs) next ≡ agree_along most one other (drop place new)
@@ -76,53 +61,52 @@ without : (one other : Table) (most place : ℕ) (pairs : List TypePair) (next :
 without one other most place pairs (Some more) is = absurd cc
 without one other most place pairs None is = refl
 
--- types that are alike
-pub step_same : (one other : Table) (most place : ℕ) (pairs new : List TypePair) (pair : TypePair) (all are : Bool)
-    → all ≡ agree_along (most - place) one other (drop place pairs) → place < length pairs → place < most
-    → pair ≡ get_or pairs place pair → with_pairs pairs (next_pairs one other pair) ≡ pairs_if are new → are ≡ true
-    → all ≡ agree_along (most - (place + 1)) one other (drop (place + 1) new)
-step_same one other most place pairs new pair all are so_far within left at is alike =
-    next_is one other most place pairs pair all so_far within left at
-    ∙ with_more one other (most - (place + 1)) (place + 1) pairs new (next_pairs one other pair) (omega (arith, within))
-    (is ∙ ap (λ (b : Bool). pairs_if b new) alike)
+module _ (one other : Table) (most place : ℕ) (pairs : List TypePair) (all : Bool)
+    (so_far : all ≡ agree_along (most - place) one other (drop place pairs)) where
+  -- what one pair decides
+  next_is : (pair : TypePair) → place < length pairs → place < most → pair ≡ get_or pairs place pair
+      → all ≡ agree_with (agree_along (most - (place + 1)) one other) (drop (place + 1) pairs)
+      (next_pairs one other pair)
+  next_is pair within left at =
+      let count : most - place ≡ suc (most - (place + 1)) = omega arith in
+      let here : drop place pairs ≡ pair ∷ drop (place + 1) pairs =
+      rw (add-one, drop-cons pairs place pair within)
+      (ap (λ (x : TypePair). x ∷ drop (suc place) pairs) (sym at)) in
+      so_far ∙ rw (count, here) (next_agrees (most - (place + 1)) one other pair (drop (place + 1) pairs))
+
+  -- types that are alike
+  pub step_same : (new : List TypePair) (pair : TypePair) (are : Bool) → place < length pairs → place < most
+      → pair ≡ get_or pairs place pair → with_pairs pairs (next_pairs one other pair) ≡ pairs_if are new → are ≡ true
+      → all ≡ agree_along (most - (place + 1)) one other (drop (place + 1) new)
+  step_same new pair are within left at is alike =
+      next_is pair within left at
+      ∙ with_more one other (most - (place + 1)) (place + 1) pairs new (next_pairs one other pair)
+      (omega (arith, within)) (rw alike at is)
+
+  -- types that aren't alike
+  pub step_differs : (new : List TypePair) (pair : TypePair) (are : Bool) → place < length pairs → place < most
+      → pair ≡ get_or pairs place pair → with_pairs pairs (next_pairs one other pair) ≡ pairs_if are new → are ≡ false
+      → all ≡ false
+  step_differs new pair are within left at is unlike =
+      next_is pair within left at
+      ∙ without one other (most - (place + 1)) (place + 1) pairs (next_pairs one other pair) (rw unlike at is)
+
+  -- more pairs than may be read
+  pub overfull : place ≤ most → most < length pairs → all ≡ false
+  overfull left many = so_far
+      ∙ too_many (most - place) one other (drop place pairs) (omega (arith, length-drop place pairs, left, many))
+
+  pub at_end : length pairs ≤ place → all ≡ true
+  at_end end = so_far ∙ rw (drop_all place pairs end) (none_agree (most - place) one other)
+
+  pub ended : (count : ℕ) → most ≤ place → place ≤ most → count ≡ length pairs → all ≡ leb count most
+  ended count end left is = elim (cases_Bool (leb count most)) [
+    | inl few ↦ at_end (omega (arith, leb-true count most few, is, end)) ∙ sym few
+    | inr many ↦ overfull left (omega (arith, leb-false count most many, is)) ∙ sym many
+  ]
 
 pub step_within : (one other : Table) (place : ℕ) (pairs new : List TypePair) (pair : TypePair) (are : Bool)
     → place < length pairs → with_pairs pairs (next_pairs one other pair) ≡ pairs_if are new → are ≡ true
     → place + 1 ≤ length new
 step_within one other place pairs new pair are within is alike =
-    let more = grown pairs new (next_pairs one other pair) (is ∙ ap (λ (b : Bool). pairs_if b new) alike) in
-    omega (arith, within, more)
-
--- types that aren't alike
-pub step_differs : (one other : Table) (most place : ℕ) (pairs new : List TypePair) (pair : TypePair) (all are : Bool)
-    → all ≡ agree_along (most - place) one other (drop place pairs) → place < length pairs → place < most
-    → pair ≡ get_or pairs place pair → with_pairs pairs (next_pairs one other pair) ≡ pairs_if are new → are ≡ false
-    → all ≡ false
-step_differs one other most place pairs new pair all are so_far within left at is unlike =
-    next_is one other most place pairs pair all so_far within left at
-    ∙ without one other (most - (place + 1)) (place + 1) pairs (next_pairs one other pair)
-    (is ∙ ap (λ (b : Bool). pairs_if b new) unlike)
-
--- more pairs than may be read
-pub overfull : (one other : Table) (most place : ℕ) (pairs : List TypePair) (all : Bool)
-    → all ≡ agree_along (most - place) one other (drop place pairs) → place ≤ most → most < length pairs → all ≡ false
-overfull one other most place pairs all so_far left many =
-    let count = length-drop place pairs in
-    so_far ∙ too_many (most - place) one other (drop place pairs) (omega (arith, count, left, many))
-
-pub at_end : (one other : Table) (most place : ℕ) (pairs : List TypePair) (all : Bool)
-    → all ≡ agree_along (most - place) one other (drop place pairs) → length pairs ≤ place → all ≡ true
-at_end one other most place pairs all so_far end =
-    so_far ∙ ap (agree_along (most - place) one other) (drop_all place pairs end) ∙ none_agree (most - place) one other
-
-pub ended : (one other : Table) (most place count : ℕ) (pairs : List TypePair) (all : Bool)
-    → all ≡ agree_along (most - place) one other (drop place pairs) → most ≤ place → place ≤ most
-    → count ≡ length pairs → all ≡ leb count most
-ended one other most place count pairs all so_far end left is = elim (cases_Bool (leb count most)) [
-  | inl few ↦
-      let within = leb-true count most few in
-      at_end one other most place pairs all so_far (omega (arith, within, is, end)) ∙ sym few
-  | inr many ↦
-      let beyond = leb-false count most many in
-      overfull one other most place pairs all so_far left (omega (arith, beyond, is)) ∙ sym many
-]
+    omega (arith, within, grown pairs new (next_pairs one other pair) (rw alike at is))

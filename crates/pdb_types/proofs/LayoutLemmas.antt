@@ -1,12 +1,9 @@
 -- The fields of a class, one after another.
 use Rattle.std.proofs.Common.{◌≡◌, ◌⊎◌, inl, inr, ℕ, suc, ◌+◌, ◌<◌, List, [], ◌∷◌, ◌++◌, length, get_or, drop, map}
 use Rattle.std.proofs.Common.{Bool, ◌||◌}
-use Rattle.std.proofs.Common.{refl, sym, ap, ◌∙◌, Option, Some, None, Ok, Err, append_assoc, add-one}
-use Rattle.std.specs.Option.{option_to_list}
+use Rattle.std.proofs.Common.{refl, ap, Option, Ok, Err, add-one}
 use Rattle.std.specs.List.{cons_option, list_any}
 use Rattle.std.proofs.Math.Seq.{drop-cons}
-use Rattle.std.proofs.lemmas.List.{append-nil}
-use Rattle.pdb_base.proofs.lemmas.Collected.{bind_ok, ok, ok_is}
 use Rattle.pdb_base.specs.Answer.{Answer, ◌>>=◌}
 use Rattle.pdb_base.specs.Refusal.{Refusal, refusal_of}
 use Rattle.pdb_base.specs.declared.error.Error.{Error}
@@ -28,10 +25,6 @@ behind found fields = fields >>= λ more. Ok (found ++ more)
 pub record AreFieldsTo (table : Table) (records rest : List TypeValue) (found : List FieldValue) : Type 0 where
   pub is : field_values_in table records ≡ behind found (field_values_in table rest)
 
-behind_none : (fields : Answer (List FieldValue)) → fields ≡ behind [] fields
-behind_none (Ok fields) = refl
-behind_none (Err refusal) = refl
-
 -- the fields from an item on
 pub items_from : (items : List TypeData) (i : ℕ) (item : TypeData) → i < length items → get_or items i item ≡ item
     → map type_value (drop i items) ≡ type_value item ∷ map type_value (drop (i + 1) items)
@@ -43,16 +36,6 @@ items_from items i item within here =
 abbrev next_fields : Answer (Option FieldValue) → Answer (List FieldValue) → Answer (List FieldValue)
 next_fields field fields = field >>= λ one. fields >>= λ more. Ok (cons_option one more)
 
-some_next : (found : List FieldValue) (field : FieldValue) (fields : Answer (List FieldValue))
-    → behind found (next_fields (Ok (Some field)) fields) ≡ behind (found ++ field ∷ []) fields
-some_next found field (Ok fields) = ap (λ (l : List FieldValue). Ok l) (sym (append_assoc found (field ∷ []) fields))
-some_next found field (Err refusal) = refl
-
-none_next : (found : List FieldValue) (fields : Answer (List FieldValue))
-    → behind found (next_fields (Ok None) fields) ≡ behind found fields
-none_next found (Ok fields) = refl
-none_next found (Err refusal) = refl
-
 next_is : (table : Table) (records : List TypeValue) (items : List TypeData) (i : ℕ) (item : TypeData)
     (found : List FieldValue) (field : Answer (Option FieldValue))
     → AreFieldsTo table records (map type_value (drop i items)) found → i < length items → get_or items i item ≡ item
@@ -60,32 +43,7 @@ next_is : (table : Table) (records : List TypeValue) (items : List TypeData) (i 
     → field_values_in table records ≡ behind found (next_fields field
     (field_values_in table (map type_value (drop (i + 1) items))))
 next_is table records items i item found field so_far within here is =
-    so_far.is
-    ∙ ap (λ (l : List TypeValue). behind found (field_values_in table l)) (items_from items i item within here)
-    ∙ ap (λ (f : Answer (Option FieldValue)). behind found
-    (next_fields f (field_values_in table (map type_value (drop (i + 1) items))))) is
-
-option_next : (found : List FieldValue) (field : Option FieldValue) (fields : Answer (List FieldValue))
-    → behind found (next_fields (Ok field) fields) ≡ behind (found ++ option_to_list field) fields
-option_next found (Some field) fields = some_next found field fields
-option_next found None fields = none_next found fields
-    ∙ ap (λ (l : List FieldValue). behind l fields) (sym (append-nil found))
-
--- one more record
-pub fields_more : (table : Table) (records : List TypeValue) (items : List TypeData) (i : ℕ) (item : TypeData)
-    (found new : List FieldValue)
-    → AreFieldsTo table records (map type_value (drop i items)) found → i < length items → get_or items i item ≡ item
-    → with_field found (field_of table (type_value item)) ≡ Ok new
-    → AreFieldsTo table records (map type_value (drop (i + 1) items)) new
-fields_more table records items i item found new so_far within here is =
-    let one = bind_ok (field_of table (type_value item))
-    (λ (field : Option FieldValue). ok (found ++ option_to_list field)) new is in record {
-      is =
-          next_is table records items i item found (Ok one.0) so_far within here one.1
-          ∙ option_next found one.0 (field_values_in table (map type_value (drop (i + 1) items)))
-          ∙ ap (λ (l : List FieldValue). behind l (field_values_in table (map type_value (drop (i + 1) items))))
-          (ok_is (found ++ option_to_list one.0) new one.2);
-    }
+    rw (so_far.is, items_from items i item within here, is) refl
 
 refused_one : (found : List FieldValue) (field : Answer (Option FieldValue)) (refusal : Refusal)
     → with_field found field ≡ Err refusal → field ≡ Err refusal

@@ -1,7 +1,7 @@
 -- Lists have no names.
-use Rattle.std.proofs.Common.{◌≡◌, ◌⊎◌, inl, inr, ℕ, List, [], refl, sym, ◌∙◌, true, eqb, ltb, None, Ok, Err}
-use Rattle.std.proofs.Common.{◌∷◌, ◌++◌, ap, take, drop, length}
-use Rattle.std.proofs.lemmas.Bool.{cases_Bool, eqb-true}
+use Rattle.std.proofs.Common.{◌≡◌, inl, inr, ℕ, List, [], refl, true, eqb, ltb, None, Ok, Err}
+use Rattle.std.proofs.Common.{◌∷◌, ◌++◌, ◌||◌, take, drop, length}
+use Rattle.std.proofs.lemmas.Bool.{cases_Bool, eqb-true, or_cases}
 use Rattle.std.proofs.lemmas.List.{append-nil}
 use Rattle.pdb_base.specs.Answer.{Answer, ◌>>=◌}
 use Rattle.pdb_base.specs.Endian.{little_number}
@@ -31,29 +31,25 @@ nameless : {X : Type 0} (numbering : Numbering) (index : ℕ) (made : X → Type
 nameless numbering index made none (Ok x) = rw (none x.0) refl
 nameless numbering index made none (Err refusal) = refl
 
-is_one : (number : ℕ) → is_list number ≡ true → (number ≡ 0x1203) ⊎ ((number ≡ 0x1201) ⊎ (number ≡ 0x1206))
-is_one number is = elim (cases_Bool (eqb number 0x1203)) [
-  | inl fields ↦ inl (eqb-true number 0x1203 fields)
-  | inr no_fields ↦ elim (cases_Bool (eqb number 0x1201)) [
-    | inl arguments ↦ inr (inl (eqb-true number 0x1201 arguments))
-    | inr no_arguments ↦
-        let methods : is_list number ≡ eqb number 0x1206 = rw (no_fields, no_arguments) refl in
-        inr (inr (eqb-true number 0x1206 (sym methods ∙ is)))
-  ]
-]
-
 -- what follows the leaf of a list
 behind : (numbering : Numbering) (index number : ℕ) (rest : List ℕ) → is_list number ≡ true
     → type_numbers numbering index (◌>>=◌ {A = TypeValue × List ℕ} {B = TypeValue}
     (record_of (eqb number field_list_leaf) number rest) (λ x. Ok x.0)) ≡ []
 unfolding behind_leaf
-behind numbering index number rest is = elim (is_one number is) [
-  | inl fields ↦ rw fields (nameless numbering index field_list_of (λ entries. refl) (to_end field_at rest))
-  | inr (inl arguments) ↦
-      rw arguments (nameless numbering index argument_list (λ list. refl) (counted_at Bits32 as_type rest))
-  | inr (inr methods) ↦
-      rw methods (nameless numbering index method_list (λ list. refl) (to_end (row listed_method_row) rest))
-]
+behind numbering index number rest is =
+    elim (or_cases (eqb number 0x1203 || eqb number 0x1201) (eqb number 0x1206) is) [
+      | inl others ↦ elim (or_cases (eqb number 0x1203) (eqb number 0x1201) others) [
+        | inl fields ↦
+            rw (eqb-true number 0x1203 fields)
+            (nameless numbering index field_list_of (λ entries. refl) (to_end field_at rest))
+        | inr arguments ↦
+            rw (eqb-true number 0x1201 arguments)
+            (nameless numbering index argument_list (λ list. refl) (counted_at Bits32 as_type rest))
+      ]
+      | inr methods ↦
+          rw (eqb-true number 0x1206 methods)
+          (nameless numbering index method_list (λ list. refl) (to_end (row listed_method_row) rest))
+    ]
 
 -- the first two bytes say the kind
 first_two : (item : List ℕ) → little_number 2 (take 2 item) ≡ little_number 2 item
@@ -87,4 +83,4 @@ list_numbers numbering index item is = elim (cases_Bool (ltb index first_record)
 pub list_adds : (numbering : Numbering) (numbers : List ℕ) (index : ℕ) (item : List ℕ) → is_list (kind_of item) ≡ true
     → numbers ≡ numbers ++ type_numbers numbering index (type_of index item)
 list_adds numbering numbers index item is =
-    sym (ap (λ (more : List ℕ). numbers ++ more) (list_numbers numbering index item is) ∙ append-nil numbers)
+    rw (list_numbers numbering index item is, append-nil) refl

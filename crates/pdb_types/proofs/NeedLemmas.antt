@@ -1,6 +1,6 @@
 -- The definitions that a definition needs.
 use Rattle.std.proofs.Common.{◌≡◌, ◌⊎◌, inl, inr, ℕ, zero, suc, ◌+◌, ◌-◌, ◌<◌, List, length, get_or, drop, map}
-use Rattle.std.proofs.Common.{refl, sym, ap, ◌∙◌, arith, Option, Some, None, Ok, Err}
+use Rattle.std.proofs.Common.{refl, ap, arith, Option, Some, None, Ok, Err}
 use Rattle.pdb_base.specs.Answer.{Answer, ◌>>=◌}
 use Rattle.pdb_base.specs.Refusal.{refusal_of}
 use Rattle.pdb_base.specs.declared.error.Error.{Error}
@@ -42,7 +42,7 @@ pub held_refused : (most : ℕ) (table : Table) (index : ℕ) (all : Answer (Opt
     → all ≡ held_along most table index → (type_at table index ≡ Err (refusal_of e)) ⊎ (e ≡ OutOfMemory)
     → (all ≡ Err (refusal_of e)) ⊎ (e ≡ OutOfMemory)
 held_refused most table index all e some so_far (inl is) =
-    inl (so_far ∙ held_step most table index some ∙ ap (held_after table (most - 1) index) is)
+    inl (rw (so_far, held_step most table index some, is) refl)
 held_refused most table index all e some so_far (inr memory) = inr memory
 
 pub held_inner : (most next : ℕ) (table : Table) (index : ℕ) (value : TypeValue) (inner : TypeIndex)
@@ -50,15 +50,11 @@ pub held_inner : (most next : ℕ) (table : Table) (index : ℕ) (value : TypeVa
     → held_along most table index ≡ held_along next table inner.0
 held_inner most next table index value inner more is within =
     let less : most - 1 ≡ next = omega (arith, more) in
-    held_step most table index (omega (arith, more)) ∙ ap (held_after table (most - 1) index) is
-    ∙ ap (held_by (held_along (most - 1) table) table index value) (sym within)
-    ∙ ap (λ (n : ℕ). held_along n table inner.0) less
+    rw (held_step most table index (omega (arith, more)), is, ← within, less) refl
 
 pub held_here : (most : ℕ) (table : Table) (index : ℕ) (value : TypeValue) → 0 < most → type_at table index ≡ Ok value
     → None ≡ inner_type value → held_along most table index ≡ Ok (definition_by table index value)
-held_here most table index value some is within =
-    held_step most table index some ∙ ap (held_after table (most - 1) index) is
-    ∙ ap (held_by (held_along (most - 1) table) table index value) (sym within)
+held_here most table index value some is within = rw (held_step most table index some, is, ← within) refl
 
 -- ---- needs, one after another
 
@@ -70,8 +66,7 @@ needs_next : (table : Table) (all : Answer (List ℕ)) (items : List TypeData) (
     → get_or items i item ≡ item → with_need found (need_of table (type_value item)) ≡ needs
     → all ≡ needs_after table (map type_value (drop (i + 1) items)) needs
 needs_next table all items i item found needs so_far within here is =
-    so_far ∙ ap (with_needs table found) (items_from items i item within here)
-    ∙ ap (needs_after table (map type_value (drop (i + 1) items))) is
+    rw (so_far, items_from items i item within here, is) refl
 
 -- one more record
 pub needs_more : (table : Table) (all : Answer (List ℕ)) (items : List TypeData) (i : ℕ) (item : TypeData)

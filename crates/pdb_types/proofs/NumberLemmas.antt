@@ -1,30 +1,30 @@
 -- The numbers of a table are those of its definitions.
-use Rattle.std.proofs.Common.{◌≡◌, ◌≢◌, inl, inr, ℕ, zero, suc, ◌+◌, ◌-◌, ◌*◌, ◌/◌, ◌<◌, ◌≤◌, List, [], ◌∷◌, ◌++◌}
+use Rattle.std.proofs.Common.{◌≡◌, ◌≢◌, inl, inr, ℕ, zero, suc, ◌+◌, ◌-◌, ◌*◌, ◌<◌, ◌≤◌, List, [], ◌∷◌, ◌++◌}
 use Rattle.std.proofs.Common.{length}
 use Rattle.std.proofs.Common.{get_or, take, drop, refl, sym, ap, ◌∙◌, arith, Bool, true, false, not, cond, eqb}
 use Rattle.std.proofs.Common.{ltb}
-use Rattle.std.proofs.Common.{leb, min, Option, Some, None, Ok, Err, Vec, Global}
+use Rattle.std.proofs.Common.{leb, Option, Some, None, Ok, Err, Vec, Global}
 use Rattle.std.specs.List.{list_any, slice_get}
 use Rattle.std.specs.List.Sorted.{IsNonDecreasingBy, IsPartitionPoint, IsPermutation}
 use Rattle.std.specs.Option.{option_map_or}
 use Rattle.std.specs.Str.{bytes_eq}
 use Rattle.std.proofs.Math.Seq.{drop-cons}
 use Rattle.std.proofs.Math.ListN.{drop_of_length-le}
-use Rattle.std.proofs.lemmas.Bool.{cases_lt, leb-false, ltb-true, false≢true, and_parts, not-true, or_left}
+use Rattle.std.proofs.lemmas.Bool.{cases_Bool, cases_lt, leb-false, ltb-true, false≢true, and_parts, not-true, or_left}
 use Rattle.std.proofs.lemmas.Bool.{or_right, le-ltb, ltb-false, leb-true, eq-eqb, eqb-true}
 use Rattle.std.proofs.lemmas.List.{append_assoc, append-nil, get_or-take, get_or-drop, length-take-le, length-drop}
 use Rattle.std.proofs.lemmas.List.Folds.{Any-from_list_any, list_any-append, list_any_at}
 use Rattle.std.proofs.lemmas.List.Sorted.{list_any-IsPermutation}
-use Rattle.std.proofs.lemmas.Option.{get_or_from_slice_get}
+use Rattle.std.proofs.lemmas.Option.{get_or_from_slice_get, slice_get_within}
 use Rattle.std.proofs.lemmas.Slice.Eq.{bytes_eq-Decides}
 use Rattle.pdb_base.specs.Answer.{Answer, Answers, ◌>>=◌}
 use Rattle.pdb_base.proofs.lemmas.Collected.{err, err_is, ok_is}
-use Rattle.pdb_base.specs.Refusal.{Refusal, refusal_of, type_not_found}
+use Rattle.pdb_base.specs.Refusal.{Refusal, refusal_of}
 use Rattle.pdb_base.specs.declared.error.Error.{Error}
 use Rattle.pdb_values.specs.TypeValue.{TypeValue}
 use Rattle.pdb_tpi.specs.Finder.{item_of}
 use Rattle.pdb_tpi.specs.Record.{type_of}
-use Rattle.pdb_tpi.specs.Steps.{WalkPosition, IsStep, room, body, steps_taken, walk, walk_rest, nth_item}
+use Rattle.pdb_tpi.specs.Steps.{WalkPosition, IsStep, room, body, steps_taken, walk, walk_rest}
 use Rattle.pdb_tpi.specs.Table.{Table}
 use Rattle.pdb_tpi.specs.Walk.{items, rest, fault_of}
 use Rattle.pdb_tpi.proofs.LawLemmas.{item_per_four_bytes}
@@ -47,29 +47,18 @@ use Rattle.pdb_types.specs.TypeAt.{type_at}
 abbrev is_number : Numbering → TypeName → ℕ → ℕ → Bool
 is_number numbering name index number = eqb number (name_number numbering name index)
 
-abbrev source : List ℕ → TypeName
-source text = source_name text
-
-abbrev decorated : List ℕ → TypeName
-decorated text = decorated_name text
-
-same_bytes : (xs ys : List ℕ) → bytes_eq xs ys ≡ true → xs ≡ ys
-same_bytes xs ys is = (bytes_eq-Decides xs ys).0 is
-
-the_number : (numbering : Numbering) (index : ℕ) (own name : TypeName) → own ≡ name
-    → list_any (is_number numbering name index) (name_number numbering own index ∷ []) ≡ true
-the_number numbering index own name same =
-    or_left (is_number numbering name index (name_number numbering own index)) false
-    (eq-eqb (name_number numbering own index) (name_number numbering name index)
-    (ap (λ (n : TypeName). name_number numbering n index) same))
+the_number : (numbering : Numbering) (index : ℕ) (name : TypeName)
+    → list_any (is_number numbering name index) (name_number numbering name index ∷ []) ≡ true
+the_number numbering index name =
+    or_left (is_number numbering name index (name_number numbering name index)) false
+    (eq-eqb (name_number numbering name index) (name_number numbering name index) refl)
 
 has_source : (numbering : Numbering) (index : ℕ) (text : List ℕ) (declared : Declared) (has : Bool)
     → has ≡ true → bytes_eq declared.name text ≡ true
     → list_any (is_number numbering (source_name text) index)
     (cond has (name_number numbering (source_name declared.name) index ∷ []) []) ≡ true
-has_source numbering index text declared has numbered is = rw numbered
-    (the_number numbering index (source_name declared.name) (source_name text)
-    (ap source (same_bytes declared.name text is)))
+has_source numbering index text declared has numbered is =
+    rw (numbered, (bytes_eq-Decides declared.name text).0 is) (the_number numbering index (source_name text))
 
 has_unique : (numbering : Numbering) (index : ℕ) (text : List ℕ) (unique : Option (List ℕ))
     → option_map_or (λ own. bytes_eq own text) unique false ≡ true
@@ -77,25 +66,16 @@ has_unique : (numbering : Numbering) (index : ℕ) (text : List ℕ) (unique : O
     (option_map_or (λ own. name_number numbering (decorated_name own) index ∷ []) unique []) ≡ true
 has_unique numbering index text None is = absurd (false≢true is)
 has_unique numbering index text (Some own) is =
-    the_number numbering index (decorated_name own) (decorated_name text) (ap decorated (same_bytes own text is))
+    rw ((bytes_eq-Decides own text).0 is) (the_number numbering index (decorated_name text))
 
 has_name : (numbering : Numbering) (index : ℕ) (name : TypeName) (declared : Declared)
     → is_numbered numbering name ≡ true → bears name declared ≡ true
     → list_any (is_number numbering name index)
     (source_name_number numbering index declared ++ unique_name_number numbering index declared) ≡ true
 has_name numbering index (source_name text) declared numbered is =
-    let test = is_number numbering (source_name text) index in
-    let ours = source_name_number numbering index declared in
-    let others = unique_name_number numbering index declared in
-    list_any-append test ours others
-    ∙ or_left (list_any test ours) (list_any test others)
-    (has_source numbering index text declared numbering.has_source_names numbered is)
+    rw list_any-append (or_left _ _ (has_source numbering index text declared numbering.has_source_names numbered is))
 has_name numbering index (decorated_name text) declared numbered is =
-    let test = is_number numbering (decorated_name text) index in
-    let others = source_name_number numbering index declared in
-    let ours = unique_name_number numbering index declared in
-    list_any-append test others ours
-    ∙ or_right (list_any test others) (list_any test ours) (has_unique numbering index text declared.unique_name is)
+    rw list_any-append (or_right _ _ (has_unique numbering index text declared.unique_name is))
 
 has_declared : (numbering : Numbering) (index : ℕ) (name : TypeName) (declared : Option Declared)
     → is_numbered numbering name ≡ true → option_map_or (declares name) declared false ≡ true
@@ -121,34 +101,29 @@ has_item numbering at index k name [] item numbered same there is = absurd cc
 has_item numbering at index zero name (first ∷ items) item numbered same there is =
     let here : at ≡ index = omega (arith, same) in
     let one : first ≡ item = cc in
-    let test = is_number numbering name at in
-    let ours = type_numbers numbering index (type_of index first) in
-    let others = item_numbers numbering (index + 1) items in
-    let found : list_any test ours ≡ true =
+    let found : list_any (is_number numbering name at) (type_numbers numbering index (type_of index first)) ≡ true =
     rw (one, ← here) (has_type numbering at name (type_of at item) numbered is) in
-    list_any-append test ours others ∙ or_left (list_any test ours) (list_any test others) found
+    rw list_any-append (or_left _ _ found)
 has_item numbering at index (suc k) name (first ∷ items) item numbered same there is =
-    let test = is_number numbering name at in
-    let others = type_numbers numbering index (type_of index first) in
-    let ours = item_numbers numbering (index + 1) items in
     let found = has_item numbering at (index + 1) k name items item numbered (omega (arith, same)) there is in
-    list_any-append test others ours ∙ or_right (list_any test others) (list_any test ours) found
+    rw list_any-append (or_right _ _ found)
 
 -- ---- the items of a table
 
-ok_there : (table : Table) (index : ℕ) (item : List ℕ) (past : Bool)
-    → cond past (Err (type_not_found index)) (nth_item table (index - table.header.minimum_index)) ≡ Ok item
-    → slice_get (walk table) (index - table.header.minimum_index) ≡ Some item
-ok_there table index item true is = absurd cc
-ok_there table index item false is = nth_ok table (index - table.header.minimum_index) item is
-
-item_there : (table : Table) (index : ℕ) (item : List ℕ) → table.header.minimum_index ≤ index
-    → item_of table index ≡ Ok item
-    → slice_get (walk table) (index - table.header.minimum_index) ≡ Some item
+-- an item is read where it stands, below the maximum
+pub item_there : (table : Table) (index : ℕ) (item : List ℕ) → table.header.minimum_index ≤ index
+    → item_of table index ≡ Ok item → (index < table.header.maximum_index)
+    × (slice_get (walk table) (index - table.header.minimum_index) ≡ Some item)
 unfolding item_of
 item_there table index item least is =
     let above = le-ltb index table.header.minimum_index least in
-    ok_there table index item (leb table.header.maximum_index index) (rw above at is)
+    elim (cases_Bool (leb table.header.maximum_index index)) [
+      | inl past ↦ let none = rw (above, past) at is in absurd cc
+      | inr inside ↦ (
+        leb-false table.header.maximum_index index inside,
+        nth_ok table (index - table.header.minimum_index) item (rw (above, inside) at is),
+      )
+    ]
 
 defined_by : (name : TypeName) (index : ℕ) (answer : Answer (List ℕ)) → defines name (answer >>= type_of index) ≡ true
     → (item : List ℕ) × (answer ≡ Ok item) × (defines name (type_of index item) ≡ true)
@@ -172,24 +147,14 @@ walk_short table =
     let whole = length-drop table.header.header_size table.bytes in
     omega (arith, four, whole)
 
-there_within : (items : List (List ℕ)) (k : ℕ) (item : List ℕ) → slice_get items k ≡ Some item → k < length items
-there_within [] k item is = absurd cc
-there_within (first ∷ items) zero item is = omega arith
-there_within (first ∷ items) (suc k) item is = let within = there_within items k item is in omega (arith, within)
-
-above_by : (k items bytes least : ℕ) → k < items → 4 * items ≤ bytes → items ≤ 0x1_0000_0000 - least
-    → k ≤ min (bytes / 4) (0xffff_ffff - least)
-above_by k items bytes least within short few = omega (arith, within, short, few)
-
 -- the index of a definition is not far above the least one
 pub defined_near : (table : Table) (name : TypeName) (index : ℕ) → table.header.minimum_index ≤ index
     → defines name (type_at table index) ≡ true → index - table.header.minimum_index ≤ most_above table
 defined_near table name index least is =
     let there = defined_there table name index is in
-    let k = index - table.header.minimum_index in
-    let within = there_within (walk table) k there.0 (item_there table index there.0 least there.1) in
-    above_by k (length (walk table)) (length table.bytes) table.header.minimum_index within (walk_short table)
-    (walk_few table)
+    let within = slice_get_within (walk table) (index - table.header.minimum_index) there.0
+    (item_there table index there.0 least there.1).1 in
+    omega (arith, within, walk_short table, walk_few table)
 
 -- ---- the numbers of a table
 
@@ -207,7 +172,7 @@ numbered table numbering numbers sorted of_table fits are moved order = record {
   complete = λ name index has above is.
       let least = table.header.minimum_index in
       let there = defined_there table name index is in
-      let item = item_there table index there.0 above there.1 in
+      let item = (item_there table index there.0 above there.1).1 in
       let test = is_number numbering name index in
       let found : list_any test numbers ≡ true =
       rw are (has_item numbering index least (index - least) name (walk table) there.0 has
@@ -317,15 +282,11 @@ whole_refused numbering table e (inl is) =
 whole_refused numbering table e (inr memory) = inr memory
 
 pub whole_walked : (numbering : Numbering) (table : Table) (numbers : List ℕ)
-    → if_none_left (all_numbers numbering table) (walk_rest table) ≡ Ok numbers → whole_table table ≡ Ok table
+    → if_none_left (all_numbers numbering table) (walk_rest table) ≡ Ok numbers
+    → (whole_table table ≡ Ok table) × (numbers ≡ all_numbers numbering table)
 unfolding whole_table
 whole_walked numbering table numbers is =
-    (given_alike (all_numbers numbering table) numbers table (walk_rest table) is).0
-
-pub whole_numbers : (numbering : Numbering) (table : Table) (numbers : List ℕ)
-    → if_none_left (all_numbers numbering table) (walk_rest table) ≡ Ok numbers → numbers ≡ all_numbers numbering table
-whole_numbers numbering table numbers is =
-    (given_alike (all_numbers numbering table) numbers table (walk_rest table) is).1
+    given_alike (all_numbers numbering table) numbers table (walk_rest table) is
 
 -- ---- the numbers that may be of a name
 

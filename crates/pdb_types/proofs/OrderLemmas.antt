@@ -1,13 +1,12 @@
 -- The search that puts definitions into an order.
 use Rattle.std.proofs.Common.{◌≡◌, ◌⊎◌, inl, inr, ℕ, List, [], ◌∷◌, ◌++◌, map, length, refl, sym, ap, ◌∙◌, arith}
-use Rattle.std.proofs.Common.{Bool, true, false, eqb, cond, Option, Some, None, Ok, Err, append_assoc, subst}
-use Rattle.std.proofs.lemmas.Bool.{cases_Bool, eqb-true}
-use Rattle.std.proofs.lemmas.Bool.Decides.{nat_tests}
+use Rattle.std.proofs.Common.{eqb, cond, Option, Some, None, Ok, append_assoc, subst, zero, suc, get_or}
+use Rattle.std.proofs.lemmas.Bool.{cases_Bool, eqb-true, eqb-false}
 use Rattle.std.proofs.lemmas.List.{append-nil, map-append}
-use Rattle.std.proofs.lemmas.List.Elements.{All-nil, All-cons, All-head, All-tail, All-append, All-push, All-weaker}
-use Rattle.std.proofs.lemmas.List.Elements.{All-contains, All-contains_itself}
+use Rattle.std.proofs.lemmas.List.Elements.{All-nil, All-cons, All-head, All-tail, All-append, All-push, All-pop}
+use Rattle.std.proofs.lemmas.List.Elements.{All-contains_itself, All-weaker, Contains-get_or, Contains-push}
 use Rattle.std.proofs.lemmas.List.Elements.{Contains-append_left, Contains-append_right, Contains-append_cases}
-use Rattle.std.proofs.lemmas.List.Elements.{Contains-push, Contains-push_cases}
+use Rattle.std.proofs.lemmas.List.Elements.{Contains-push_cases}
 use Rattle.std.proofs.lemmas.Map.Views.{All-map-IsPermutation}
 use Rattle.std.specs.List.Sorted.{IsPermutation}
 use Rattle.std.specs.List.{All, Contains}
@@ -43,19 +42,15 @@ Each P before (one ∷ after) = P before one × Each P (before ++ one ∷ []) af
 
 each_push : (P : List ℕ → ℕ → Type 0) (before list : List ℕ) (one : ℕ) → Each P before list → P (before ++ list) one
     → Each P before (list ++ one ∷ [])
-each_push P before [] one each here = (subst (λ (xs : List ℕ). P xs one) (append-nil before) here, tt)
-each_push P before (other ∷ list) one each here = (
-  each.0,
-  each_push P (before ++ other ∷ []) list one each.1
-      (subst (λ (xs : List ℕ). P xs one) (sym (append_assoc before (other ∷ []) list)) here),
-)
+each_push P before [] one each here = (rw append-nil at here, tt)
+each_push P before (other ∷ list) one each here =
+    (each.0, each_push P (before ++ other ∷ []) list one each.1 (rw append_assoc here))
 
 each_at : (P : List ℕ → ℕ → Type 0) (others before after : List ℕ) (one : ℕ) → Each P others (before ++ one ∷ after)
     → P (others ++ before) one
-each_at P others [] after one each = subst (λ (xs : List ℕ). P xs one) (sym (append-nil others)) each.0
+each_at P others [] after one each = rw append-nil each.0
 each_at P others (other ∷ before) after one each =
-    subst (λ (xs : List ℕ). P xs one) (append_assoc others (other ∷ []) before)
-    (each_at P (others ++ other ∷ []) before after one each.1)
+    rw append_assoc at (each_at P (others ++ other ∷ []) before after one each.1)
 
 each_front : (P : List ℕ → ℕ → Type 0) (before list more : List ℕ) → Each P before (list ++ more) → Each P before list
 each_front P before [] more each = tt
@@ -121,46 +116,40 @@ abbrev pub IsNeededBy : Needs → Option ℕ → ℕ → Type 0
 IsNeededBy needs None one = Unit {0}
 IsNeededBy needs (Some before) one = DoesNeed needs before one
 
+-- the last definition that is open behind a step
+abbrev pub next_open : Option ℕ → Step → Option ℕ
+next_open from (Enter index) = from
+next_open from (Leave index) = Some index.0
+
 -- the definition of each step is needed by that of the last step before it that leaves one
 abbrev pub IsLinked : Needs → Option ℕ → List Step → Type 0
 IsLinked needs from [] = Unit {0}
-IsLinked needs from (Enter index ∷ steps) = IsNeededBy needs from index.0 × IsLinked needs from steps
-IsLinked needs from (Leave index ∷ steps) = IsNeededBy needs from index.0 × IsLinked needs (Some index.0) steps
+IsLinked needs from (step ∷ steps) =
+    IsNeededBy needs from (number step) × IsLinked needs (next_open from step) steps
 
 -- the last definition that is open
 abbrev pub last_open : Option ℕ → List Step → Option ℕ
 last_open from [] = from
-last_open from (Enter index ∷ steps) = last_open from steps
-last_open from (Leave index ∷ steps) = last_open (Some index.0) steps
+last_open from (step ∷ steps) = last_open (next_open from step) steps
 
-linked_front : (needs : Needs) (from : Option ℕ) (steps more : List Step) → IsLinked needs from (steps ++ more)
-    → IsLinked needs from steps
-linked_front needs from [] more linked = tt
-linked_front needs from (Enter index ∷ steps) more linked =
-    (linked.0, linked_front needs from steps more linked.1)
-linked_front needs from (Leave index ∷ steps) more linked =
-    (linked.0, linked_front needs (Some index.0) steps more linked.1)
-
-linked_end : (needs : Needs) (from : Option ℕ) (steps more : List Step) → IsLinked needs from (steps ++ more)
-    → IsLinked needs (last_open from steps) more
-linked_end needs from [] more linked = linked
-linked_end needs from (Enter index ∷ steps) more linked = linked_end needs from steps more linked.1
-linked_end needs from (Leave index ∷ steps) more linked = linked_end needs (Some index.0) steps more linked.1
+linked_parts : (needs : Needs) (from : Option ℕ) (steps more : List Step) → IsLinked needs from (steps ++ more)
+    → IsLinked needs from steps × IsLinked needs (last_open from steps) more
+linked_parts needs from [] more linked = (tt, linked)
+linked_parts needs from (step ∷ steps) more linked =
+    let parts = linked_parts needs (next_open from step) steps more linked.1 in ((linked.0, parts.0), parts.1)
 
 linked_with : (needs : Needs) (from : Option ℕ) (steps more : List Step) → IsLinked needs from steps
     → IsLinked needs (last_open from steps) more → IsLinked needs from (steps ++ more)
 linked_with needs from [] more linked end = end
-linked_with needs from (Enter index ∷ steps) more linked end =
-    (linked.0, linked_with needs from steps more linked.1 end)
-linked_with needs from (Leave index ∷ steps) more linked end =
-    (linked.0, linked_with needs (Some index.0) steps more linked.1 end)
+linked_with needs from (step ∷ steps) more linked end =
+    (linked.0, linked_with needs (next_open from step) steps more linked.1 end)
 
-linked_entered : (needs : Needs) (one : ℕ) (indexes : List TypeIndex) → All (DoesNeed needs one) (numbers indexes)
-    → IsLinked needs (Some one) (entered indexes)
-linked_entered needs one [] all = tt
-linked_entered needs one (index ∷ indexes) all = (
-  All-head (DoesNeed needs one) index.0 (numbers indexes) all,
-  linked_entered needs one indexes (All-tail (DoesNeed needs one) index.0 (numbers indexes) all),
+linked_entered : (needs : Needs) (from : Option ℕ) (indexes : List TypeIndex)
+    → All (IsNeededBy needs from) (numbers indexes) → IsLinked needs from (entered indexes)
+linked_entered needs from [] all = tt
+linked_entered needs from (index ∷ indexes) all = (
+  All-head (IsNeededBy needs from) index.0 (numbers indexes) all,
+  linked_entered needs from indexes (All-tail (IsNeededBy needs from) index.0 (numbers indexes) all),
 )
 
 leaves_append : (steps more : List Step) → leaves (steps ++ more) ≡ leaves steps ++ leaves more
@@ -208,42 +197,29 @@ pub none_contained : (one : ℕ) → Contains {X = ℕ} [] one → ⊥
 none_contained one there = let below = there.1 in absurd (omega (arith, below))
 
 pub head_or_tail : (first one : ℕ) (rest : List ℕ) → Contains (first ∷ rest) one → (first ≡ one) ⊎ Contains rest one
-head_or_tail first one rest there = elim (Contains-append_cases (first ∷ []) rest one there) [
-  | inl here ↦ elim (Contains-push_cases [] first one here) [
-    | inl none ↦ absurd (none_contained one none)
-    | inr same ↦ inl same
-  ]
-  | inr later ↦ inr later
-]
-
-back_by : (needs : Needs) (first index : TypeIndex) (indexes : List TypeIndex) (test : Bool)
-    → eqb index.0 first.0 ≡ test → IsChain needs (Some index.0) indexes
-    → IsNeededBy needs (last_of (Some index.0) indexes) first.0
-    → (test ≡ false → LeadsBack needs first.0 (numbers (open_from first indexes)))
-    → LeadsBack needs first.0 (numbers (cond test (index ∷ indexes) (open_from first indexes)))
-back_by needs first index indexes true is chain last later =
-    let same = eqb-true index.0 first.0 is in (
-      numbers indexes,
-      ap (λ (n : ℕ). n ∷ numbers indexes) same,
-      subst (λ (n : ℕ). Leads needs n (numbers indexes) first.0) same
-          (leads_from needs index.0 indexes first.0 chain last),
-    )
-back_by needs first index indexes false is chain last later = later refl
-
-apart : (a b : ℕ) → a ≡ b → eqb a b ≡ false → ⊥
-apart a b same is = grind (arith, nat_tests)
+head_or_tail first one rest (zero, below, is) = inl is
+head_or_tail first one rest (suc k, below, is) = inr (k, omega (arith, below), is)
 
 leads_back : (needs : Needs) (from : Option ℕ) (first : TypeIndex) (indexes : List TypeIndex)
     → Contains (numbers indexes) first.0 → IsChain needs from indexes
     → IsNeededBy needs (last_of from indexes) first.0
     → LeadsBack needs first.0 (numbers (open_from first indexes))
 leads_back needs from first [] there chain last = absurd (none_contained first.0 there)
-leads_back needs from first (index ∷ indexes) there chain last =
-    back_by needs first index indexes (eqb index.0 first.0) refl chain.1 last
-    (λ other. elim (head_or_tail index.0 first.0 (numbers indexes) there) [
-      | inl same ↦ absurd (apart index.0 first.0 same other)
-      | inr later ↦ leads_back needs (Some index.0) first indexes later chain.1 last
-    ])
+leads_back needs from first (index ∷ indexes) there chain last = elim (cases_Bool (eqb index.0 first.0)) as
+    (λ _. LeadsBack needs first.0 (numbers (open_from first (index ∷ indexes)))) [
+      | inl is ↦
+          let same = eqb-true index.0 first.0 is in
+          rw is (
+            numbers indexes,
+            ap (λ (n : ℕ). n ∷ numbers indexes) same,
+            subst (λ (n : ℕ). Leads needs n (numbers indexes) first.0) same
+                (leads_from needs index.0 indexes first.0 chain.1 last),
+          )
+      | inr other ↦ rw other (elim (head_or_tail index.0 first.0 (numbers indexes) there) [
+        | inl same ↦ absurd (eqb-false index.0 first.0 other same)
+        | inr later ↦ leads_back needs (Some index.0) first indexes later chain.1 last
+      ])
+    ]
 
 -- ---- the search
 
@@ -268,29 +244,11 @@ pub record IsSearch (needs : Needs) (start : List ℕ) (steps : List Step) (orde
 abbrev pub IsMarked : (ℕ → Option Mark) → (ℕ → Option Mark) → ℕ → Mark → Type 0
 IsMarked old new one mark = (q : ℕ) → new q ≡ cond (eqb one q) (Some mark) (old q)
 
-all_front : {X : Type 0} (P : X → Type 0) (xs ys : List X) → All P (xs ++ ys) → All P xs
-all_front P xs ys all = All-weaker (Contains xs) P (λ x there. All-contains P (xs ++ ys) x all
-    (Contains-append_left xs ys x there)) xs (All-contains_itself xs)
-
-all_end : {X : Type 0} (P : X → Type 0) (xs ys : List X) → All P (xs ++ ys) → All P ys
-all_end P xs ys all = All-weaker (Contains ys) P (λ x there. All-contains P (xs ++ ys) x all
-    (Contains-append_right xs ys x there)) ys (All-contains_itself ys)
-
-same_one : (index : TypeIndex) (other : ℕ) → Contains (index.0 ∷ []) other → index.0 ≡ other
-same_one index other there = elim (head_or_tail index.0 other [] there) [
-  | inl same ↦ same
-  | inr none ↦ absurd (none_contained other none)
-]
-
-complete_with : (order next start : List ℕ) (steps last more : List Step)
-    → ((other : ℕ) → Contains order other → Contains next other)
-    → ((other : ℕ) → Contains (map number last) other → Contains next other ⊎ Contains (map number more) other)
-    → All (λ root. Contains order root ⊎ Contains (map number (steps ++ last)) root) start
-    → All (λ root. Contains next root ⊎ Contains (map number (steps ++ more)) root) start
-complete_with order next start steps last more kept found complete =
-    All-weaker (λ root. Contains order root ⊎ Contains (map number (steps ++ last)) root)
-    (λ root. Contains next root ⊎ Contains (map number (steps ++ more)) root)
-    (still order next steps last more kept found) start complete
+-- what is true of the definitions of all steps is true of the last one's, and of the others'
+last_ahead : (P : ℕ → Type 0) (steps : List Step) (step : Step) → All P (map number (steps ++ step ∷ []))
+    → All P (map number steps) × P (number step)
+last_ahead P steps step all = All-pop P (map number (steps ++ step ∷ [])) (map number steps) (Some (number step))
+    (map-append number steps (step ∷ [])) all
 
 leaves_enter : (steps : List Step) (index : TypeIndex) → leaves (steps ++ Enter index ∷ []) ≡ leaves steps
 leaves_enter steps index = leaves_append steps (Enter index ∷ []) ∙ append-nil (leaves steps)
@@ -302,19 +260,21 @@ pub skip : (needs : Needs) (start : List ℕ) (steps : List Step) (index : TypeI
 skip needs start steps index order mark search is =
     let last : List Step = Enter index ∷ [] in
     let found : (other : ℕ) → Contains (map number last) other → Contains order other ⊎ Contains (map number []) other =
-    λ other there. inl (subst (Contains order) (same_one index other there) (search.done index.0 is)) in
-    let none : steps ++ [] ≡ steps = append-nil steps in
+    λ other there. elim (head_or_tail index.0 other [] there) [
+      | inl same ↦ inl (subst (Contains order) same (search.done index.0 is))
+      | inr none ↦ inr none
+    ] in
     record {
       closed = search.closed;
       once = search.once;
       reached = search.reached;
-      complete = subst (λ (xs : List Step). All (λ root. Contains order root ⊎ Contains (map number xs) root)
-          start) none
-          (complete_with order order start steps last [] (λ other there. there) found search.complete);
-      ahead = all_front (IsRequired needs start) (map number steps) (map number last) (rw map-append at search.ahead);
-      covered = subst (λ (xs : List Step). IsCovered needs order xs) none
+      complete = λ k d within. rw append-nil at
+          (still order order steps last [] (λ other there. there) found (get_or start k d)
+          (search.complete k d within));
+      ahead = (last_ahead (IsRequired needs start) steps (Enter index) search.ahead).0;
+      covered = rw append-nil at
           (covered_with needs order order steps last [] (λ other there. there) found search.covered tt);
-      linked = linked_front needs None steps last search.linked;
+      linked = (linked_parts needs None steps last search.linked).0;
       open_once = rw leaves_enter at search.open_once;
       done = search.done;
       ordered = search.ordered;
@@ -327,36 +287,30 @@ pub cycle : (needs : Needs) (start : List ℕ) (steps : List Step) (index : Type
     (mark : ℕ → Option Mark) → IsSearch needs start (steps ++ Enter index ∷ []) order mark → mark index.0 ≡ Some Open
     → IsCycle needs start (numbers (cycle_from steps index))
 cycle needs start steps index order mark search is =
-    let last : List Step = Enter index ∷ [] in
-    let there : Contains (numbers (leaves steps)) index.0 =
-    subst (λ (xs : List TypeIndex). Contains (numbers xs) index.0) (leaves_enter steps index)
-    (search.is_open index.0 is) in
-    let here : IsNeededBy needs (last_of None (leaves steps)) index.0 =
-    subst (λ (from : Option ℕ). IsNeededBy needs from index.0) (last_open_is None steps)
-    (linked_end needs None steps last search.linked).0 in
-    let back = leads_back needs None index (leaves steps) there
-    (chain_open needs None steps (linked_front needs None steps last search.linked)) here in
+    let parts = linked_parts needs None steps (Enter index ∷ []) search.linked in
+    let back = leads_back needs None index (leaves steps) (rw leaves_enter at (search.is_open index.0 is))
+    (chain_open needs None steps parts.0) (rw last_open_is at parts.1.0) in
     record {
       first = index.0;
       others = back.0;
       are = back.1;
       leads = back.2;
-      reached = All-head (IsRequired needs start) index.0 []
-          (all_end (IsRequired needs start) (map number steps) (map number last) (rw map-append at search.ahead));
+      reached = (last_ahead (IsRequired needs start) steps (Enter index) search.ahead).1;
     }
 
 -- at the end there is an order
 pub ends : (needs : Needs) (start order : List ℕ) (mark : ℕ → Option Mark) → IsSearch needs start [] order mark
     → IsOrder needs start order
 ends needs start order mark search = record {
-  complete = All-weaker (λ root. Contains order root ⊎ Contains (map number []) root) (Contains order)
-      (λ root there. elim there [ inl here ↦ here | inr none ↦ absurd (none_contained root none) ])
-      start search.complete;
+  complete = λ k d within. elim (search.complete k d within) [
+    | inl here ↦ here
+    | inr none ↦ absurd (none_contained (get_or start k d) none)
+  ];
   once = λ before after one is. each_at (λ before one. ¬ Contains before one) [] before after one
-      (subst (λ (xs : List ℕ). Each (λ before one. ¬ Contains before one) [] xs) is search.once);
+      (rw is at search.once);
   reached = search.reached;
   behind = λ before after one is. each_at (λ before one. EachNeed needs one (Contains before)) [] before after one
-      (subst (λ (xs : List ℕ). Each (λ before one. EachNeed needs one (Contains before)) [] xs) is search.closed);
+      (rw is at search.closed);
 }
 
 -- ---- the steps of the search
@@ -365,35 +319,25 @@ marked_cases : (old new : ℕ → Option Mark) (one : ℕ) (mark : Mark) → IsM
     → ((one ≡ q) × (new q ≡ Some mark)) ⊎ ((one ≡ q → ⊥) × (new q ≡ old q))
 marked_cases old new one mark marked q = elim (cases_Bool (eqb one q)) [
   | inl same ↦ inl (eqb-true one q same, marked q ∙ rw same refl)
-  | inr other ↦ inr (λ same. apart one q same other, marked q ∙ rw other refl)
+  | inr other ↦ inr (eqb-false one q other, marked q ∙ rw other refl)
 ]
 
 numbers_entered : (indexes : List TypeIndex) → map number (entered indexes) ≡ numbers indexes
 numbers_entered [] = refl
 numbers_entered (index ∷ indexes) = ap (λ (xs : List ℕ). index.0 ∷ xs) (numbers_entered indexes)
 
-linked_roots : (needs : Needs) (indexes : List TypeIndex) → IsLinked needs None (entered indexes)
-linked_roots needs [] = tt
-linked_roots needs (index ∷ indexes) = (tt, linked_roots needs indexes)
-
 -- at the start
 pub starts : (needs : Needs) (roots : List TypeIndex) (mark : ℕ → Option Mark) → ((q : ℕ) → mark q ≡ None)
     → IsSearch needs (numbers roots) (entered roots) [] mark
 starts needs roots mark none =
-    let same : numbers roots ≡ map number (entered roots) = sym (numbers_entered roots) in
     record {
       closed = tt;
       once = tt;
       reached = All-nil (IsRequired needs (numbers roots));
-      complete = All-weaker (Contains (numbers roots))
-          (λ root. Contains {X = ℕ} [] root ⊎ Contains (map number (entered roots)) root)
-          (λ root there. inr (subst (λ (xs : List ℕ). Contains xs root) same there))
-          (numbers roots) (All-contains_itself (numbers roots));
-      ahead = subst (λ (xs : List ℕ). All (IsRequired needs (numbers roots)) xs) same
-          (All-weaker (Contains (numbers roots)) (IsRequired needs (numbers roots)) (λ root there. inl there)
-          (numbers roots) (All-contains_itself (numbers roots)));
+      complete = λ k d within. inr (rw numbers_entered (Contains-get_or (numbers roots) k d within));
+      ahead = rw numbers_entered (λ k d within. inl (Contains-get_or (numbers roots) k d within));
       covered = covered_entered needs [] roots;
-      linked = linked_roots needs roots;
+      linked = linked_entered needs None roots (λ k d within. tt);
       open_once = rw leaves_entered tt;
       done = λ q is. let here = none q in absurd cc;
       ordered = λ q there. absurd (none_contained q there);
@@ -403,10 +347,7 @@ starts needs roots mark none =
 
 leaves_leave : (steps : List Step) (index : TypeIndex) (indexes : List TypeIndex)
     → numbers (leaves (steps ++ Leave index ∷ entered indexes)) ≡ numbers (leaves steps) ++ index.0 ∷ []
-leaves_leave steps index indexes =
-    ap numbers (leaves_append steps (Leave index ∷ entered indexes)
-    ∙ ap (λ (xs : List TypeIndex). leaves steps ++ index ∷ xs) (leaves_entered indexes))
-    ∙ map-append (λ (index : TypeIndex). index.0) (leaves steps) (index ∷ [])
+leaves_leave steps index indexes = rw (leaves_append, leaves_entered, map-append) refl
 
 -- a definition is opened, whose needs are to be entered
 pub opens : (needs : Needs) (start : List ℕ) (steps : List Step) (index : TypeIndex) (indexes : List TypeIndex)
@@ -419,40 +360,30 @@ opens needs start steps index indexes all order mark new search fresh are there 
     let more : List Step = Leave index ∷ entered indexes in
     let found : (other : ℕ) → Contains (map number last) other
     → Contains order other ⊎ Contains (map number more) other =
-    λ other here. inr (subst (Contains (map number more)) (same_one index other here)
-    (Contains-append_left (index.0 ∷ []) (map number (entered indexes)) index.0 (Contains-push [] index.0))) in
-    let here : IsRequired needs start index.0 = All-head (IsRequired needs start) index.0 []
-    (all_end (IsRequired needs start) (map number steps) (map number last) (rw map-append at search.ahead)) in
-    let need : All (DoesNeed needs index.0) (numbers indexes) =
-    All-weaker (Contains all) (DoesNeed needs index.0) (λ other contained. (all, are, contained))
-    (numbers indexes) back in
+    λ other here. inr (Contains-append_left (index.0 ∷ []) (map number (entered indexes)) other here) in
+    let at = last_ahead (IsRequired needs start) steps (Enter index) search.ahead in
+    let parts = linked_parts needs None steps last search.linked in
+    let need : All (DoesNeed needs index.0) (numbers indexes) = λ k d within. (all, are, back k d within) in
     let behind : All (IsRequired needs start) (map number (entered indexes)) =
-    rw numbers_entered (All-weaker (DoesNeed needs index.0) (IsRequired needs start)
-    (λ other needed. reach_on needs start index.0 other here needed) (numbers indexes) need) in
+    rw numbers_entered (λ k d within. reach_on needs start index.0 (get_or (numbers indexes) k d) at.1
+    (need k d within)) in
     let shut : ¬ Contains (numbers (leaves steps)) index.0 = λ contained.
     let is_open = search.are_open index.0 (rw leaves_enter contained) in absurd cc in
-    subst (λ (xs : List Step). IsSearch needs start xs order new)
-    (sym (append_assoc steps (Leave index ∷ []) (entered indexes)))
+    rw append_assoc
     record {
       closed = search.closed;
       once = search.once;
       reached = search.reached;
-      complete = complete_with order order start steps last more (λ other kept. kept) found search.complete;
-      ahead = rw map-append (All-append (IsRequired needs start) (map number steps) (map number more)
-          (all_front (IsRequired needs start) (map number steps) (map number last) (rw map-append at search.ahead))
-          (All-cons (IsRequired needs start) index.0 (map number (entered indexes)) here behind));
+      complete = λ k d within.
+          still order order steps last more (λ other kept. kept) found (get_or start k d) (search.complete k d within);
+      ahead = rw map-append (All-append (IsRequired needs start) (map number steps) (map number more) at.0
+          (All-cons (IsRequired needs start) index.0 (map number (entered indexes)) at.1 behind));
       covered = covered_with needs order order steps last more (λ other kept. kept) found search.covered (
-        (
-          all,
-          are,
-          All-weaker (Contains (numbers indexes))
-              (λ other. Contains order other ⊎ Contains (map number (entered indexes)) other)
-              (λ other contained. inr (rw numbers_entered contained)) all there,
-        ),
+        (all, are, λ k d within. inr (rw numbers_entered (there k d within))),
         covered_entered needs order indexes,
       );
-      linked = linked_with needs None steps more (linked_front needs None steps last search.linked)
-          ((linked_end needs None steps last search.linked).0, linked_entered needs index.0 indexes need);
+      linked = linked_with needs None steps more parts.0
+          (parts.1.0, linked_entered needs (Some index.0) indexes need);
       open_once = rw leaves_leave (each_push (λ before one. ¬ Contains before one) [] (numbers (leaves steps)) index.0
           (rw leaves_enter at search.open_once) shut);
       done = λ q is. elim (marked_cases mark new index.0 Open marked q) [
@@ -485,39 +416,35 @@ pub leave : (needs : Needs) (start : List ℕ) (steps : List Step) (index : Type
 leave needs start steps index order mark new search marked =
     let last : List Step = Leave index ∷ [] in
     let next = order ++ index.0 ∷ [] in
+    let at = last_ahead (IsRequired needs start) steps (Leave index) search.ahead in
     let kept : (other : ℕ) → Contains order other → Contains next other =
     λ other here. Contains-append_left order (index.0 ∷ []) other here in
     let found : (other : ℕ) → Contains (map number last) other → Contains next other ⊎ Contains (map number []) other =
-    λ other here. inl (subst (Contains next) (same_one index other here) (Contains-push order index.0)) in
-    let none : steps ++ [] ≡ steps = append-nil steps in
+    λ other here. inl (Contains-append_right order (index.0 ∷ []) other here) in
     let were : numbers (leaves (steps ++ last)) ≡ numbers (leaves steps) ++ index.0 ∷ [] = leaves_leave steps index
     [] in
-    let open_here : mark index.0 ≡ Some Open = search.are_open index.0
-    (subst (λ (xs : List ℕ). Contains xs index.0) (sym were) (Contains-push (numbers (leaves steps)) index.0)) in
-    let once_open : Each (λ before one. ¬ Contains before one) [] (numbers (leaves steps) ++ index.0 ∷ []) =
-    subst (λ (xs : List ℕ). Each (λ before one. ¬ Contains before one) [] xs) were search.open_once in
-    let shut : ¬ Contains (numbers (leaves steps)) index.0 =
-    each_at (λ before one. ¬ Contains before one) [] (numbers (leaves steps)) [] index.0 once_open in
+    let open_here : mark index.0 ≡ Some Open =
+    search.are_open index.0 (rw were (Contains-push (numbers (leaves steps)) index.0)) in
+    let once_open = rw were at search.open_once in
+    let shut = each_at (λ before one. ¬ Contains before one) [] (numbers (leaves steps)) [] index.0 once_open in
     let end = (covered_end needs order steps last search.covered).0 in
     record {
       closed = each_push (λ before one. EachNeed needs one (Contains before)) [] order index.0 search.closed (
         end.0,
         end.1,
-        All-weaker (λ other. Contains order other ⊎ Contains (map number []) other) (Contains order)
-            (λ other there. elim there [ inl here ↦ here | inr nowhere ↦ absurd (none_contained other nowhere) ])
-            end.0 end.2,
+        λ k d within. elim (end.2 k d within) [
+          | inl here ↦ here
+          | inr nowhere ↦ absurd (none_contained (get_or end.0 k d) nowhere)
+        ],
       );
       once = each_push (λ before one. ¬ Contains before one) [] order index.0 search.once
           (λ contained. let done = search.ordered index.0 contained in absurd cc);
-      reached = All-push (IsRequired needs start) order index.0 search.reached
-          (All-head (IsRequired needs start) index.0 []
-          (all_end (IsRequired needs start) (map number steps) (map number last) (rw map-append at search.ahead)));
-      complete = subst (λ (xs : List Step). All (λ root. Contains next root ⊎ Contains (map number xs) root) start) none
-          (complete_with order next start steps last [] kept found search.complete);
-      ahead = all_front (IsRequired needs start) (map number steps) (map number last) (rw map-append at search.ahead);
-      covered = subst (λ (xs : List Step). IsCovered needs next xs) none
-          (covered_with needs order next steps last [] kept found search.covered tt);
-      linked = linked_front needs None steps last search.linked;
+      reached = All-push (IsRequired needs start) order index.0 search.reached at.1;
+      complete = λ k d within. rw append-nil at
+          (still order next steps last [] kept found (get_or start k d) (search.complete k d within));
+      ahead = at.0;
+      covered = rw append-nil at (covered_with needs order next steps last [] kept found search.covered tt);
+      linked = (linked_parts needs None steps last search.linked).0;
       open_once = each_front (λ before one. ¬ Contains before one) [] (numbers (leaves steps)) (index.0 ∷ []) once_open;
       done = λ q is. elim (marked_cases mark new index.0 Done marked q) [
         | inl set ↦ subst (Contains next) set.0 (Contains-push order index.0)
@@ -533,7 +460,7 @@ leave needs start steps index order mark new search marked =
       is_open = λ q is. elim (marked_cases mark new index.0 Done marked q) [
         | inl set ↦ let now = set.1 in absurd cc
         | inr old ↦ elim (Contains-push_cases (numbers (leaves steps)) index.0 q
-            (subst (λ (xs : List ℕ). Contains xs q) were (search.is_open q (sym old.1 ∙ is)))) [
+            (rw were at (search.is_open q (sym old.1 ∙ is)))) [
               | inl front ↦ front
               | inr same ↦ absurd (old.0 same)
             ]
@@ -541,8 +468,7 @@ leave needs start steps index order mark new search marked =
       are_open = λ q contained. elim (marked_cases mark new index.0 Done marked q) [
         | inl set ↦ absurd (shut (subst (Contains (numbers (leaves steps))) (sym set.0) contained))
         | inr old ↦ old.1 ∙ search.are_open q
-            (subst (λ (xs : List ℕ). Contains xs q) (sym were)
-            (Contains-append_left (numbers (leaves steps)) (index.0 ∷ []) q contained))
+            (rw were (Contains-append_left (numbers (leaves steps)) (index.0 ∷ []) q contained))
       ];
     }
 

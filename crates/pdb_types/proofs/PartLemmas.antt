@@ -73,25 +73,17 @@ only_parts table parts depth are deep index below = parts_along table parts dept
 
 -- ---- the part along one more base class
 
-abbrev after : Answer (Option Outline) → ℕ → Table → Answer (Option ℕ)
-after outline most table = outline >>= part_from (part_along most table)
-
 pub part_zero : (most : ℕ) (table : Table) (index : ℕ) → most ≡ 0 → part_along most table index ≡ Ok None
-part_zero most table index is = ap (λ (n : ℕ). part_along n table index) is ∙ along_none table index
+part_zero most table index is = rw is (along_none table index)
 
 pub part_none : (most : ℕ) (table : Table) (index : ℕ) → 0 < most → outline_at table index ≡ Ok None
     → part_along most table index ≡ Ok None
-part_none most table index some is =
-    along_step most table index some
-    ∙ ap (λ (o : Answer (Option Outline)). after o (most - 1) table) is
+part_none most table index some is = rw (along_step most table index some, is) refl
 
 pub part_alone : (most : ℕ) (table : Table) (index : ℕ) (outline : Outline) → 0 < most
     → outline_at table index ≡ Ok (Some outline) → base_within outline ≡ None
     → part_along most table index ≡ Ok (Some (part_before outline 0))
-part_alone most table index outline some is alone =
-    along_step most table index some
-    ∙ ap (λ (o : Answer (Option Outline)). after o (most - 1) table) is
-    ∙ ap (part_with (part_along (most - 1) table) outline) alone
+part_alone most table index outline some is alone = rw (along_step most table index some, is, alone) refl
 
 pub part_by : (most : ℕ) (table : Table) (index : ℕ) (outline : Outline) (last : Base) (part : Answer (Option ℕ))
     → 0 < most → outline_at table index ≡ Ok (Some outline) → base_within outline ≡ Some last
@@ -99,18 +91,12 @@ pub part_by : (most : ℕ) (table : Table) (index : ℕ) (outline : Outline) (la
     → part_along most table index ≡ (part >>= λ size. Ok
     (Some (part_before outline (extent_end last.offset (part_extent last.extent size)))))
 part_by most table index outline last part some is within here =
-    along_step most table index some
-    ∙ ap (λ (o : Answer (Option Outline)). after o (most - 1) table) is
-    ∙ ap (part_with (part_along (most - 1) table) outline) within
-    ∙ ap (λ (p : Answer (Option ℕ)). p >>= λ size. Ok
-    (Some (part_before outline (extent_end last.offset (part_extent last.extent size))))) here
+    rw (along_step most table index some, is, within, here) refl
 
 pub part_refused : (most : ℕ) (table : Table) (index : ℕ) (e : Error) → 0 < most
     → (outline_at table index ≡ Err (refusal_of e)) ⊎ (e ≡ OutOfMemory)
     → (part_along most table index ≡ Err (refusal_of e)) ⊎ (e ≡ OutOfMemory)
-part_refused most table index e some (inl is) =
-    inl (along_step most table index some
-    ∙ ap (λ (o : Answer (Option Outline)). after o (most - 1) table) is)
+part_refused most table index e some (inl is) = inl (rw (along_step most table index some, is) refl)
 part_refused most table index e some (inr memory) = inr memory
 
 pub part_refused_by : (most : ℕ) (table : Table) (index : ℕ) (outline : Outline) (last : Base) (e : Error) → 0 < most

@@ -72,11 +72,10 @@ filter_more : (p : ℕ → Bool) (a n : ℕ) → filter p (range_with_len a (suc
 filter_more p a zero = rw (add-zero a) refl
 filter_more p a (suc n) =
     let next : a + 1 + n ≡ a + suc n = omega arith in
-    let more = filter_more p (a + 1) n in
+    let more = rw next at (filter_more p (a + 1) n) in
     elim (cases_Bool (p a)) [
-      | inl passes ↦ rw passes (ap (λ (l : List ℕ). a ∷ l)
-          (more ∙ ap (λ (k : ℕ). filter p (range_with_len (a + 1) n) ++ cond (p k) (k ∷ []) []) next))
-      | inr fails ↦ rw fails (more ∙ ap (λ (k : ℕ). filter p (range_with_len (a + 1) n) ++ cond (p k) (k ∷ []) []) next)
+      | inl passes ↦ rw passes (ap (λ (l : List ℕ). a ∷ l) more)
+      | inr fails ↦ rw fails more
     ]
 
 -- numbers that don't pass change nothing
@@ -86,11 +85,8 @@ filter_gap p a n zero none = rw (add-zero n) refl
 filter_gap p a n (suc m) none =
     let longer : n + suc m ≡ suc (n + m) = omega arith in
     let fails : p (a + (n + m)) ≡ false = none (a + (n + m)) (omega arith) (omega arith) in
-    let more : filter p (range_with_len a (suc (n + m))) ≡ filter p (range_with_len a (n + m)) =
-    filter_more p a (n + m) ∙ ap (λ (b : Bool). filter p (range_with_len a (n + m))
-    ++ cond b ((a + (n + m)) ∷ []) []) fails ∙ append-nil (filter p (range_with_len a (n + m))) in
-    ap (λ (k : ℕ). filter p (range_with_len a k)) longer ∙ more
-    ∙ filter_gap p a n m (λ j from below. none j from (omega (arith, below)))
+    rw (longer, filter_more p a (n + m), fails, append-nil)
+    (filter_gap p a n m (λ j from below. none j from (omega (arith, below))))
 
 -- behind numbers that don't pass comes one that may
 pub filter_next : (p : ℕ → Bool) (a next x : ℕ) → a ≤ next → next ≤ x → ((j : ℕ) → next ≤ j → j < x → p j ≡ false)
@@ -102,10 +98,7 @@ filter_next p a next x least order none =
     let here : a + (n + m) ≡ x = omega (arith, least, order) in
     let gap = filter_gap p a n m (λ j from below. none j (omega (arith, from, least))
     (omega (arith, below, least, order))) in
-    ap (λ (k : ℕ). filter p (range_with_len a k)) all
-    ∙ filter_more p a (n + m)
-    ∙ ap (λ (l : List ℕ). l ++ cond (p (a + (n + m))) ((a + (n + m)) ∷ []) []) gap
-    ∙ ap (λ (k : ℕ). filter p (range_with_len a n) ++ cond (p k) (k ∷ []) []) here
+    rw (all, filter_more p a (n + m), gap, here) refl
 
 -- where no number from some place on passes, ranges that reach it have the same numbers
 pub filter_end : (p : ℕ → Bool) (a n m : ℕ) → ((j : ℕ) → a + n ≤ j → p j ≡ false) → ((j : ℕ) → a + m ≤ j → p j ≡ false)

@@ -1,7 +1,8 @@
 -- The sizes of types.
-use Rattle.std.proofs.Common.{◌≡◌, inl, inr, ℕ, zero, suc, ◌<◌, ◌≤◌, refl, sym, ap, ◌∙◌, arith, Bool, true, false, eqb}
+use Rattle.std.proofs.Common.{◌≡◌, inl, inr, ℕ, zero, suc, ◌<◌, ◌≤◌, refl, sym, ap, ◌∙◌, arith, Bool, true, false}
 use Rattle.std.proofs.Common.{ltb, cond, Option, Some, None, Ok, Err}
-use Rattle.std.proofs.lemmas.Bool.{cases_Bool, cases_lt, false≢true, ltb-true, le-ltb, lt-ltb}
+use Rattle.std.proofs.lemmas.Bool.{cases_lt, ltb-true, le-ltb, lt-ltb}
+use Rattle.std.proofs.lemmas.Bool.Decides.{nat_tests}
 use Rattle.std.specs.Ordering.{is_ge, nat_cmp}
 use Rattle.pdb_base.specs.Answer.{Answer, Answers, ◌>>=◌}
 use Rattle.pdb_base.specs.Refusal.{refusal_of}
@@ -72,23 +73,24 @@ only_sizes table sizes are index = only_below table sizes are (suc index) index 
 
 -- ---- steps along types
 
-pub size_stated : (table : Table) (index size : ℕ) → source_of_size table index ≡ Ok (Stated size)
-    → size_of table index ≡ Ok (Some size)
-size_stated table index size is = are_sizes table index
-    ∙ ap (λ (s : Answer SizeSource). s >>= size_from (size_of table) index) is
-
 size_by : (table : Table) (index : ℕ) (source : Answer SizeSource) → source_of_size table index ≡ source
     → size_of table index ≡ (source >>= size_from (size_of table) index)
 size_by table index source is = are_sizes table index
     ∙ ap (λ (s : Answer SizeSource). s >>= size_from (size_of table) index) is
 
+pub size_stated : (table : Table) (index size : ℕ) → source_of_size table index ≡ Ok (Stated size)
+    → size_of table index ≡ Ok (Some size)
+size_stated table index size is = size_by table index (Ok (Stated size)) is
+
 pub size_same : (table : Table) (index : ℕ) (other : TypeIndex) → source_of_size table index ≡ Ok (SameAs other)
-    → ltb other.0 index ≡ true → size_of table index ≡ size_of table other.0
-size_same table index other is below = size_by table index (Ok (SameAs other)) is ∙ rw below refl
+    → other.0 < index → size_of table index ≡ size_of table other.0
+size_same table index other is below =
+    size_by table index (Ok (SameAs other)) is ∙ rw (lt-ltb other.0 index below) refl
 
 pub size_above : (table : Table) (index : ℕ) (other : TypeIndex) → source_of_size table index ≡ Ok (SameAs other)
-    → ltb other.0 index ≡ false → size_of table index ≡ Ok None
-size_above table index other is above = size_by table index (Ok (SameAs other)) is ∙ rw above refl
+    → index ≤ other.0 → size_of table index ≡ Ok None
+size_above table index other is above =
+    size_by table index (Ok (SameAs other)) is ∙ rw (le-ltb other.0 index above) refl
 
 pub size_unknown : (table : Table) (index : ℕ) → source_of_size table index ≡ Ok Unknown → size_of table index ≡ Ok None
 size_unknown table index is = size_by table index (Ok Unknown) is
@@ -98,7 +100,7 @@ pub lower_large : (table : Table) (index : ℕ) (other : TypeIndex) → source_o
     → other.0 < index → IsAsLarge table index other.0
 lower_large table index other is below = record {
   low = omega (arith, below);
-  same = size_same table index other is (lt-ltb other.0 index below);
+  same = size_same table index other is below;
 }
 
 -- along types that are as large
@@ -118,24 +120,11 @@ size_refused table start index e leads (inr memory) = inr memory
 
 -- ---- the test of the code
 
-ge_from : (a b : ℕ) → b ≤ a → is_ge (nat_cmp a b) ≡ true
-ge_from a b le =
-    let above = le-ltb a b le in
-    elim (cases_Bool (eqb a b)) [
-      | inl same ↦ rw (above, same) refl
-      | inr other ↦ rw (above, other) refl
-    ]
-
-pub below_test : (a b : ℕ) (test : Bool) → test ≡ is_ge (nat_cmp a b) → test ≡ false → ltb a b ≡ true
-below_test a b test is passes = elim (cases_lt a b) as (λ _. ltb a b ≡ true) [
-  | inl below ↦ lt-ltb a b below
-  | inr above ↦ absurd (false≢true (sym passes ∙ is ∙ ge_from a b above))
+pub is_above : (a b : ℕ) → is_ge (nat_cmp a b) ≡ true → b ≤ a
+is_above a b is = elim (cases_lt a b) [
+  | inl below ↦ let less : is_ge (nat_cmp a b) ≡ false = rw (lt-ltb a b below) refl in absurd cc
+  | inr above ↦ above
 ]
 
-pub above_test : (a b : ℕ) (test : Bool) → test ≡ is_ge (nat_cmp a b) → test ≡ true → ltb a b ≡ false
-above_test a b test is fails = elim (cases_lt a b) as (λ _. ltb a b ≡ false) [
-  | inl below ↦
-      let less : is_ge (nat_cmp a b) ≡ false = rw (lt-ltb a b below) refl in
-      absurd (false≢true (sym less ∙ sym is ∙ fails))
-  | inr above ↦ le-ltb a b above
-]
+pub is_below : (a b : ℕ) → is_ge (nat_cmp a b) ≡ false → a < b
+is_below a b is = grind (arith, nat_tests)

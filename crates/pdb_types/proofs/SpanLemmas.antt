@@ -4,7 +4,7 @@ use Rattle.std.proofs.Common.{sym, ap, ◌∙◌, arith, Bool, true, false, ◌&
 use Rattle.std.specs.List.{All, count_by, list_any}
 use Rattle.std.specs.List.Sorted.{IsNonDecreasingBy, IsPermutation}
 use Rattle.std.proofs.lemmas.Bool.{cases_lt, cases_Bool, both_ways, and_from, and_left, and_right, or_parts, or_from}
-use Rattle.std.proofs.lemmas.Bool.{lt-ltb, le-ltb, le-leb, lt-leb}
+use Rattle.std.proofs.lemmas.Bool.{lt-ltb, le-ltb, le-leb, lt-leb, true_from_ne_false}
 use Rattle.std.proofs.lemmas.List.{get_or_default, take_all}
 use Rattle.std.proofs.lemmas.List.Elements.{All-append, All-cons, All-nil}
 use Rattle.std.proofs.lemmas.List.Folds.{list_any_more}
@@ -15,7 +15,7 @@ use Rattle.pdb_types.specs.Span.{AreGaps, gap_of, holds}
 
 -- ---- one gap
 
-counted_more : (place : ℕ) (gaps more : List Span)
+pub counted_more : (place : ℕ) (gaps more : List Span)
     → count_by (holds place) (gaps ++ more) ≡ count_by (holds place) gaps + count_by (holds place) more
 counted_more place gaps more = sum_by-append (λ (span : Span). cond (holds place span) 1 0) gaps more
 
@@ -46,21 +46,19 @@ gap_behind place start end behind = elim (cases_Bool (ltb start end)) [
   | inr none ↦ rw none refl
 ]
 
+-- what is true of the only gap that there may be
+pub gap_all : (P : Span → Type 0) (start end : ℕ) → (start < end → P (record { start = start; end = end }))
+    → All P (gap_of start end)
+gap_all P start end is = elim (cases_lt start end) [
+  | inl some ↦ rw (lt-ltb start end some) (All-cons P (record { start = start; end = end }) [] (is some) (All-nil P))
+  | inr none ↦ rw (le-ltb start end none) (All-nil P)
+]
+
 pub gap_some : (start end : ℕ) → All (λ (gap : Span). gap.start < gap.end) (gap_of start end)
-gap_some start end =
-    let P : Span → Type 0 = λ gap. gap.start < gap.end in
-    elim (cases_lt start end) [
-      | inl some ↦ rw (lt-ltb start end some) (All-cons P (record { start = start; end = end }) [] some (All-nil P))
-      | inr none ↦ rw (le-ltb start end none) (All-nil P)
-    ]
+gap_some start end = gap_all (λ gap. gap.start < gap.end) start end (λ some. some)
 
 pub gap_within : (start end most : ℕ) → end ≤ most → All (λ (gap : Span). gap.end ≤ most) (gap_of start end)
-gap_within start end most below =
-    let P : Span → Type 0 = λ gap. gap.end ≤ most in
-    elim (cases_lt start end) [
-      | inl some ↦ rw (lt-ltb start end some) (All-cons P (record { start = start; end = end }) [] below (All-nil P))
-      | inr none ↦ rw (le-ltb start end none) (All-nil P)
-    ]
+gap_within start end most below = gap_all (λ gap. gap.end ≤ most) start end (λ some. below)
 
 -- ---- the gaps between the first spans
 
@@ -96,6 +94,7 @@ gaps_more spans end k at gaps span order are within here =
     let stop = min span.start end in
     let next = next_at at span.start span.end in
     let gap = gap_of at stop in
+    let sum = λ (place : ℕ). counted_more place gaps gap in
     let none_in : (place : ℕ) → holders place (k + 1) spans ≡ false → (holders place k spans ≡ false)
     × (holds place span ≡ false) =
     λ place none. or_parts (holders place k spans) (holds place span)
@@ -103,38 +102,29 @@ gaps_more spans end k at gaps span order are within here =
     let start_there : (d : Span) → (get_or spans k d).start ≡ span.start =
     λ d. ap (λ (s : Span). s.start) (get_or_default spans k d span within ∙ here) in
     let keeps : (place : ℕ) → place < at → holders place (k + 1) spans ≡ true → holders place k spans ≡ true =
-    λ place before some. elim (cases_Bool (holders place k spans)) as (λ _. holders place k spans ≡ true) [
+    λ place before some. true_from_ne_false (holders place k spans) (λ other.
+    let not_here : holds place span ≡ false = rw here at (are.later place k span before other (omega arith) within) in
+    both_ways (holders place (k + 1) spans) (one_more spans k place span within here
+    ∙ or_from (holders place k spans) (holds place span) other not_here) some) in
+    let early : (place : ℕ) → at ≤ place → place < next → holds place span ≡ false → place < span.start =
+    λ place new before free. elim (cases_lt place span.start) as (λ _. place < span.start) [
       | inl already ↦ already
-      | inr other ↦
-          let not_here : holds place span ≡ false =
-          rw here at (are.later place k span before other (omega arith) within) in
-          absurd (both_ways (holders place (k + 1) spans)
-          (one_more spans k place span within here ∙ or_from (holders place k spans)
-          (holds place span) other not_here) some)
+      | inr from ↦ absurd (both_ways (holds place span) free
+          (held_test place span.start span.end from (omega (arith, before, new, from))))
     ] in
     record {
       free = λ place before inside none.
           let parts = none_in place none in
           elim (cases_lt place at) [
             | inl old ↦
-                counted_more place gaps gap
-                ∙ (let a = are.free place old inside parts.0 in let b = gap_before place at stop old in
-                omega (arith, a, b))
+                omega (arith, sum place, are.free place old inside parts.0, gap_before place at stop old)
             | inr new ↦
-                let early : place < span.start = elim (cases_lt place span.start) as (λ _. place < span.start) [
-                  | inl already ↦ already
-                  | inr from ↦ absurd (both_ways (holds place span) parts.1
-                      (held_test place span.start span.end from (omega (arith, before, new, from))))
-                ] in
-                counted_more place gaps gap
-                ∙ (let a = are.ahead place new in let b = gap_holds place at stop new (omega (arith, early, inside)) in
-                omega (arith, a, b))
+                let low = early place new before parts.1 in
+                omega (arith, sum place, are.ahead place new, gap_holds place at stop new (omega (arith, low, inside)))
           ];
       taken = λ place before some. elim (cases_lt place at) [
         | inl old ↦
-            counted_more place gaps gap
-            ∙ (let a = are.taken place old (keeps place old some) in let b = gap_before place at stop old in
-            omega (arith, a, b))
+            omega (arith, sum place, are.taken place old (keeps place old some), gap_before place at stop old)
         | inr new ↦
             let late : span.start ≤ place = elim (cases_lt place span.start) as (λ _. span.start ≤ place) [
               | inl early ↦
@@ -143,18 +133,13 @@ gaps_more spans end k at gaps span order are within here =
                   (are.over place new) (before_test place span.start span.end early)) some)
               | inr from ↦ from
             ] in
-            counted_more place gaps gap
-            ∙ (let a = are.ahead place new in let b = gap_behind place at stop (omega (arith, late)) in
-            omega (arith, a, b))
+            omega (arith, sum place, are.ahead place new, gap_behind place at stop (omega (arith, late)))
       ];
       beyond = λ place past.
-          counted_more place gaps gap
-          ∙ (let a = are.beyond place past in let b = gap_behind place at stop (omega (arith, past)) in
-          omega (arith, a, b));
+          omega (arith, sum place, are.beyond place past, gap_behind place at stop (omega (arith, past)));
       ahead = λ place from.
-          counted_more place gaps gap
-          ∙ (let a = are.ahead place (omega (arith, from)) in let b = gap_behind place at stop (omega (arith, from)) in
-          omega (arith, a, b));
+          let past : at ≤ place = omega (arith, from) in
+          omega (arith, sum place, are.ahead place past, gap_behind place at stop (omega (arith, from)));
       over = λ place from.
           one_more spans k place span within here
           ∙ or_from (holders place k spans) (holds place span) (are.over place (omega (arith, from)))
@@ -164,14 +149,10 @@ gaps_more spans end k at gaps span order are within here =
           elim (cases_lt place at) [
             | inl old ↦ are.later place i d old parts.0 (omega (arith, after)) inside
             | inr new ↦
-                let early : place < span.start = elim (cases_lt place span.start) as (λ _. place < span.start) [
-                  | inl already ↦ already
-                  | inr from ↦ absurd (both_ways (holds place span) parts.1
-                      (held_test place span.start span.end from (omega (arith, before, new, from))))
-                ] in
+                let low = early place new before parts.1 in
                 let up = order k i d (omega (arith, after)) inside in
                 let its = start_there d in
-                before_test place (get_or spans i d).start (get_or spans i d).end (omega (arith, up, its, early))
+                before_test place (get_or spans i d).start (get_or spans i d).end (omega (arith, up, its, low))
           ];
       some = All-append (λ (gap : Span). gap.start < gap.end) gaps gap are.some (gap_some at stop);
       within = All-append (λ (gap : Span). gap.end ≤ end) gaps gap are.within (gap_within at stop end (omega arith));
@@ -182,28 +163,23 @@ pub gaps_end : (spans : List Span) (end k at : ℕ) (gaps : List Span) → AreGa
     → AreGaps spans end (gaps ++ gap_of at end)
 gaps_end spans end k at gaps are past =
     let gap = gap_of at end in
+    let sum = λ (place : ℕ). counted_more place gaps gap in
     let all : (place : ℕ) → holders place k spans ≡ list_any (holds place) spans =
     λ place. ap (list_any (holds place)) (take_all k spans past) in
     record {
       free = λ place inside none. elim (cases_lt place at) [
         | inl old ↦
-            counted_more place gaps gap
-            ∙ (let a = are.free place old inside (all place ∙ none) in let b = gap_before place at end old in
-            omega (arith, a, b))
+            omega (arith, sum place, are.free place old inside (all place ∙ none), gap_before place at end old)
         | inr new ↦
-            counted_more place gaps gap
-            ∙ (let a = are.ahead place new in let b = gap_holds place at end new inside in omega (arith, a, b))
+            omega (arith, sum place, are.ahead place new, gap_holds place at end new inside)
       ];
       taken = λ place some. elim (cases_lt place at) [
         | inl old ↦
-            counted_more place gaps gap
-            ∙ (let a = are.taken place old (all place ∙ some) in let b = gap_before place at end old in
-            omega (arith, a, b))
+            omega (arith, sum place, are.taken place old (all place ∙ some), gap_before place at end old)
         | inr new ↦ absurd (both_ways (list_any (holds place) spans) (sym (all place) ∙ are.over place new) some)
       ];
       beyond = λ place past'.
-          counted_more place gaps gap
-          ∙ (let a = are.beyond place past' in let b = gap_behind place at end past' in omega (arith, a, b));
+          omega (arith, sum place, are.beyond place past', gap_behind place at end past');
       some = All-append (λ (gap : Span). gap.start < gap.end) gaps gap are.some (gap_some at end);
       within = All-append (λ (gap : Span). gap.end ≤ end) gaps gap are.within (gap_within at end end (omega arith));
     }

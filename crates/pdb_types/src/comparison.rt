@@ -99,6 +99,7 @@ fn is_field_like(one: &LayoutField<'_>, other: &LayoutField<'_>) -> bool
 }
 
 /// Returns whether the fields of two lists are alike, one by one.
+#[tactic(auto, using(crate::proofs::ComparisonLemmas::lengths_differ))]
 fn are_fields_alike(ones: &[LayoutField<'_>], others: &[LayoutField<'_>]) -> bool
     ensures { result ≡ each_like is_field_like (map field_value ones.now) (map field_value others.now) }
 {
@@ -135,6 +136,7 @@ fn is_enumerator_like(
 }
 
 /// Returns whether the enumerators of two enumerations over these types are alike, one by one.
+#[tactic(auto, using(crate::proofs::ComparisonLemmas::lengths_differ))]
 fn are_enumerators_alike(
     over: TypeIndex,
     other_over: TypeIndex,

@@ -123,6 +123,7 @@ impl DefinitionWalk {
     }
 
     /// Notes the type of an item. A list has no name, and isn't read.
+    #[tactic(auto, using(crate::proofs::ListLemmas::list_adds))]
     fn note(&mut self, alloc: Global, item: &Type<'_>) -> AllocResult<()>
         ensures kept { self.new.numbering ≡ self.old.numbering }
         ensures added { OnOk result (self.new.numbers.items ≡ self.old.numbers.items

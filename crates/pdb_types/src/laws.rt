@@ -49,6 +49,7 @@ pub fn declaration_orders()
 {}
 
 /// The layout of a definition doesn't differ from itself.
+#[tactic(auto, using(crate::proofs::ComparisonLaws::never_differs))]
 pub fn comparisons()
     ensures { (table : Table) (index : TypeIndex) (comparison : Comparison) →
         comparison_of table index table index ≡ Ok comparison → comparison ≢ LayoutDiffers }

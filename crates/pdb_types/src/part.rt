@@ -122,6 +122,7 @@ fn last_base(fields: &[LayoutField<'_>]) -> Option<Base>
 }
 
 /// Returns whether fields have a pointer to a table of virtual bases.
+#[tactic(auto, using(crate::proofs::LayoutLemmas::any_value))]
 fn are_virtual(fields: &[LayoutField<'_>]) -> bool
     ensures { result ≡ list_any has_virtual_role (map field_value fields.now) }
 {

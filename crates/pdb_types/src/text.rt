@@ -66,7 +66,7 @@ fn front_of(most: usize, text: Vec<u8>) -> AllocResult<Vec<u8>>
 }
 
 /// Returns a text as it is shown: cut if something of it is left out.
-#[tactic(auto, using(crate::proofs::TextLemmas::shown_is))]
+#[tactic(auto, using(crate::proofs::TextLemmas::shown_is, crate::proofs::TextLemmas::cut_is))]
 fn shown(most: usize, text: Vec<u8>, is_cut: bool) -> AllocResult<TypeText>
     requires { 2 ≤ most }
     ensures bytes { IfOk result (λ shown. shown.bytes.items ≡ shown_bytes most text.items is_cut) }

@@ -5,8 +5,8 @@ use Rattle.std.proofs.lemmas.Bool.{le-ltb, lt-ltb}
 use Rattle.pdb_base.specs.Answer.{Answer, Answers, AnswersUnless}
 use Rattle.pdb_base.specs.declared.error.Error.{Error}
 use Rattle.pdb_base.proofs.lemmas.Collected.{ok_is}
-use Rattle.pdb_consistency.specs.declared.inconsistency.Inconsistency.TheVariants as kinds
-use Rattle.pdb_consistency.specs.declared.mismatch.Extent.{Extent}
+use Rattle.pdb_validation.specs.declared.inconsistency.Inconsistency.TheVariants as kinds
+use Rattle.pdb_validation.specs.declared.mismatch.Extent.{Extent}
 use Rattle.pdb_msf.specs.Header.{file_head, header_view}
 use Rattle.pdb_msf.specs.Layout.{layout_of}
 use Rattle.pdb_msf.specs.declared.header.Header.{Header}

@@ -1,14 +1,14 @@
 -- What is told of relations.
-use Rattle.std.proofs.Common.{◌≡◌, ℕ, ◌+◌, ◌<◌, Bool, not, List, [], ◌∷◌, ◌++◌, filter, get_or, length, map}
+use Rattle.std.proofs.Common.{◌≡◌, ◌↔◌, ℕ, ◌+◌, ◌<◌, Bool, not, List, [], ◌∷◌, ◌++◌, filter, get_or, length, map}
 use Rattle.std.proofs.Common.{take, refl, sym, ap, ◌∙◌, inl, inr, arith}
 use Rattle.std.proofs.lemmas.Bool.{cases_Bool}
 use Rattle.std.proofs.lemmas.List.{append-nil, map-append, take_more}
 use Rattle.std.proofs.lemmas.List.Elements.{filter-append}
 use Rattle.pdb_msf.specs.Layout.{LayoutValue}
-use Rattle.pdb_consistency.specs.Mismatch.{asked_of, warns}
-use Rattle.pdb_consistency.specs.declared.mismatch.Extent.{Extent}
-use Rattle.pdb_consistency.specs.declared.mismatch.Extent.TheVariants as extents
-use Rattle.pdb_consistency.specs.declared.mismatch.Mismatch.{Mismatch}
+use Rattle.pdb_validation.specs.Mismatch.{asked_of, warns}
+use Rattle.pdb_validation.specs.declared.mismatch.Extent.{Extent}
+use Rattle.pdb_validation.specs.declared.mismatch.Extent.TheVariants as extents
+use Rattle.pdb_validation.specs.declared.mismatch.Mismatch.{Mismatch}
 use Rattle.pdb_validation.specs.Finding.{FaultPlace, error_count, errors_in, warning_count}
 use Rattle.pdb_validation.specs.Problem.{is_tolerated}
 use Rattle.pdb_validation.specs.Relations.{AreConsistent, IsConsistent, Relation, mismatch_fault, relation_faults}
@@ -18,13 +18,6 @@ use Rattle.pdb_validation.specs.declared.finding.Part.{Part}
 pub nothing_asked : (extent : Extent) → asked_of extent [] ≡ []
 nothing_asked extents.First = refl
 nothing_asked extents.All = refl
-
-pub one_asked : (extent : Extent) (mismatch : Mismatch) → asked_of extent (mismatch ∷ []) ≡ mismatch ∷ []
-one_asked extents.First mismatch = elim (cases_Bool (warns mismatch)) [
-  | inl is ↦ rw is refl
-  | inr is ↦ rw is refl
-]
-one_asked extents.All mismatch = refl
 
 -- a relation without mismatches tells nothing
 pub nothing_related : (extent : Extent) (faults : List FaultPlace) (fault : Mismatch → FaultPlace)
@@ -82,59 +75,57 @@ first_wrong (mismatch ∷ mismatches) others is = elim (cases_Bool (warns mismat
   | inr wrong ↦ absurd (cons_none _ _ (rw (wrong, wrong) at is))
 ]
 
-asked_none : (extent : Extent) (mismatches : List Mismatch) → filter is_wrong (asked_of extent mismatches) ≡ []
-    → filter is_wrong mismatches ≡ []
-asked_none extents.First mismatches is = first_wrong mismatches (filter warns mismatches) is
-asked_none extents.All mismatches is = is
-
-none_asked : (extent : Extent) (mismatches : List Mismatch) → filter is_wrong mismatches ≡ []
-    → filter is_wrong (asked_of extent mismatches) ≡ []
-none_asked extents.First mismatches is = rw is (first_kept (filter warns mismatches) (no_wrong mismatches))
-none_asked extents.All mismatches is = is
+asked_agrees : (extent : Extent) (mismatches : List Mismatch)
+    → (filter is_wrong (asked_of extent mismatches) ≡ []) ↔ (filter is_wrong mismatches ≡ [])
+asked_agrees extents.First mismatches = (
+  λ none. first_wrong mismatches (filter warns mismatches) none,
+  λ none. rw none (first_kept (filter warns mismatches) (no_wrong mismatches)),
+)
+asked_agrees extents.All mismatches = (λ none. none, λ none. none)
 
 map_none : (fault : Mismatch → FaultPlace) (mismatches : List Mismatch) → map fault mismatches ≡ [] → mismatches ≡ []
 map_none fault [] is = refl
 map_none fault (mismatch ∷ mismatches) is = absurd cc
 
-related_none : (extent : Extent) (layout : LayoutValue) (related : Relation)
-    → errors_in (relation_faults extent layout related) ≡ [] → IsConsistent related
-related_none extent layout related is =
-    asked_none extent related.mismatches (map_none (mismatch_fault layout related.part) _
-    (sym (errors_map layout related.part (asked_of extent related.mismatches)) ∙ is))
-
-none_related : (extent : Extent) (layout : LayoutValue) (related : Relation) → IsConsistent related
-    → errors_in (relation_faults extent layout related) ≡ []
-none_related extent layout related is =
-    errors_map layout related.part (asked_of extent related.mismatches)
-    ∙ ap (map (mismatch_fault layout related.part)) (none_asked extent related.mismatches is)
+related_agrees : (extent : Extent) (layout : LayoutValue) (related : Relation)
+    → (errors_in (relation_faults extent layout related) ≡ []) ↔ IsConsistent related
+related_agrees extent layout related =
+    let fault = mismatch_fault layout related.part in
+    let wrong = errors_map layout related.part (asked_of extent related.mismatches) in
+    let asked = asked_agrees extent related.mismatches in
+    (λ none. asked.0 (map_none fault _ (sym wrong ∙ none)), λ is. wrong ∙ ap (map fault) (asked.1 is))
 
 -- ---- relations, one behind another
 
 errors_both : (xs ys : List FaultPlace) → errors_in (xs ++ ys) ≡ errors_in xs ++ errors_in ys
 errors_both xs ys = filter-append (λ (fault : FaultPlace). not (is_tolerated fault.problem)) xs ys
 
-front_none : (xs ys : List FaultPlace) → xs ++ ys ≡ [] → (xs ≡ []) × (ys ≡ [])
-front_none [] ys is = (refl, is)
-front_none (x ∷ xs) ys is = absurd cc
+both_none : (xs ys : List FaultPlace) → xs ++ ys ≡ [] → (xs ≡ []) × (ys ≡ [])
+both_none [] ys is = (refl, is)
+both_none (x ∷ xs) ys is = absurd cc
 
-pub with_none : (extent : Extent) (layout : LayoutValue) (relations : List Relation) (faults : List FaultPlace)
-    → errors_in (with_relations extent layout relations faults) ≡ []
-    → (errors_in faults ≡ []) × AreConsistent relations
-with_none extent layout [] faults is = (is, tt)
-with_none extent layout (related ∷ more) faults is =
+related_more : {A : Type 0} (extent : Extent) (layout : LayoutValue) (related : Relation) (faults : List FaultPlace)
+    → (errors_in faults ≡ []) ↔ A
+    → (errors_in (faults ++ relation_faults extent layout related) ≡ []) ↔ (A × IsConsistent related)
+related_more extent layout related faults agree =
     let here = relation_faults extent layout related in
-    let others = with_none extent layout more (faults ++ here) is in
-    let both = front_none (errors_in faults) (errors_in here) (sym (errors_both faults here) ∙ others.0) in
-    (both.0, (related_none extent layout related both.1, others.1))
+    let one = related_agrees extent layout related in (
+      λ none. let both = both_none (errors_in faults) (errors_in here) (sym (errors_both faults here) ∙ none) in
+          (agree.0 both.0, one.0 both.1),
+      λ both. errors_both faults here ∙ rw (agree.1 both.0, one.1 both.1) refl,
+    )
 
-pub none_with : (extent : Extent) (layout : LayoutValue) (relations : List Relation) (faults : List FaultPlace)
-    → errors_in faults ≡ [] → AreConsistent relations
-    → errors_in (with_relations extent layout relations faults) ≡ []
-none_with extent layout [] faults is are = is
-none_with extent layout (related ∷ more) faults is are =
-    let here = relation_faults extent layout related in
-    none_with extent layout more (faults ++ here)
-    (errors_both faults here ∙ rw (is, none_related extent layout related are.0) refl) are.1
+-- faults with relations behind them have no error exactly if the faults have none and the relations agree
+pub agreeing : {A : Type 0} (extent : Extent) (layout : LayoutValue) (relations : List Relation)
+    (faults : List FaultPlace) → (errors_in faults ≡ []) ↔ A
+    → (errors_in (with_relations extent layout relations faults) ≡ []) ↔ (A × AreConsistent relations)
+agreeing extent layout [] faults agree = (λ none. (agree.0 none, tt), λ both. agree.1 both.0)
+agreeing extent layout (related ∷ more) faults agree =
+    let all = agreeing extent layout more (faults ++ relation_faults extent layout related)
+    (related_more extent layout related faults agree) in (
+      λ none. let are = all.0 none in (are.0.0, (are.0.1, are.1)),
+      λ are. all.1 ((are.0, are.1.0), are.1.1),
+    )
 
 -- ---- counts
 
@@ -150,11 +141,10 @@ length_none [] is = refl
 length_none (fault ∷ faults) is = absurd (omega (arith, is))
 
 -- there is no error exactly if none is counted
-pub uncounted : (faults : List FaultPlace) → error_count faults ≡ 0 → errors_in faults ≡ []
-uncounted faults is = let all = partitioned faults in length_none (errors_in faults) (omega (arith, is, all))
-
-pub counted_none : (faults : List FaultPlace) → errors_in faults ≡ [] → error_count faults ≡ 0
-counted_none faults none =
-    let all = partitioned faults in
-    let zero : length (errors_in faults) ≡ 0 = ap (λ (l : List FaultPlace). length l) none in
-    omega (arith, all, zero)
+pub counted : (faults : List FaultPlace) → (error_count faults ≡ 0) ↔ (errors_in faults ≡ [])
+counted faults =
+    let all = partitioned faults in (
+      λ none. length_none (errors_in faults) (omega (arith, none, all)),
+      λ none. let zero : length (errors_in faults) ≡ 0 = ap (λ (l : List FaultPlace). length l) none in
+          omega (arith, all, zero),
+    )

@@ -7,8 +7,8 @@ use Rattle.std.proofs.lemmas.List.{append-nil}
 use Rattle.pdb_base.specs.Answer.{Answer}
 use Rattle.pdb_base.proofs.lemmas.Collected.{ok_is}
 use Rattle.pdb_validation.specs.Finding.{FaultPlace, by_extent, is_enough}
-use Rattle.pdb_consistency.specs.declared.mismatch.Extent.{Extent}
-use Rattle.pdb_consistency.specs.declared.mismatch.Extent.TheVariants as extents
+use Rattle.pdb_validation.specs.declared.mismatch.Extent.{Extent}
+use Rattle.pdb_validation.specs.declared.mismatch.Extent.TheVariants as extents
 
 -- a fault, or none, before others that are told too
 one_more : (extent : Extent) (one : Option FaultPlace) (others : List FaultPlace) → is_enough extent one ≡ false

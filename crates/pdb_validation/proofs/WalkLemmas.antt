@@ -18,7 +18,7 @@ use Rattle.pdb_validation.specs.Finding.{FaultPlace, by_extent, is_enough}
 use Rattle.pdb_validation.specs.Places.{PagesValue}
 use Rattle.pdb_validation.specs.Tables.{byte_of, fault_at, fault_behind, item_fault, item_faults, missing_fault}
 use Rattle.pdb_validation.specs.Tables.{record_faults, refusal_fault}
-use Rattle.pdb_consistency.specs.declared.mismatch.Extent.{Extent}
+use Rattle.pdb_validation.specs.declared.mismatch.Extent.{Extent}
 use Rattle.pdb_validation.specs.declared.finding.Part.{Part}
 use Rattle.pdb_validation.proofs.ToldLemmas.{IsTelling, said, telling_enough, telling_last, telling_more}
 

@@ -1,7 +1,7 @@
--- A file has no fault exactly if it is whole.
+-- A file has no fault that is an error exactly if it is whole.
 use Rattle.std.proofs.Common.{◌≡◌, ◌↔◌, inl, inr, ℕ, zero, suc, ◌+◌, ◌<◌, ◌≤◌, List, [], ◌∷◌, ◌++◌, length, map, refl}
-use Rattle.std.proofs.Common.{sym, ap, ◌∙◌, arith, false, Option, Some, None, Ok, Err, Result}
-use Rattle.std.specs.Prelude.{IsOk, IfOk, nat_lt, min, if◌then◌else◌, slice_get}
+use Rattle.std.proofs.Common.{sym, ap, ◌∙◌, subst, arith, Bool, true, false, Option, Some, None, Ok, Err, Result}
+use Rattle.std.specs.Prelude.{IsOk, IfOk, nat_lt, min, if◌then◌else◌, slice_get, ⊤}
 use Rattle.std.specs.List.{flat_map, range_with_len}
 use Rattle.std.specs.Option.{option_map, option_to_list}
 use Rattle.std.proofs.Math.Nat.{le-min, min-le_right}
@@ -14,118 +14,95 @@ use Rattle.pdb_msf.specs.Directory.{stream_entry_of, stream_place_in, stream_cou
 use Rattle.pdb_msf.specs.Header.{Head, file_head}
 use Rattle.pdb_msf.specs.Layout.{LayoutValue, layout_of, stream_by}
 use Rattle.pdb_msf.specs.Pages.{present, words}
-use Rattle.pdb_base.specs.Index.{no_stream, stream_number}
+use Rattle.pdb_base.specs.Index.{stream_number}
 use Rattle.pdb_file.specs.DebugHeader.{extra_streams_of}
+use Rattle.pdb_file.specs.SectionHeaders.{section_headers_of}
 use Rattle.pdb_file.specs.declared.debug_header.DBIExtraStreams.{DBIExtraStreams}
+use Rattle.pdb_frames.specs.Merge.{by_heads}
+use Rattle.pdb_frames.specs.Table.{frame_table_of}
+use Rattle.pdb_space.specs.Omap.{omap_table_of}
+use Rattle.pdb_space.specs.StringTable.{names_of}
 use Rattle.pdb_tpi.specs.Steps.{walk, walk_rest}
 use Rattle.pdb_tpi.specs.Table.{Table, table_of}
-use Rattle.pdb_validation.proofs.RelationLemmas.{counted_none, none_with, uncounted, with_none}
-use Rattle.pdb_validation.proofs.SeverityLemmas.{refused_errors}
 use Rattle.pdb_validation.specs.Finding.{FaultPlace, by_extent, error_count, errors_in, finding_view, stream_fault}
-use Rattle.pdb_validation.specs.IsWhole.{AreFaultless, AreWholeIds, AreNames, AreWholeTypes, HasRole, HasWholeNames}
+use Rattle.pdb_validation.specs.IsWhole.{AreFaultless, AreNames, HasRole, HasWholeNames}
 use Rattle.pdb_validation.specs.IsWhole.{HasWholeParts, HasWholeRecords, IfRead, IsNumbered, IsReadOrAbsent, IsThere}
-use Rattle.pdb_validation.specs.IsWhole.{IsWhole, IsWholeBehind}
+use Rattle.pdb_validation.specs.IsWhole.{IsWhole, IsWholeBehind, IsWholeTable}
 use Rattle.pdb_validation.specs.Names.{fault_of_answer, named_fault, names_fault, string_table_fault}
 use Rattle.pdb_validation.specs.Names.{string_table_number, whole_names}
 use Rattle.pdb_validation.specs.Places.{PagesValue, stream_pages}
 use Rattle.pdb_validation.specs.Problem.{ProblemValue, is_tolerated}
-use Rattle.pdb_validation.specs.Relations.{AreConsistent, container_relations, debug_relations, id_relations}
-use Rattle.pdb_validation.specs.Relations.{name_relations, related_faults, section_relations, symbol_relations}
-use Rattle.pdb_validation.specs.Relations.{type_relations}
-use Rattle.pdb_space.specs.StringTable.{names_of}
-use Rattle.pdb_validation.proofs.NameLemmas.{names_whole, whole_from_names}
-use Rattle.pdb_validation.specs.Roles.{known_roles, numbered_fault, role_fault, role_index, role_problem, roles_fault}
+use Rattle.pdb_validation.specs.Relations.{container_relations, debug_relations}
+use Rattle.pdb_validation.specs.Relations.{id_relations, name_relations, related_faults, section_relations}
+use Rattle.pdb_validation.specs.Relations.{symbol_relations, type_relations}
+use Rattle.pdb_validation.specs.Roles.{frames_problem, known_roles, numbered_fault, omap_problem, problem_in}
+use Rattle.pdb_validation.specs.Roles.{role_fault, role_index, role_problem, roles_fault, sections_problem}
+use Rattle.pdb_validation.specs.Roles.{sources_rise, starts_rise, unless_sorted}
 use Rattle.pdb_validation.specs.Sizes.{directory_size, nameable, streams_nameable, streams_size}
 use Rattle.pdb_validation.specs.Streams.{bytes_fault, fault_there, if_read, streams_faults, unless_absent}
-use Rattle.pdb_validation.specs.Tables.{fault_behind, id_faults, checked_id, ids_faults, item_fault, item_faults}
-use Rattle.pdb_validation.specs.Tables.{missing_fault, record_faults, refusal_fault, table_faults, type_faults}
-use Rattle.pdb_validation.specs.Tables.{checked_type, types_faults}
-use Rattle.pdb_validation.specs.Whole.{faults_behind, faults_by, faults_of, faults_of_ids, faults_of_types}
-use Rattle.pdb_validation.specs.Whole.{fixed_faults}
-use Rattle.pdb_validation.specs.Whole.{opened_faults, part_faults, refused_faults, sized_faults, with_role, with_roles}
-use Rattle.pdb_consistency.specs.declared.mismatch.Extent.{Extent}
-use Rattle.pdb_consistency.specs.declared.mismatch.Extent.TheVariants as extents
+use Rattle.pdb_validation.specs.Tables.{checked_id, checked_type, fault_behind, faults_in_table, item_fault}
+use Rattle.pdb_validation.specs.Tables.{item_faults, missing_fault, record_faults, refusal_fault, table_faults}
+use Rattle.pdb_validation.specs.Whole.{faults_behind, faults_by, faults_of, fixed_faults, opened_faults, part_faults}
+use Rattle.pdb_validation.specs.Whole.{refused_faults, sized_faults, table_faults_by, with_roles}
+use Rattle.pdb_validation.specs.declared.mismatch.Extent.{Extent}
+use Rattle.pdb_validation.specs.declared.mismatch.Extent.TheVariants as extents
 use Rattle.pdb_validation.specs.declared.finding.Finding.{Finding}
 use Rattle.pdb_validation.specs.declared.finding.Part.{Part}
 use Rattle.pdb_validation.specs.declared.finding.Part.TheVariants as parts
+use Rattle.pdb_validation.proofs.NameLemmas.{names_whole, whole_from_names}
+use Rattle.pdb_validation.proofs.RelationLemmas.{agreeing, counted}
 
--- ---- lists of faults
+-- ---- what faults say
 
-none_in : (o : Option FaultPlace) → option_to_list o ≡ [] → o ≡ None
-none_in None is = refl
-none_in (Some fault) is = absurd cc
+abbrev IsError : FaultPlace → Type 0
+IsError fault = is_tolerated fault.problem ≡ false
 
-front_none : (xs ys : List FaultPlace) → xs ++ ys ≡ [] → xs ≡ []
-front_none [] ys is = refl
-front_none (x ∷ xs) ys is = absurd cc
+-- Faults say whether it is so: there are none, and it is so, or the first is an error, and it is not.
+data Says (So : Type 0) : List FaultPlace → Type 0 where
+  fine : So → Says So []
+  wrong : {fault : FaultPlace} {faults : List FaultPlace} → IsError fault → (So → ⊥) → Says So (fault ∷ faults)
 
-behind_none : (xs ys : List FaultPlace) → xs ++ ys ≡ [] → ys ≡ []
-behind_none [] ys is = is
-behind_none (x ∷ xs) ys is = absurd cc
+-- the same of a fault that there may be
+abbrev Tells : Type 0 → Option FaultPlace → Type 0
+Tells So fault = Says So (option_to_list fault)
 
-both_none : (xs : List FaultPlace) (o : Option FaultPlace) → xs ≡ [] → o ≡ None → xs ++ option_to_list o ≡ []
-both_none xs o front none = rw (front, none) refl
+also : {A B : Type 0} {xs ys : List FaultPlace} → Says A xs → Says B ys → Says (A × B) (xs ++ ys)
+also (fine one) (fine other) = fine (one, other)
+also (fine one) (wrong error not) = wrong error (λ both. not both.1)
+also (wrong error not) says = wrong error (λ both. not both.0)
 
-last_none : (xs : List FaultPlace) (o : Option FaultPlace) → xs ++ option_to_list o ≡ [] → o ≡ None
-last_none xs o is = none_in o (behind_none xs (option_to_list o) is)
+same : {A B : Type 0} {xs : List FaultPlace} → (A → B) → (B → A) → Says A xs → Says B xs
+same there back (fine so) = fine (there so)
+same there back (wrong error not) = wrong error (λ so. not (back so))
 
--- nothing is told of a part exactly if it has no fault
-none_told : (extent : Extent) (faults : List FaultPlace) → by_extent extent faults ≡ [] → faults ≡ []
-none_told extents.First [] is = refl
-none_told extents.First (fault ∷ faults) is = absurd cc
-none_told extents.All faults is = is
+told : {A : Type 0} {xs : List FaultPlace} (extent : Extent) → Says A xs → Says A (by_extent extent xs)
+told extents.First (fine so) = fine so
+told extents.First (wrong error not) = wrong error not
+told extents.All says = says
 
-told_none : (extent : Extent) (faults : List FaultPlace) → faults ≡ [] → by_extent extent faults ≡ []
-told_none extents.First faults none = rw none refl
-told_none extents.All faults none = none
+no_error : {A : Type 0} {xs : List FaultPlace} → Says A xs → (errors_in xs ≡ []) ↔ A
+no_error (fine so) = (λ none. so, λ is. refl)
+no_error {A} (wrong {fault = fault} {faults = faults} error not) =
+    rw error (λ none. absurd cc, λ so. absurd (not so))
 
 -- ---- one stream
 
-is_read : (number : ℕ) (answer : Answer (List ℕ)) → unless_absent number answer ≡ None → IsReadOrAbsent answer
-is_read number (Ok stream) is = tt
-is_read number (Err (stream_not_found n)) is = tt
-is_read number (Err refusal) is = absurd cc
+absent_says : (number : ℕ) (answer : Answer (List ℕ)) → Tells (IsReadOrAbsent answer) (unless_absent number answer)
+absent_says number (Ok stream) = fine tt
+absent_says number (Err (stream_not_found n)) = fine tt
+absent_says number (Err refusal) = wrong refl (λ is. is)
 
-not_refused : (number : ℕ) (answer : Answer (List ℕ)) → IsReadOrAbsent answer → unless_absent number answer ≡ None
-not_refused number (Ok stream) is = refl
-not_refused number (Err (stream_not_found n)) is = refl
-not_refused number (Err refusal) is = absurd is
+there_says : (part : Part) (number : ℕ) (within : List ℕ → Option FaultPlace) (So : List ℕ → Type 0)
+    (answer : Answer (List ℕ)) → ((stream : List ℕ) → Tells (So stream) (within stream))
+    → Tells (IsThere So answer) (fault_there part number within answer)
+there_says part number within So (Ok stream) says = says stream
+there_says part number within So (Err (stream_not_found n)) says = wrong refl (λ is. is)
+there_says part number within So (Err refusal) says = fine tt
 
-within_so : {A : Type 0} (nothing : A) (within : List ℕ → A) (So : List ℕ → Type 0)
-    → ((stream : List ℕ) → within stream ≡ nothing → So stream) → (answer : Answer (List ℕ))
-    → if_read nothing within answer ≡ nothing → IfRead So answer
-within_so nothing within So so (Ok stream) is = so stream is
-within_so nothing within So so (Err refusal) is = tt
-
-so_within : {A : Type 0} (nothing : A) (within : List ℕ → A) (So : List ℕ → Type 0)
-    → ((stream : List ℕ) → So stream → within stream ≡ nothing) → (answer : Answer (List ℕ)) → IfRead So answer
-    → if_read nothing within answer ≡ nothing
-so_within nothing within So none (Ok stream) is = none stream is
-so_within nothing within So none (Err refusal) is = refl
-
-there_so : (part : Part) (number : ℕ) (within : List ℕ → Option FaultPlace) (So : List ℕ → Type 0)
-    → ((stream : List ℕ) → within stream ≡ None → So stream) → (answer : Answer (List ℕ))
-    → fault_there part number within answer ≡ None → IsThere So answer
-there_so part number within So so (Ok stream) is = so stream is
-there_so part number within So so (Err (stream_not_found n)) is = absurd cc
-there_so part number within So so (Err refusal) is = tt
-
-so_there : (part : Part) (number : ℕ) (within : List ℕ → Option FaultPlace) (So : List ℕ → Type 0)
-    → ((stream : List ℕ) → So stream → within stream ≡ None) → (answer : Answer (List ℕ)) → IsThere So answer
-    → fault_there part number within answer ≡ None
-so_there part number within So none (Ok stream) is = none stream is
-so_there part number within So none (Err (stream_not_found n)) is = absurd is
-so_there part number within So none (Err refusal) is = refl
-
-answers : {A : Type 0} (part : Part) (number : ℕ) (answer : Answer A) → fault_of_answer part number answer ≡ None
-    → IsOk answer
-answers part number (Ok x) is = refl
-answers part number (Err refusal) is = absurd cc
-
-no_fault : {A : Type 0} (part : Part) (number : ℕ) (answer : Answer A) → IsOk answer
-    → fault_of_answer part number answer ≡ None
-no_fault part number (Ok x) is = refl
-no_fault part number (Err refusal) is = absurd (false≢true is)
+answer_says : {A : Type 0} (part : Part) (number : ℕ) (answer : Answer A)
+    → Tells (IsOk answer) (fault_of_answer part number answer)
+answer_says part number (Ok x) = fine refl
+answer_says part number (Err refusal) = wrong refl false≢true
 
 -- ---- the streams
 
@@ -133,24 +110,16 @@ no_fault part number (Err refusal) is = absurd (false≢true is)
 abbrev each : (ℕ → Option FaultPlace) → List ℕ → List FaultPlace
 each fault numbers = flat_map (λ n. option_to_list (fault n)) numbers
 
-all_read : (fault : ℕ → Option FaultPlace) (from count n : ℕ) → each fault (range_with_len from count) ≡ []
-    → from ≤ n → n < from + count → fault n ≡ None
-all_read fault from zero n is least most = absurd (omega (arith, least, most))
-all_read fault from (suc count) n is least most =
-    let others = each fault (range_with_len (from + 1) count) in
-    elim (cases_lt from n) [
-      | inl above ↦ all_read fault (from + 1) count n (behind_none (option_to_list (fault from)) others is)
-          (omega (arith, above)) (omega (arith, most))
-      | inr here ↦ let same : n ≡ from = omega (arith, least, here) in
-          rw same (none_in (fault from) (front_none (option_to_list (fault from)) others is))
-    ]
-
-none_first : (fault : ℕ → Option FaultPlace) (from count : ℕ) → ((n : ℕ) → from ≤ n → n < from + count → fault n ≡ None)
-    → each fault (range_with_len from count) ≡ []
-none_first fault from zero none = refl
-none_first fault from (suc count) none =
-    let here : fault from ≡ None = none from (omega arith) (omega arith) in
-    rw here (none_first fault (from + 1) count (λ n least most. none n (omega (arith, least)) (omega (arith, most))))
+each_says : (fault : ℕ → Option FaultPlace) (So : ℕ → Type 0) (from count : ℕ) → ((n : ℕ) → Tells (So n) (fault n))
+    → Says ((n : ℕ) → from ≤ n → n < from + count → So n) (each fault (range_with_len from count))
+each_says fault So from zero says = fine (λ n least most. absurd (omega (arith, least, most)))
+each_says fault So from (suc count) says = same
+    (λ both n least most. elim (cases_lt from n) [
+      | inl above ↦ both.1 n (omega (arith, above)) (omega (arith, most))
+      | inr here ↦ let is : from ≡ n = omega (arith, least, here) in subst So is both.0
+    ])
+    (λ all. (all from (omega arith) (omega arith), λ n least most. all n (omega (arith, least)) (omega (arith, most))))
+    (also (says from) (each_says fault So (from + 1) count says))
 
 -- a number that is not below the count of streams names none
 not_over : (count n : ℕ) → min count 0xffff ≤ n → n < 0xffff → count ≤ n
@@ -188,481 +157,306 @@ few_nameable : (answer : Answer ℕ) → nameable answer ≤ 0xffff
 few_nameable (Ok count) = min-le_right count 0xffff
 few_nameable (Err refusal) = omega arith
 
-read_below : (layout : LayoutValue) (file : List ℕ) (count n : ℕ) → streams_faults layout file count ≡ []
-    → n < count → IsReadOrAbsent (stream_by layout file n None)
+streams_say : (layout : LayoutValue) (file : List ℕ)
+    → Says ((n : ℕ) → n < 0xffff → IsReadOrAbsent (stream_by layout file n None))
+    (streams_faults layout file (streams_nameable layout))
 unfolding streams_faults bytes_fault
-read_below layout file count n is under = is_read n (stream_by layout file n None)
-    (all_read (bytes_fault layout file) 0 count n is (omega arith) (omega (arith, under)))
-
-none_below : (layout : LayoutValue) (file : List ℕ) (count : ℕ) → count ≤ 0xffff
-    → ((n : ℕ) → n < 0xffff → IsReadOrAbsent (stream_by layout file n None)) → streams_faults layout file count ≡ []
-unfolding streams_faults bytes_fault
-none_below layout file count few each = none_first (bytes_fault layout file) 0 count
-    (λ n least below. not_refused n (stream_by layout file n None) (each n (omega (arith, below, few))))
-
-streams_read : (layout : LayoutValue) (file : List ℕ)
-    → streams_faults layout file (streams_nameable layout) ≡ [] → (n : ℕ) → n < 0xffff
-    → IsReadOrAbsent (stream_by layout file n None)
-streams_read layout file is n below = elim (cases_lt n (streams_nameable layout)) [
-  | inl under ↦ read_below layout file (streams_nameable layout) n is under
-  | inr past ↦ none_there (stream_by layout file n None) n (absent_past layout file n past below)
-]
+streams_say layout file =
+    let few = few_nameable (stream_count_in layout.directory) in
+    same
+    (λ all n below. elim (cases_lt n (streams_nameable layout)) [
+      | inl under ↦ all n (omega arith) (omega (arith, under))
+      | inr past ↦ none_there (stream_by layout file n None) n (absent_past layout file n past below)
+    ])
+    (λ all n least most. all n (omega (arith, most, few)))
+    (each_says (bytes_fault layout file) (λ n. IsReadOrAbsent (stream_by layout file n None)) 0
+    (streams_nameable layout) (λ n. absent_says n (stream_by layout file n None)))
 
 -- ---- records
 
-none_refused : {A : Type 0} (fault : Refusal → FaultPlace) (answer : Answer A) → refusal_fault fault answer ≡ None
-    → IsOk answer
-none_refused fault (Ok x) is = refl
-none_refused fault (Err refusal) is = absurd cc
+refusal_says : {A : Type 0} (fault : Refusal → FaultPlace) (answer : Answer A) → ((r : Refusal) → IsError (fault r))
+    → Tells (IsOk answer) (refusal_fault fault answer)
+refusal_says fault (Ok x) error = fine refl
+refusal_says fault (Err refusal) error = wrong (error refusal) false≢true
 
-ok_refused : {A : Type 0} (fault : Refusal → FaultPlace) (answer : Answer A) → IsOk answer
-    → refusal_fault fault answer ≡ None
-ok_refused fault (Ok x) is = refl
-ok_refused fault (Err refusal) is = absurd (false≢true is)
+items_say : {A : Type 0} (fault : ℕ → Refusal → FaultPlace) (means : ℕ → List ℕ → Answer A) (So : Type 0) (index : ℕ)
+    (items : List (List ℕ)) (behind : Option FaultPlace) → ((i : ℕ) (r : Refusal) → IsError (fault i r))
+    → Tells So behind → Says (AreFaultless means index items × So) (item_faults fault means index items behind)
+items_say fault means So index [] behind error last = same (λ so. (tt, so)) (λ both. both.1) last
+items_say {A} fault means So index (item ∷ items) behind error last =
+    same (λ all. ((all.0, all.1.0), all.1.1)) (λ all. (all.0.0, (all.0.1, all.1)))
+    (also (refusal_says (fault index) (means index item) (error index))
+    (items_say fault means So (index + 1) items behind error last))
 
-some_none : (fault : FaultPlace) → fault ∷ [] ≡ [] → ⊥
-some_none fault is = cc
-
-some_is_none : (fault : FaultPlace) → Some fault ≡ None → ⊥
-some_is_none fault is = cc
-
-not_missing : (fault : ℕ → Refusal → FaultPlace) (index maximum : ℕ) → missing_fault fault index maximum ≡ None
-    → maximum ≤ index
-not_missing fault index maximum is = elim (cases_lt index maximum) [
-  | inl below ↦ let test = lt-ltb index maximum below in absurd (some_is_none _ (rw test at is))
-  | inr past ↦ past
+missing_says : (fault : ℕ → Refusal → FaultPlace) (index maximum : ℕ) → ((i : ℕ) (r : Refusal) → IsError (fault i r))
+    → Tells (maximum ≤ index) (missing_fault fault index maximum)
+missing_says fault index maximum error = elim (cases_lt index maximum) [
+  | inl below ↦ let test = lt-ltb index maximum below in
+      rw test (wrong (error index _) (λ past. omega (arith, below, past)))
+  | inr past ↦ let test = le-ltb index maximum past in rw test (fine past)
 ]
 
-records_answered : {A : Type 0} (fault : ℕ → Refusal → FaultPlace) (means : ℕ → List ℕ → Answer A) (index : ℕ)
-    (items : List (List ℕ)) (behind : Option FaultPlace)
-    → item_faults fault means index items behind ≡ [] → AreFaultless means index items × (behind ≡ None)
-records_answered fault means index [] behind is = (tt, none_in behind is)
-records_answered {A} fault means index (item ∷ items) behind is =
-    let one = option_to_list (refusal_fault (fault index) (means index item)) in
-    let more = item_faults fault means (index + 1) items behind in
-    let others = records_answered fault means (index + 1) items behind (behind_none one more is) in
-    ((none_refused (fault index) (means index item) (none_in _ (front_none one more is)), others.0), others.1)
+some_bytes : (byte : ℕ) (bytes : List ℕ) → byte ∷ bytes ≡ [] → ⊥
+some_bytes byte bytes is = cc
 
-answered_records : {A : Type 0} (fault : ℕ → Refusal → FaultPlace) (means : ℕ → List ℕ → Answer A) (index : ℕ)
-    (items : List (List ℕ)) (behind : Option FaultPlace)
-    → AreFaultless means index items → behind ≡ None → item_faults fault means index items behind ≡ []
-answered_records fault means index [] behind are none = rw none refl
-answered_records {A} fault means index (item ∷ items) behind are none =
-    let one = ok_refused (fault index) (means index item) are.0 in
-    rw one (answered_records fault means (index + 1) items behind are.1 none)
+behind_says : (fault : ℕ → Refusal → FaultPlace) (index maximum : ℕ) (rest : List ℕ)
+    → ((i : ℕ) (r : Refusal) → IsError (fault i r))
+    → Tells ((rest ≡ []) × (maximum ≤ index)) (fault_behind fault index maximum rest)
+behind_says fault index maximum [] error =
+    same (λ past. (refl, past)) (λ both. both.1) (missing_says fault index maximum error)
+behind_says fault index maximum (byte ∷ rest) error = wrong (error index _) (λ both. some_bytes byte rest both.0)
 
-none_behind : (fault : ℕ → Refusal → FaultPlace) (index maximum : ℕ) (rest : List ℕ)
-    → fault_behind fault index maximum rest ≡ None → (rest ≡ []) × (maximum ≤ index)
-none_behind fault index maximum [] is = (refl, not_missing fault index maximum is)
-none_behind fault index maximum (byte ∷ rest) is = absurd cc
-
-behind_whole : (fault : ℕ → Refusal → FaultPlace) (index maximum : ℕ) (rest : List ℕ) → rest ≡ [] → maximum ≤ index
-    → fault_behind fault index maximum rest ≡ None
-behind_whole fault index maximum rest none least = let test = le-ltb index maximum least in rw (none, test) refl
-
-whole_records : {A : Type 0} (fault : ℕ → Refusal → FaultPlace) (means : ℕ → List ℕ → Answer A) (table : Table)
-    → record_faults fault means table ≡ [] → HasWholeRecords means table
+records_say : {A : Type 0} (fault : ℕ → Refusal → FaultPlace) (means : ℕ → List ℕ → Answer A) (table : Table)
+    → ((i : ℕ) (r : Refusal) → IsError (fault i r))
+    → Says (HasWholeRecords means table) (record_faults fault means table)
 unfolding record_faults
-whole_records fault means table is =
-    let both = records_answered fault means table.header.minimum_index (walk table) _ is in
-    let end = none_behind fault (table.header.minimum_index + length (walk table)) table.header.maximum_index
-    (walk_rest table) both.1 in
-    record { records = both.0; ends = end.0; counted = end.1 }
+records_say fault means table error =
+    same (λ all. record { records = all.0; ends = all.1.0; counted = all.1.1 })
+    (λ whole. (whole.records, (whole.ends, whole.counted)))
+    (items_say fault means _ table.header.minimum_index (walk table) _ error
+    (behind_says fault (table.header.minimum_index + length (walk table)) table.header.maximum_index (walk_rest table)
+    error))
 
-records_whole : {A : Type 0} (fault : ℕ → Refusal → FaultPlace) (means : ℕ → List ℕ → Answer A) (table : Table)
-    → HasWholeRecords means table → record_faults fault means table ≡ []
-unfolding record_faults
-records_whole fault means table whole =
-    answered_records fault means table.header.minimum_index (walk table) _ whole.records
-    (behind_whole fault (table.header.minimum_index + length (walk table)) table.header.maximum_index
-    (walk_rest table) whole.ends whole.counted)
+table_says : (part : Part) (number : ℕ) (checked : Table → ℕ → List ℕ → Answer (Unit {0})) (pages : PagesValue)
+    (answer : Answer Table) → Says (IsWholeTable checked answer) (table_faults part number
+    (λ table. record_faults (item_fault part number pages table) (checked table) table) answer)
+table_says part number checked pages (Ok table) =
+    records_say (item_fault part number pages table) (checked table) table (λ i r. refl)
+table_says part number checked pages (Err refusal) = wrong refl (λ is. is)
 
-types_whole : (pages : PagesValue) (answer : Answer Table) → table_faults parts.Types 2 (type_faults pages) answer ≡ []
-    → AreWholeTypes answer
-types_whole pages (Ok table) is = whole_records (item_fault parts.Types 2 pages table) (checked_type table) table is
-types_whole pages (Err refusal) is = absurd cc
+table_in : (part : Part) (number : ℕ) (checked : Table → ℕ → List ℕ → Answer (Unit {0})) (pages : PagesValue)
+    (answer : Answer (List ℕ))
+    → Says (IfRead (λ stream. IsWholeTable checked (table_of stream)) answer)
+    (if_read [] (faults_in_table part number checked pages) answer)
+unfolding faults_in_table
+table_in part number checked pages (Ok stream) = table_says part number checked pages (table_of stream)
+table_in part number checked pages (Err refusal) = fine tt
 
-whole_types : (pages : PagesValue) (answer : Answer Table) → AreWholeTypes answer
-    → table_faults parts.Types 2 (type_faults pages) answer ≡ []
-whole_types pages (Ok table) is = records_whole (item_fault parts.Types 2 pages table) (checked_type table) table is
-whole_types pages (Err refusal) is = absurd is
-
-ids_whole : (pages : PagesValue) (answer : Answer Table) → table_faults parts.Ids 4 (id_faults pages) answer ≡ []
-    → AreWholeIds answer
-ids_whole pages (Ok table) is = whole_records (item_fault parts.Ids 4 pages table) checked_id table is
-ids_whole pages (Err refusal) is = absurd cc
-
-whole_ids : (pages : PagesValue) (answer : Answer Table) → AreWholeIds answer
-    → table_faults parts.Ids 4 (id_faults pages) answer ≡ []
-whole_ids pages (Ok table) is = records_whole (item_fault parts.Ids 4 pages table) checked_id table is
-whole_ids pages (Err refusal) is = absurd is
-
-types_stream : (pages : PagesValue) (stream : List ℕ) → types_faults pages stream ≡ [] → AreWholeTypes (table_of stream)
-unfolding types_faults
-types_stream pages stream is = types_whole pages (table_of stream) is
-
-stream_types : (pages : PagesValue) (stream : List ℕ) → AreWholeTypes (table_of stream) → types_faults pages stream ≡ []
-unfolding types_faults
-stream_types pages stream is = whole_types pages (table_of stream) is
-
-ids_stream : (pages : PagesValue) (stream : List ℕ) → ids_faults pages stream ≡ [] → AreWholeIds (table_of stream)
-unfolding ids_faults
-ids_stream pages stream is = ids_whole pages (table_of stream) is
-
-stream_ids : (pages : PagesValue) (stream : List ℕ) → AreWholeIds (table_of stream) → ids_faults pages stream ≡ []
-unfolding ids_faults
-stream_ids pages stream is = whole_ids pages (table_of stream) is
+table_by : (part : Part) (number : ℕ) (checked : Table → ℕ → List ℕ → Answer (Unit {0})) (layout : LayoutValue)
+    (file : List ℕ)
+    → Says (IfRead (λ stream. IsWholeTable checked (table_of stream)) (stream_by layout file number None))
+    (table_faults_by part number checked layout file)
+unfolding table_faults_by
+table_by part number checked layout file =
+    table_in part number checked (stream_pages layout number) (stream_by layout file number None)
 
 -- ---- names
 
-named_whole : (layout : LayoutValue) (file : List ℕ) (answer : Answer (Option ℕ)) → named_fault layout file answer
-    ≡ None
-    → AreNames layout file answer
+named_says : (layout : LayoutValue) (file : List ℕ) (answer : Answer (Option ℕ))
+    → Tells (AreNames layout file answer) (named_fault layout file answer)
 unfolding string_table_fault
-named_whole layout file (Ok None) is = tt
-named_whole layout file (Ok (Some number)) is =
-    there_so parts.StringTable number (λ stream. fault_of_answer parts.StringTable number (whole_names stream))
-    (λ stream. HasWholeNames (names_of stream))
-    (λ stream none. names_whole stream (answers parts.StringTable number (whole_names stream) none))
-    (stream_by layout file number None) is
-named_whole layout file (Err refusal) is = absurd cc
-
-whole_named : (layout : LayoutValue) (file : List ℕ) (answer : Answer (Option ℕ)) → AreNames layout file answer
-    → named_fault layout file answer ≡ None
-unfolding string_table_fault
-whole_named layout file (Ok None) is = refl
-whole_named layout file (Ok (Some number)) is =
-    so_there parts.StringTable number (λ stream. fault_of_answer parts.StringTable number (whole_names stream))
-    (λ stream. HasWholeNames (names_of stream))
-    (λ stream each. no_fault parts.StringTable number (whole_names stream) (whole_from_names stream each))
-    (stream_by layout file number None) is
-whole_named layout file (Err refusal) is = absurd is
+named_says layout file (Ok None) = fine tt
+named_says layout file (Ok (Some number)) =
+    there_says parts.StringTable number (λ stream. fault_of_answer parts.StringTable number (whole_names stream))
+    (λ stream. HasWholeNames (names_of stream)) (stream_by layout file number None)
+    (λ stream. same (names_whole stream) (whole_from_names stream)
+    (answer_says parts.StringTable number (whole_names stream)))
+named_says layout file (Err refusal) = wrong refl (λ is. is)
 
 -- ---- roles
 
-no_problem : (part : Part) (number : ℕ) (problem : Option ProblemValue)
-    → option_map (stream_fault part number) problem ≡ None → problem ≡ None
-no_problem part number None is = refl
-no_problem part number (Some problem) is = absurd cc
+abbrev MaybeError : Option ProblemValue → Type 0
+MaybeError None = ⊤
+MaybeError (Some problem) = is_tolerated problem ≡ false
 
-problem_none : (part : Part) (number : ℕ) (problem : Option ProblemValue) → problem ≡ None
-    → option_map (stream_fault part number) problem ≡ None
-problem_none part number problem none = rw none refl
+problem_error : {A : Type 0} (within : A → Option ProblemValue) (answer : Answer A)
+    → ((x : A) → MaybeError (within x)) → MaybeError (problem_in within answer)
+problem_error within (Ok x) error = error x
+problem_error within (Err refusal) error = refl
 
-numbered_whole : (layout : LayoutValue) (file : List ℕ) (part : Part) (number : Option ℕ)
-    → numbered_fault layout file part number ≡ None → IsNumbered layout file part number
-numbered_whole layout file part None is = tt
-numbered_whole layout file part (Some number) is =
-    there_so part number (λ stream. option_map (stream_fault part number) (role_problem part stream))
-    (λ stream. role_problem part stream ≡ None)
-    (λ stream. no_problem part number (role_problem part stream)) (stream_by layout file number None) is
+sorted_error : (is_sorted : Bool) → MaybeError (unless_sorted is_sorted)
+sorted_error true = tt
+sorted_error false = refl
 
-whole_numbered : (layout : LayoutValue) (file : List ℕ) (part : Part) (number : Option ℕ)
-    → IsNumbered layout file part number
-    → numbered_fault layout file part number ≡ None
-whole_numbered layout file part None is = refl
-whole_numbered layout file part (Some number) is =
-    so_there part number (λ stream. option_map (stream_fault part number) (role_problem part stream))
-    (λ stream. role_problem part stream ≡ None)
-    (λ stream. problem_none part number (role_problem part stream)) (stream_by layout file number None) is
+sections_error : (stream : List ℕ) → MaybeError (sections_problem stream)
+unfolding sections_problem
+sections_error stream = problem_error (λ sections. None) (section_headers_of stream) (λ sections. tt)
 
-role_whole : (layout : LayoutValue) (file : List ℕ) (part : Part) (roles : Option DBIExtraStreams)
-    → role_fault layout file part roles ≡ None → HasRole layout file part roles
-role_whole layout file part None is = tt
-role_whole layout file part (Some roles) is = numbered_whole layout file part (stream_number (role_index part roles)) is
+omap_error : (stream : List ℕ) → MaybeError (omap_problem stream)
+unfolding omap_problem
+omap_error stream = problem_error (λ table. unless_sorted (sources_rise table)) (omap_table_of stream)
+    (λ table. sorted_error (sources_rise table))
 
-whole_role : (layout : LayoutValue) (file : List ℕ) (part : Part) (roles : Option DBIExtraStreams)
-    → HasRole layout file part roles → role_fault layout file part roles ≡ None
-whole_role layout file part None is = refl
-whole_role layout file part (Some roles) is = whole_numbered layout file part (stream_number (role_index part roles)) is
+frames_error : (old new : Option (List ℕ)) → MaybeError (frames_problem old new)
+unfolding frames_problem
+frames_error old new = problem_error (λ frames. unless_sorted (starts_rise (by_heads frames.old frames.new)))
+    (frame_table_of old new) (λ frames. sorted_error (starts_rise (by_heads frames.old frames.new)))
 
--- a part that no role finds
-other_part : (layout : LayoutValue) (file : List ℕ) (part : Part) (roles : Option DBIExtraStreams)
-    → ((r : DBIExtraStreams) → role_index part r ≡ no_stream) → role_fault layout file part roles ≡ None
-other_part layout file part None none = refl
-other_part layout file part (Some r) none = rw (none r) refl
+role_problem_error : (part : Part) (stream : List ℕ) → MaybeError (role_problem part stream)
+unfolding role_problem
+role_problem_error parts.SectionHeaders stream = sections_error stream
+role_problem_error parts.OriginalSectionHeaders stream = sections_error stream
+role_problem_error parts.OmapToSource stream = omap_error stream
+role_problem_error parts.OmapFromSource stream = omap_error stream
+role_problem_error parts.OldFrames stream = frames_error (Some stream) None
+role_problem_error parts.NewFrames stream = frames_error None (Some stream)
+role_problem_error other stream = tt
 
--- the faults of the streams of all roles that are read
-record NoneByRole (layout : LayoutValue) (file : List ℕ) (roles : Option DBIExtraStreams) : Type 0 where
-  pub sections : role_fault layout file parts.SectionHeaders roles ≡ None
-  pub original : role_fault layout file parts.OriginalSectionHeaders roles ≡ None
-  pub to_source : role_fault layout file parts.OmapToSource roles ≡ None
-  pub from_source : role_fault layout file parts.OmapFromSource roles ≡ None
-  pub old : role_fault layout file parts.OldFrames roles ≡ None
-  pub new : role_fault layout file parts.NewFrames roles ≡ None
+some_problem : (problem : ProblemValue) → Some problem ≡ None → ⊥
+some_problem problem is = cc
 
-by_part : (layout : LayoutValue) (file : List ℕ) (roles : Option DBIExtraStreams) → NoneByRole layout file roles
-    → (part : Part)
-    → role_fault layout file part roles ≡ None
+problem_says : (part : Part) (number : ℕ) (problem : Option ProblemValue) → MaybeError problem
+    → Tells (problem ≡ None) (option_map (stream_fault part number) problem)
+problem_says part number None error = fine refl
+problem_says part number (Some problem) error = wrong error (some_problem problem)
+
+numbered_says : (layout : LayoutValue) (file : List ℕ) (part : Part) (number : Option ℕ)
+    → Tells (IsNumbered layout file part number) (numbered_fault layout file part number)
+numbered_says layout file part None = fine tt
+numbered_says layout file part (Some number) =
+    there_says part number (λ stream. option_map (stream_fault part number) (role_problem part stream))
+    (λ stream. role_problem part stream ≡ None) (stream_by layout file number None)
+    (λ stream. problem_says part number (role_problem part stream) (role_problem_error part stream))
+
+role_says : (layout : LayoutValue) (file : List ℕ) (part : Part) (roles : Option DBIExtraStreams)
+    → Tells (HasRole layout file part roles) (role_fault layout file part roles)
+role_says layout file part None = fine tt
+role_says layout file part (Some roles) = numbered_says layout file part (stream_number (role_index part roles))
+
+-- the roles of all parts that are read, and those of all parts
+abbrev HaveRoles : LayoutValue → List ℕ → Option DBIExtraStreams → Type 0
+HaveRoles layout file roles =
+    HasRole layout file parts.SectionHeaders roles × HasRole layout file parts.OriginalSectionHeaders roles
+    × HasRole layout file parts.OmapToSource roles × HasRole layout file parts.OmapFromSource roles
+    × HasRole layout file parts.OldFrames roles × HasRole layout file parts.NewFrames roles
+
+by_part : (layout : LayoutValue) (file : List ℕ) (roles : Option DBIExtraStreams) → HaveRoles layout file roles
+    → (part : Part) → HasRole layout file part roles
 unfolding role_index
-by_part layout file roles none parts.SectionHeaders = none.sections
-by_part layout file roles none parts.OriginalSectionHeaders = none.original
-by_part layout file roles none parts.OmapToSource = none.to_source
-by_part layout file roles none parts.OmapFromSource = none.from_source
-by_part layout file roles none parts.OldFrames = none.old
-by_part layout file roles none parts.NewFrames = none.new
-by_part layout file roles none parts.Header = other_part layout file parts.Header roles (λ r. refl)
-by_part layout file roles none parts.Directory = other_part layout file parts.Directory roles (λ r. refl)
-by_part layout file roles none parts.Sizes = other_part layout file parts.Sizes roles (λ r. refl)
-by_part layout file roles none parts.Stream = other_part layout file parts.Stream roles (λ r. refl)
-by_part layout file roles none parts.Names = other_part layout file parts.Names roles (λ r. refl)
-by_part layout file roles none parts.StringTable = other_part layout file parts.StringTable roles (λ r. refl)
-by_part layout file roles none parts.Roles = other_part layout file parts.Roles roles (λ r. refl)
-by_part layout file roles none parts.Types = other_part layout file parts.Types roles (λ r. refl)
-by_part layout file roles none parts.Ids = other_part layout file parts.Ids roles (λ r. refl)
+by_part layout file None have part = tt
+by_part layout file (Some roles) have parts.SectionHeaders = have.0
+by_part layout file (Some roles) have parts.OriginalSectionHeaders = have.1
+by_part layout file (Some roles) have parts.OmapToSource = have.2
+by_part layout file (Some roles) have parts.OmapFromSource = have.3
+by_part layout file (Some roles) have parts.OldFrames = have.4
+by_part layout file (Some roles) have parts.NewFrames = have.5
+by_part layout file (Some roles) have other = tt
 
-roles_none : (layout : LayoutValue) (file : List ℕ) (roles : Option DBIExtraStreams) (faults : List FaultPlace)
-    → with_roles layout file roles faults ≡ [] → (faults ≡ []) × NoneByRole layout file roles
+roles_say : {A : Type 0} {faults : List FaultPlace} (layout : LayoutValue) (file : List ℕ)
+    (roles : Option DBIExtraStreams) → Says A faults
+    → Says (A × ((part : Part) → HasRole layout file part roles)) (with_roles layout file roles faults)
 unfolding with_roles
-roles_none layout file roles faults is =
-    let with1 = with_role layout file roles parts.SectionHeaders faults in
-    let with2 = with_role layout file roles parts.OriginalSectionHeaders with1 in
-    let with3 = with_role layout file roles parts.OmapToSource with2 in
-    let with4 = with_role layout file roles parts.OmapFromSource with3 in
-    let with5 = with_role layout file roles parts.OldFrames with4 in
-    let is5 : with5 ≡ [] = front_none with5 (option_to_list (role_fault layout file parts.NewFrames roles)) is in
-    let is4 : with4 ≡ [] = front_none with4 (option_to_list (role_fault layout file parts.OldFrames roles)) is5 in
-    let is3 : with3 ≡ [] = front_none with3 (option_to_list (role_fault layout file parts.OmapFromSource roles)) is4 in
-    let is2 : with2 ≡ [] = front_none with2 (option_to_list (role_fault layout file parts.OmapToSource roles)) is3 in
-    let is1 : with1 ≡ [] = front_none with1
-    (option_to_list (role_fault layout file parts.OriginalSectionHeaders roles)) is2 in (
-      front_none faults (option_to_list (role_fault layout file parts.SectionHeaders roles)) is1,
-      record {
-        sections = last_none faults (role_fault layout file parts.SectionHeaders roles) is1;
-        original = last_none with1 (role_fault layout file parts.OriginalSectionHeaders roles) is2;
-        to_source = last_none with2 (role_fault layout file parts.OmapToSource roles) is3;
-        from_source = last_none with3 (role_fault layout file parts.OmapFromSource roles) is4;
-        old = last_none with4 (role_fault layout file parts.OldFrames roles) is5;
-        new = last_none with5 (role_fault layout file parts.NewFrames roles) is;
-      },
-    )
+roles_say layout file roles says =
+    let one = λ (part : Part). role_says layout file part roles in
+    same
+    (λ all. (
+      all.0.0.0.0.0.0,
+      by_part layout file roles
+          (all.0.0.0.0.0.1, all.0.0.0.0.1, all.0.0.0.1, all.0.0.1, all.0.1, all.1),
+    ))
+    (λ all. (
+      (
+        (
+          (((all.0, all.1 parts.SectionHeaders), all.1 parts.OriginalSectionHeaders), all.1 parts.OmapToSource),
+          all.1 parts.OmapFromSource,
+        ),
+        all.1 parts.OldFrames,
+      ),
+      all.1 parts.NewFrames,
+    ))
+    (also (also (also (also (also (also says (one parts.SectionHeaders)) (one parts.OriginalSectionHeaders))
+    (one parts.OmapToSource)) (one parts.OmapFromSource)) (one parts.OldFrames)) (one parts.NewFrames))
 
-none_roles : (layout : LayoutValue) (file : List ℕ) (roles : Option DBIExtraStreams) (faults : List FaultPlace) → faults
-    ≡ []
-    → ((part : Part) → role_fault layout file part roles ≡ None) → with_roles layout file roles faults ≡ []
-unfolding with_roles
-none_roles layout file roles faults none each =
-    both_none _ (role_fault layout file parts.NewFrames roles)
-    (both_none _ (role_fault layout file parts.OldFrames roles)
-    (both_none _ (role_fault layout file parts.OmapFromSource roles)
-    (both_none _ (role_fault layout file parts.OmapToSource roles)
-    (both_none _ (role_fault layout file parts.OriginalSectionHeaders roles)
-    (both_none faults (role_fault layout file parts.SectionHeaders roles) none (each parts.SectionHeaders))
-    (each parts.OriginalSectionHeaders)) (each parts.OmapToSource)) (each parts.OmapFromSource))
-    (each parts.OldFrames)) (each parts.NewFrames)
-
--- ---- the parts whose streams have fixed numbers
-
-record NoneFixed (layout : LayoutValue) (file : List ℕ) : Type 0 where
-  pub streams : streams_faults layout file (streams_nameable layout) ≡ []
-  pub names : names_fault layout file ≡ None
-  pub roles : roles_fault layout file ≡ None
-  pub types : faults_of_types layout file ≡ []
-  pub ids : faults_of_ids layout file ≡ []
-
-fixed_none : (extent : Extent) (layout : LayoutValue) (file : List ℕ) → fixed_faults extent layout file ≡ []
-    → NoneFixed layout file
-unfolding fixed_faults
-fixed_none extent layout file is =
-    let streams = streams_faults layout file (streams_nameable layout) in
-    let with1 = by_extent extent streams in
-    let with2 = with1 ++ option_to_list (names_fault layout file) in
-    let with3 = with2 ++ option_to_list (roles_fault layout file) in
-    let types = by_extent extent (faults_of_types layout file) in
-    let ids = by_extent extent (faults_of_ids layout file) in
-    let with4 = with3 ++ types in
-    let is4 : with4 ≡ [] = front_none with4 ids is in
-    let is3 : with3 ≡ [] = front_none with3 types is4 in
-    let is2 : with2 ≡ [] = front_none with2 (option_to_list (roles_fault layout file)) is3 in
-    let is1 : with1 ≡ [] = front_none with1 (option_to_list (names_fault layout file)) is2 in
-    record {
-      streams = none_told extent streams is1;
-      names = last_none with1 (names_fault layout file) is2;
-      roles = last_none with2 (roles_fault layout file) is3;
-      types = none_told extent (faults_of_types layout file) (behind_none with3 types is4);
-      ids = none_told extent (faults_of_ids layout file) (behind_none with4 ids is);
-    }
-
-none_fixed : (extent : Extent) (layout : LayoutValue) (file : List ℕ) → NoneFixed layout file
-    → fixed_faults extent layout file ≡ []
-unfolding fixed_faults
-none_fixed extent layout file none =
-    let streams = told_none extent (streams_faults layout file (streams_nameable layout)) none.streams in
-    let types = told_none extent (faults_of_types layout file) none.types in
-    let ids = told_none extent (faults_of_ids layout file) none.ids in
-    rw (streams, none.names, none.roles, types, ids) refl
+roles_in : (answer : Answer (List ℕ)) → Tells (IfRead (λ stream. IsOk (extra_streams_of stream)) answer)
+    (if_read None (λ stream. fault_of_answer parts.Roles 3 (extra_streams_of stream)) answer)
+roles_in (Ok stream) = answer_says parts.Roles 3 (extra_streams_of stream)
+roles_in (Err refusal) = fine tt
 
 -- ---- the whole file
 
 -- the parts behind a test have no errors, if the test fails, and no parts else
-behind_test : (small large : ℕ) (fault : FaultPlace) (faults : List FaultPlace) → is_tolerated fault.problem ≡ false
-    → errors_in (if nat_lt small large then fault ∷ [] else faults) ≡ [] → (large ≤ small) × (errors_in faults ≡ [])
-behind_test small large fault faults wrong is = elim (cases_lt small large) [
-  | inl under ↦ let test = lt-ltb small large under in absurd (some_none _ (rw (test, wrong) at is))
-  | inr over ↦ let test = le-ltb small large over in (over, rw test at is)
+tested : {A : Type 0} (small large : ℕ) (fault : FaultPlace) (faults : List FaultPlace) → IsError fault
+    → (errors_in faults ≡ []) ↔ A
+    → (errors_in (if nat_lt small large then fault ∷ [] else faults) ≡ []) ↔ ((large ≤ small) × A)
+tested small large fault faults error agree = elim (cases_lt small large) [
+  | inl under ↦ let test = lt-ltb small large under in
+      rw (test, error) (λ none. absurd cc, λ both. absurd (omega (arith, under, both.0)))
+  | inr over ↦ let test = le-ltb small large over in
+      rw test (λ none. (over, agree.0 none), λ both. agree.1 both.1)
 ]
 
-test_behind : (small large : ℕ) (fault : FaultPlace) (faults : List FaultPlace) → large ≤ small → errors_in faults ≡ []
-    → errors_in (if nat_lt small large then fault ∷ [] else faults) ≡ []
-test_behind small large fault faults over none = let test = le-ltb small large over in rw test none
+parts_agree : (extent : Extent) (layout : LayoutValue) (file : List ℕ)
+    → (errors_in (sized_faults extent layout file) ≡ []) ↔ HasWholeParts layout file
+unfolding sized_faults part_faults related_faults refused_faults fixed_faults names_fault roles_fault
+parts_agree extent layout file =
+    let names = there_says parts.Names 1 (λ stream. named_fault layout file (string_table_number stream))
+    (λ stream. AreNames layout file (string_table_number stream)) (stream_by layout file 1 None)
+    (λ stream. named_says layout file (string_table_number stream)) in
+    let types = table_by parts.Types 2 checked_type layout file in
+    let ids = table_by parts.Ids 4 (λ table. checked_id) layout file in
+    let fixed = also (also (also (also (told extent (streams_say layout file)) names)
+    (roles_in (stream_by layout file 3 None))) (told extent types)) (told extent ids) in
+    let apart = no_error (roles_say layout file (known_roles layout file) fixed) in
+    let whole = tested (length file) (streams_size layout) _ (part_faults extent layout file) refl
+    (agreeing extent layout (section_relations layout file) _
+    (agreeing extent layout (symbol_relations layout file) _
+    (agreeing extent layout (debug_relations layout file) _
+    (agreeing extent layout (name_relations layout file) _
+    (agreeing extent layout (id_relations layout file) _
+    (agreeing extent layout (type_relations layout file) _
+    (agreeing extent layout (container_relations layout file) _ apart))))))) in (
+      λ none. let all = whole.0 none in let are = all.1.0.0.0.0.0.0.0 in record {
+        streams_fit = all.0;
+        streams = are.0.0.0.0.0;
+        names = are.0.0.0.0.1;
+        roles = are.0.0.0.1;
+        types = are.0.0.1;
+        ids = are.0.1;
+        by_role = are.1;
+        pages_agree = all.1.0.0.0.0.0.0.1;
+        types_agree = all.1.0.0.0.0.0.1;
+        ids_agree = all.1.0.0.0.0.1;
+        names_agree = all.1.0.0.0.1;
+        roles_agree = all.1.0.0.1;
+        symbols_agree = all.1.0.1;
+        sections_agree = all.1.1;
+      },
+      λ so. whole.1 (
+        so.streams_fit,
+        (
+          (
+            (
+              (
+                (
+                  (
+                    (
+                      (((((so.streams, so.names), so.roles), so.types), so.ids), so.by_role),
+                      so.pages_agree,
+                    ),
+                    so.types_agree,
+                  ),
+                  so.ids_agree,
+                ),
+                so.names_agree,
+              ),
+              so.roles_agree,
+            ),
+            so.symbols_agree,
+          ),
+          so.sections_agree,
+        ),
+      ),
+    )
 
--- the parts, each by itself
-refused_none : (extent : Extent) (layout : LayoutValue) (file : List ℕ) → refused_faults extent layout file ≡ []
-    → NoneFixed layout file × NoneByRole layout file (known_roles layout file)
-unfolding refused_faults
-refused_none extent layout file is =
-    let all = roles_none layout file (known_roles layout file) (fixed_faults extent layout file) is in
-    (fixed_none extent layout file all.0, all.1)
+layout_agrees : (extent : Extent) (file : List ℕ) (answer : Answer LayoutValue)
+    → (errors_in (faults_by extent file answer) ≡ []) ↔ IsWholeBehind file answer
+layout_agrees extent file (Ok layout) = parts_agree extent layout file
+layout_agrees extent file (Err refusal) = (λ none. absurd cc, λ whole. absurd whole)
 
-none_refused_of : (extent : Extent) (layout : LayoutValue) (file : List ℕ) → NoneFixed layout file
-    → ((part : Part) → role_fault layout file part (known_roles layout file) ≡ None)
-    → refused_faults extent layout file ≡ []
-unfolding refused_faults
-none_refused_of extent layout file fixed each =
-    none_roles layout file (known_roles layout file) (fixed_faults extent layout file)
-    (none_fixed extent layout file fixed) each
-
--- the relations between them
-record AreAgreed (extent : Extent) (layout : LayoutValue) (file : List ℕ) (faults : List FaultPlace) : Type 0 where
-  pub none : errors_in faults ≡ []
-  pub pages : AreConsistent (container_relations layout file)
-  pub types : AreConsistent (type_relations layout file)
-  pub ids : AreConsistent (id_relations layout file)
-  pub names : AreConsistent (name_relations layout file)
-  pub roles : AreConsistent (debug_relations layout file)
-  pub symbols : AreConsistent (symbol_relations layout file)
-  pub sections : AreConsistent (section_relations layout file)
-
-related_agree : (extent : Extent) (layout : LayoutValue) (file : List ℕ) (faults : List FaultPlace)
-    → errors_in (related_faults extent layout file faults) ≡ [] → AreAgreed extent layout file faults
-unfolding related_faults
-related_agree extent layout file faults is =
-    let sections = with_none extent layout (section_relations layout file) _ is in
-    let symbols = with_none extent layout (symbol_relations layout file) _ sections.0 in
-    let roles = with_none extent layout (debug_relations layout file) _ symbols.0 in
-    let names = with_none extent layout (name_relations layout file) _ roles.0 in
-    let ids = with_none extent layout (id_relations layout file) _ names.0 in
-    let types = with_none extent layout (type_relations layout file) _ ids.0 in
-    let pages = with_none extent layout (container_relations layout file) faults types.0 in
-    record {
-      none = pages.0;
-      pages = pages.1;
-      types = types.1;
-      ids = ids.1;
-      names = names.1;
-      roles = roles.1;
-      symbols = symbols.1;
-      sections = sections.1;
-    }
-
-agreed : (extent : Extent) (layout : LayoutValue) (file : List ℕ) (faults : List FaultPlace)
-    → AreAgreed extent layout file faults → errors_in (related_faults extent layout file faults) ≡ []
-unfolding related_faults
-agreed extent layout file faults are =
-    none_with extent layout (section_relations layout file) _
-    (none_with extent layout (symbol_relations layout file) _
-    (none_with extent layout (debug_relations layout file) _
-    (none_with extent layout (name_relations layout file) _
-    (none_with extent layout (id_relations layout file) _
-    (none_with extent layout (type_relations layout file) _
-    (none_with extent layout (container_relations layout file) faults are.none are.pages) are.types) are.ids) are.names)
-    are.roles) are.symbols) are.sections
-
-no_part_faults : (extent : Extent) (layout : LayoutValue) (file : List ℕ)
-    → errors_in (sized_faults extent layout file) ≡ [] → HasWholeParts layout file
-unfolding sized_faults part_faults names_fault roles_fault faults_of_types faults_of_ids
-no_part_faults extent layout file is =
-    let sized = behind_test (length file) (streams_size layout) _ (part_faults extent layout file) refl is in
-    let agree = related_agree extent layout file (refused_faults extent layout file) sized.1 in
-    let all = refused_none extent layout file (sym (refused_errors extent layout file) ∙ agree.none) in
-    let fixed = all.0 in
-    record {
-      streams_fit = sized.0;
-      streams = streams_read layout file fixed.streams;
-      names = there_so parts.Names 1 (λ stream. named_fault layout file (string_table_number stream))
-          (λ stream. AreNames layout file (string_table_number stream))
-          (λ stream. named_whole layout file (string_table_number stream)) (stream_by layout file 1 None) fixed.names;
-      roles = within_so None (λ stream. fault_of_answer parts.Roles 3 (extra_streams_of stream))
-          (λ stream. IsOk (extra_streams_of stream))
-          (λ stream. answers parts.Roles 3 (extra_streams_of stream)) (stream_by layout file 3 None) fixed.roles;
-      types = within_so [] (types_faults (stream_pages layout 2)) (λ stream. AreWholeTypes (table_of stream))
-          (types_stream (stream_pages layout 2)) (stream_by layout file 2 None) fixed.types;
-      ids = within_so [] (ids_faults (stream_pages layout 4)) (λ stream. AreWholeIds (table_of stream))
-          (ids_stream (stream_pages layout 4)) (stream_by layout file 4 None) fixed.ids;
-      by_role = λ part. role_whole layout file part (known_roles layout file)
-          (by_part layout file (known_roles layout file) all.1 part);
-      pages_agree = agree.pages;
-      types_agree = agree.types;
-      ids_agree = agree.ids;
-      names_agree = agree.names;
-      roles_agree = agree.roles;
-      symbols_agree = agree.symbols;
-      sections_agree = agree.sections;
-    }
-
-whole_parts : (extent : Extent) (layout : LayoutValue) (file : List ℕ) → HasWholeParts layout file
-    → errors_in (sized_faults extent layout file) ≡ []
-unfolding sized_faults part_faults names_fault roles_fault faults_of_types faults_of_ids
-whole_parts extent layout file whole =
-    let fixed : NoneFixed layout file = record {
-      streams = none_below layout file (streams_nameable layout) (few_nameable (stream_count_in layout.directory))
-          whole.streams;
-      names = so_there parts.Names 1 (λ stream. named_fault layout file (string_table_number stream))
-          (λ stream. AreNames layout file (string_table_number stream))
-          (λ stream. whole_named layout file (string_table_number stream)) (stream_by layout file 1 None) whole.names;
-      roles = so_within None (λ stream. fault_of_answer parts.Roles 3 (extra_streams_of stream))
-          (λ stream. IsOk (extra_streams_of stream))
-          (λ stream. no_fault parts.Roles 3 (extra_streams_of stream)) (stream_by layout file 3 None) whole.roles;
-      types = so_within [] (types_faults (stream_pages layout 2)) (λ stream. AreWholeTypes (table_of stream))
-          (stream_types (stream_pages layout 2)) (stream_by layout file 2 None) whole.types;
-      ids = so_within [] (ids_faults (stream_pages layout 4)) (λ stream. AreWholeIds (table_of stream))
-          (stream_ids (stream_pages layout 4)) (stream_by layout file 4 None) whole.ids;
-    } in
-    let none = none_refused_of extent layout file fixed
-    (λ part. whole_role layout file part (known_roles layout file) (whole.by_role part)) in
-    test_behind (length file) (streams_size layout) _ (part_faults extent layout file) whole.streams_fit
-    (agreed extent layout file (refused_faults extent layout file) (record {
-      none = ap errors_in none;
-      pages = whole.pages_agree;
-      types = whole.types_agree;
-      ids = whole.ids_agree;
-      names = whole.names_agree;
-      roles = whole.roles_agree;
-      symbols = whole.symbols_agree;
-      sections = whole.sections_agree;
-    }))
-
-none_by : (extent : Extent) (file : List ℕ) (answer : Answer LayoutValue)
-    → errors_in (faults_by extent file answer) ≡ [] → IsWholeBehind file answer
-none_by extent file (Ok layout) is = no_part_faults extent layout file is
-none_by extent file (Err refusal) is = absurd cc
-
-whole_by : (extent : Extent) (file : List ℕ) (answer : Answer LayoutValue) → IsWholeBehind file answer
-    → errors_in (faults_by extent file answer) ≡ []
-whole_by extent file (Ok layout) whole = whole_parts extent layout file whole
-whole_by extent file (Err refusal) whole = absurd whole
-
-none_opened : (extent : Extent) (file : List ℕ) → errors_in (opened_faults extent file) ≡ [] → IsWhole file
+opened_agrees : (extent : Extent) (file : List ℕ) → (errors_in (opened_faults extent file) ≡ []) ↔ IsWhole file
 unfolding opened_faults
-none_opened extent file is =
-    let fits = behind_test (length file) (directory_size file) _ (faults_by extent file (layout_of file)) refl is in
-    record { directory_fits = fits.0; parts = none_by extent file (layout_of file) fits.1 }
+opened_agrees extent file =
+    let agree = tested (length file) (directory_size file) _ (faults_by extent file (layout_of file)) refl
+    (layout_agrees extent file (layout_of file)) in (
+      λ none. record { directory_fits = (agree.0 none).0; parts = (agree.0 none).1 },
+      λ whole. agree.1 (whole.directory_fits, whole.parts),
+    )
 
-opened_none : (extent : Extent) (file : List ℕ) → IsWhole file → errors_in (opened_faults extent file) ≡ []
-unfolding opened_faults
-opened_none extent file whole =
-    test_behind (length file) (directory_size file) _ (faults_by extent file (layout_of file)) whole.directory_fits
-    (whole_by extent file (layout_of file) whole.parts)
-
-none_behind_header : (extent : Extent) (file : List ℕ) (answer : Answer Head)
-    → errors_in (faults_behind extent file answer) ≡ [] → IsWhole file
-none_behind_header extent file (Ok head) is = none_opened extent file is
-none_behind_header extent file (Err refusal) is = absurd cc
-
-whole_behind_header : (extent : Extent) (file : List ℕ) (answer : Answer Head) → IsOk answer → IsWhole file
-    → errors_in (faults_behind extent file answer) ≡ []
-whole_behind_header extent file (Ok head) is whole = opened_none extent file whole
-whole_behind_header extent file (Err refusal) is whole = absurd (false≢true is)
+header_agrees : (extent : Extent) (file : List ℕ) (answer : Answer Head)
+    → (errors_in (faults_behind extent file answer) ≡ []) ↔ (IsOk answer × IsWhole file)
+header_agrees extent file (Ok head) =
+    let agree = opened_agrees extent file in (λ none. (refl, agree.0 none), λ both. agree.1 both.1)
+header_agrees extent file (Err refusal) = (λ none. absurd cc, λ both. absurd (false≢true both.0))
 
 -- the header of a file whose layout can be read
 first_ok : (file : List ℕ) (answer : Answer Head) (more : Head → Answer LayoutValue)
@@ -674,13 +468,11 @@ opened_by : (file : List ℕ) → IsWholeBehind file (layout_of file) → IsOk (
 unfolding layout_of
 opened_by file whole = first_ok file (file_head file) _ whole
 
-pub no_errors : (extent : Extent) (file : List ℕ) → errors_in (faults_of extent file) ≡ [] → IsWhole file
+file_agrees : (extent : Extent) (file : List ℕ) → (errors_in (faults_of extent file) ≡ []) ↔ IsWhole file
 unfolding faults_of
-no_errors extent file is = none_behind_header extent file (file_head file) is
-
-pub whole_file : (extent : Extent) (file : List ℕ) → IsWhole file → errors_in (faults_of extent file) ≡ []
-unfolding faults_of
-whole_file extent file whole = whole_behind_header extent file (file_head file) (opened_by file whole.parts) whole
+file_agrees extent file =
+    let agree = header_agrees extent file (file_head file) in
+    (λ none. (agree.0 none).1, λ whole. agree.1 (opened_by file whole.parts, whole))
 
 abbrev said : List FaultPlace → Answer (List FaultPlace)
 said faults = Ok faults
@@ -690,9 +482,10 @@ pub whole_findings : {X : Type 0} (items : X → List Finding) (failed : Type 0)
     → AnswersUnless failed (λ (findings : X). map finding_view (items findings)) result (said (faults_of extent file))
     → IfOk result (λ findings. (error_count (map finding_view (items findings)) ≡ 0) ↔ IsWhole file)
 whole_findings items failed (Ok findings) extent file is =
-    let same : faults_of extent file ≡ map finding_view (items findings) = ok_is _ _ is in (
-      λ none. no_errors extent file (ap errors_in same ∙ uncounted (map finding_view (items findings)) none),
-      λ whole.
-          counted_none (map finding_view (items findings)) (sym (ap errors_in same) ∙ whole_file extent file whole),
+    let same : faults_of extent file ≡ map finding_view (items findings) = ok_is _ _ is in
+    let agree = file_agrees extent file in
+    let none = counted (map finding_view (items findings)) in (
+      λ zero. agree.0 (ap errors_in same ∙ none.0 zero),
+      λ whole. none.1 (sym (ap errors_in same) ∙ agree.1 whole),
     )
 whole_findings items failed (Err e) extent file is = tt

@@ -1,11 +1,11 @@
 -- What is found wrong in a file.
 use Rattle.std.specs.Prelude.{ℕ, ◌-◌, Bool, true, false, not, List, [], ◌++◌, filter, length, take, codes, Option, Some}
 use Rattle.std.specs.Prelude.{None}
-use Rattle.pdb_consistency.specs.Inconsistency.{inconsistency_code}
+use Rattle.pdb_validation.specs.Inconsistency.{inconsistency_code}
 use Rattle.pdb_validation.specs.Problem.{ProblemValue, failure, inconsistent, error_code, is_tolerated, problem_view}
 use Rattle.pdb_validation.specs.declared.finding.Code.{Code}
-use Rattle.pdb_consistency.specs.declared.mismatch.Extent.{Extent}
-use Rattle.pdb_consistency.specs.declared.mismatch.Extent.TheVariants as extents
+use Rattle.pdb_validation.specs.declared.mismatch.Extent.{Extent}
+use Rattle.pdb_validation.specs.declared.mismatch.Extent.TheVariants as extents
 use Rattle.pdb_validation.specs.declared.finding.Finding.{Finding}
 use Rattle.pdb_validation.specs.declared.finding.Part.{Part}
 use Rattle.pdb_validation.specs.declared.finding.Part.TheVariants as parts

@@ -46,14 +46,10 @@ pub record HasWholeRecords {A : Type 0} (means : ℕ → List ℕ → Answer A) 
   pub ends : walk_rest table ≡ []
   pub counted : table.header.maximum_index ≤ table.header.minimum_index + length (walk table)
 
--- a table of types, and a table of ids
-abbrev pub AreWholeTypes : Answer Table → Type 0
-AreWholeTypes (Ok table) = HasWholeRecords (checked_type table) table
-AreWholeTypes (Err refusal) = ⊥
-
-abbrev pub AreWholeIds : Answer Table → Type 0
-AreWholeIds (Ok table) = HasWholeRecords checked_id table
-AreWholeIds (Err refusal) = ⊥
+-- The same of the table in a stream.
+abbrev pub IsWholeTable : {A : Type 0} → (Table → ℕ → List ℕ → Answer A) → Answer Table → Type 0
+IsWholeTable checked (Ok table) = HasWholeRecords (checked table) table
+IsWholeTable checked (Err refusal) = ⊥
 
 -- The bytes of a stream are a string table, and there is a name at each byte of its names.
 abbrev pub HasWholeNames : Answer (List ℕ) → Type 0
@@ -88,8 +84,8 @@ pub record HasWholeParts (layout : LayoutValue) (file : List ℕ) : Type 0 where
   pub streams : (n : ℕ) → n < 0xffff → IsReadOrAbsent (stream_by layout file n None)
   pub names : IsThere (λ stream. AreNames layout file (string_table_number stream)) (stream_by layout file 1 None)
   pub roles : IfRead (λ stream. IsOk (extra_streams_of stream)) (stream_by layout file 3 None)
-  pub types : IfRead (λ stream. AreWholeTypes (table_of stream)) (stream_by layout file 2 None)
-  pub ids : IfRead (λ stream. AreWholeIds (table_of stream)) (stream_by layout file 4 None)
+  pub types : IfRead (λ stream. IsWholeTable checked_type (table_of stream)) (stream_by layout file 2 None)
+  pub ids : IfRead (λ stream. IsWholeTable (λ table. checked_id) (table_of stream)) (stream_by layout file 4 None)
   pub by_role : (part : Part) → HasRole layout file part (known_roles layout file)
   pub pages_agree : AreConsistent (container_relations layout file)
   pub types_agree : AreConsistent (type_relations layout file)

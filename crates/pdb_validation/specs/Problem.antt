@@ -4,9 +4,9 @@ use Rattle.std.specs.Fmt.{decimal}
 use Rattle.pdb_base.specs.ErrorText.{hexadecimal, text_of}
 use Rattle.pdb_base.specs.Refusal.{Refusal, refusal_of, unexpected_eof, io_error, page_reference_out_of_range}
 use Rattle.pdb_base.specs.Refusal.{invalid_page_size, stream_not_found}
-use Rattle.pdb_consistency.specs.Inconsistency.{is_warning}
-use Rattle.pdb_consistency.specs.declared.inconsistency.Inconsistency.{Inconsistency}
-use Rattle.pdb_consistency.specs.declared.inconsistency.Inconsistency.TheVariants as kinds
+use Rattle.pdb_validation.specs.Inconsistency.{is_warning}
+use Rattle.pdb_validation.specs.declared.inconsistency.Inconsistency.{Inconsistency}
+use Rattle.pdb_validation.specs.declared.inconsistency.Inconsistency.TheVariants as kinds
 use Rattle.pdb_validation.specs.declared.problem.Problem.{Problem}
 use Rattle.pdb_validation.specs.declared.problem.Problem.TheVariants as problems
 use Rattle.pdb_validation.specs.declared.problem.Shown.{Shown}

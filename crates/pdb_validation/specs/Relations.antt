@@ -11,21 +11,22 @@ use Rattle.pdb_file.specs.StreamNames.{stream_names_of}
 use Rattle.pdb_file.specs.declared.dbi_header.DBIHeader.{DBIHeader}
 use Rattle.pdb_file.specs.declared.debug_header.DBIExtraStreams.{DBIExtraStreams}
 use Rattle.pdb_tpi.specs.Table.{Table, table_of}
-use Rattle.pdb_consistency.specs.DebugHeader.{debug_header_mismatches}
-use Rattle.pdb_consistency.specs.FileHeader.{file_header_mismatches}
-use Rattle.pdb_consistency.specs.Hashes.{hashes_mismatches}
-use Rattle.pdb_consistency.specs.Information.{information_mismatches}
-use Rattle.pdb_consistency.specs.Mismatch.{asked_of, warns}
-use Rattle.pdb_consistency.specs.MissingStreams.{indexes_mismatches, names_mismatches, role_indexes, symbol_indexes}
-use Rattle.pdb_consistency.specs.Modules.{modules_mismatches}
-use Rattle.pdb_consistency.specs.Pages.{page_mismatches}
-use Rattle.pdb_consistency.specs.Records.{ids_mismatches, types_mismatches}
-use Rattle.pdb_consistency.specs.Sections.{section_mismatches}
-use Rattle.pdb_consistency.specs.StringTable.{names_mismatches_in}
-use Rattle.pdb_consistency.specs.Symbols.{globals_mismatches, publics_mismatches, symbols_mismatches}
-use Rattle.pdb_consistency.specs.TableHeader.{table_header_mismatches}
-use Rattle.pdb_consistency.specs.declared.mismatch.Extent.{Extent}
-use Rattle.pdb_consistency.specs.declared.mismatch.Mismatch.{Mismatch}
+use Rattle.pdb_validation.specs.DebugHeader.{debug_header_mismatches}
+use Rattle.pdb_validation.specs.FileHeader.{file_header_mismatches}
+use Rattle.pdb_validation.specs.Hashes.{hashes_mismatches}
+use Rattle.pdb_validation.specs.Information.{information_mismatches}
+use Rattle.pdb_validation.specs.Mismatch.{asked_of, warns}
+use Rattle.pdb_validation.specs.MissingStreams.{indexes_mismatches, names_mismatches, role_indexes, symbol_indexes}
+use Rattle.pdb_validation.specs.Modules.{modules_mismatches}
+use Rattle.pdb_validation.specs.Pages.{page_mismatches}
+use Rattle.pdb_validation.specs.Records.{id_inconsistency, table_mismatches, type_inconsistency}
+use Rattle.pdb_validation.specs.Sections.{section_mismatches}
+use Rattle.pdb_validation.specs.StringTable.{names_mismatches_in}
+use Rattle.pdb_validation.specs.Symbols.{globals_mismatches, publics_mismatches, symbols_mismatches}
+use Rattle.pdb_validation.specs.TableHeader.{table_header_mismatches}
+use Rattle.pdb_validation.specs.declared.inconsistency.Inconsistency.{Inconsistency}
+use Rattle.pdb_validation.specs.declared.mismatch.Extent.{Extent}
+use Rattle.pdb_validation.specs.declared.mismatch.Mismatch.{Mismatch}
 use Rattle.pdb_validation.specs.Finding.{FaultPlace}
 use Rattle.pdb_validation.specs.Names.{string_table_number}
 use Rattle.pdb_validation.specs.Places.{file_byte, stream_pages}
@@ -114,27 +115,25 @@ hashes_by layout file table (Some number) =
 abbrev pub hashes_in : LayoutValue → List ℕ → Table → List Mismatch
 hashes_in layout file table = hashes_by layout file table (stream_number table.header.tpi_hash_stream)
 
--- stream 1
-unfoldable pub information_relation : LayoutValue → List ℕ → List Mismatch
-information_relation layout file = if_answered information_mismatches (stream_by layout file 1 None)
-
 -- the streams that have names
 unfoldable pub named_streams : LayoutValue → List ℕ → List Mismatch
 named_streams layout stream =
     if_answered (λ information. if_answered (names_mismatches layout) (stream_names_of information))
     (information_of stream)
 
-unfoldable pub names_relation : LayoutValue → List ℕ → List Mismatch
-names_relation layout file = if_answered (named_streams layout) (stream_by layout file 1 None)
-
 -- the string table, if stream 1 names one
 abbrev pub buckets_of : LayoutValue → List ℕ → Option ℕ → List Mismatch
 buckets_of layout file None = []
 buckets_of layout file (Some number) = if_answered (names_mismatches_in number) (stream_by layout file number None)
 
+-- the number of the stream of the string table, if there is one
+abbrev pub table_number : Answer (Option ℕ) → Option ℕ
+table_number (Ok number) = number
+table_number (Err refusal) = None
+
 unfoldable pub buckets_relation : LayoutValue → List ℕ → List Mismatch
 buckets_relation layout file =
-    if_answered (λ stream. if_answered (buckets_of layout file) (string_table_number stream))
+    if_answered (λ stream. buckets_of layout file (table_number (string_table_number stream)))
     (stream_by layout file 1 None)
 
 -- the streams that have roles in stream 3
@@ -191,25 +190,30 @@ abbrev pub header_relations : LayoutValue → List ℕ → Part → ℕ → Tabl
 header_relations layout file part number table =
     relation part (table_header_mismatches layout number table) ∷ relation part (hashes_in layout file table) ∷ []
 
--- the records of a table in the stream of a number, with these mismatches, its header and its hash stream
-abbrev pub table_relations : LayoutValue → List ℕ → Part → ℕ → (Table → List Mismatch) → List Relation
-table_relations layout file part number records =
-    relation part (in_table records (stream_by layout file number None))
+-- the records of a table in the stream of a number, in which this is inconsistent, its header and its hash stream
+unfoldable pub table_relations : LayoutValue → List ℕ → Part → ℕ → (ℕ → List ℕ → Option Inconsistency) → List Relation
+table_relations layout file part number wrong =
+    relation part (in_table (table_mismatches number wrong) (stream_by layout file number None))
     ∷ relation part (in_table (table_header_mismatches layout number) (stream_by layout file number None))
     ∷ relation part (in_table (hashes_in layout file) (stream_by layout file number None)) ∷ []
 
--- the types
-unfoldable pub type_relations : LayoutValue → List ℕ → List Relation
-type_relations layout file = table_relations layout file parts.Types 2 (types_mismatches 2)
+-- the types, and the ids
+abbrev pub type_relations : LayoutValue → List ℕ → List Relation
+type_relations layout file = table_relations layout file parts.Types 2 type_inconsistency
 
--- the ids
-unfoldable pub id_relations : LayoutValue → List ℕ → List Relation
-id_relations layout file = table_relations layout file parts.Ids 4 (ids_mismatches 4 (types_end layout file))
+abbrev pub id_relations : LayoutValue → List ℕ → List Relation
+id_relations layout file = table_relations layout file parts.Ids 4 (id_inconsistency (types_end layout file))
 
+-- stream 1, and the streams that it names
+unfoldable pub in_information : LayoutValue → Answer (List ℕ) → List Relation
+in_information layout stream =
+    relation parts.Names (if_answered information_mismatches stream)
+    ∷ relation parts.Names (if_answered (named_streams layout) stream) ∷ []
+
+-- the same, and the string table
 unfoldable pub name_relations : LayoutValue → List ℕ → List Relation
-name_relations layout file =
-    relation parts.Names (information_relation layout file) ∷ relation parts.Names (names_relation layout file)
-    ∷ relation parts.StringTable (buckets_relation layout file) ∷ []
+name_relations layout file = in_information layout (stream_by layout file 1 None)
+    ++ relation parts.StringTable (buckets_relation layout file) ∷ []
 
 -- the header, the roles and the modules of stream 3
 unfoldable pub in_debug_stream : LayoutValue → Answer (List ℕ) → List Relation

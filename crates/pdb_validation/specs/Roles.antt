@@ -5,7 +5,7 @@ use Rattle.std.specs.Option.{option_map}
 use Rattle.std.specs.Result.{result_ok}
 use Rattle.pdb_base.specs.Answer.{Answer}
 use Rattle.pdb_base.specs.Index.{no_stream, stream_number}
-use Rattle.pdb_consistency.specs.declared.inconsistency.Inconsistency.TheVariants as kinds
+use Rattle.pdb_validation.specs.declared.inconsistency.Inconsistency.TheVariants as kinds
 use Rattle.pdb_msf.specs.Layout.{LayoutValue, stream_by}
 use Rattle.pdb_file.specs.DebugHeader.{extra_streams_of}
 use Rattle.pdb_file.specs.SectionHeaders.{section_headers_of}

@@ -3,7 +3,7 @@ use Rattle.std.specs.Prelude.{ℕ, List, Option, Some, None, Result, Ok, Err}
 use Rattle.std.specs.List.{flat_map, range_with_len}
 use Rattle.std.specs.Option.{option_to_list}
 use Rattle.pdb_base.specs.Answer.{Answer}
-use Rattle.pdb_base.specs.Refusal.{refusal_of, stream_not_found}
+use Rattle.pdb_base.specs.Refusal.{Refusal, refusal_of, stream_not_found}
 use Rattle.pdb_base.specs.declared.error.Error.{Error}
 use Rattle.pdb_msf.specs.Layout.{LayoutValue, stream_by}
 use Rattle.pdb_validation.specs.Finding.{FaultPlace, stream_fault}
@@ -22,12 +22,15 @@ abbrev pub if_read : {A : Type 0} → A → (List ℕ → A) → Answer (List �
 if_read nothing within (Ok stream) = within stream
 if_read nothing within (Err refusal) = nothing
 
+-- the fault of a part whose stream can't be read, if it is that there is no such stream
+abbrev pub absence : Part → ℕ → Refusal → Option FaultPlace
+absence part number (stream_not_found n) = Some (stream_fault part number (failure (stream_not_found n)))
+absence part number refusal = None
+
 -- the same for a stream that must be there
 abbrev pub fault_there : Part → ℕ → (List ℕ → Option FaultPlace) → Answer (List ℕ) → Option FaultPlace
 fault_there part number within (Ok stream) = within stream
-fault_there part number within (Err (stream_not_found n)) =
-    Some (stream_fault part number (failure (stream_not_found n)))
-fault_there part number within (Err refusal) = None
+fault_there part number within (Err refusal) = absence part number refusal
 
 -- the fault of the bytes of a stream; none, if there is no stream of that number
 abbrev pub unless_absent : ℕ → Answer (List ℕ) → Option FaultPlace

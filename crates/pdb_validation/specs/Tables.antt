@@ -5,7 +5,7 @@ use Rattle.std.specs.Option.{option_to_list}
 use Rattle.pdb_base.specs.Answer.{Answer, ◌>>=◌, ok_if}
 use Rattle.pdb_base.specs.Refusal.{Refusal, unexpected_eof, unimplemented_type_kind}
 use Rattle.pdb_records.specs.Fields.{field_list_leaf}
-use Rattle.pdb_consistency.specs.Records.{is_not_read}
+use Rattle.pdb_validation.specs.Records.{is_not_read}
 use Rattle.pdb_tpi.specs.Chain.{not_below}
 use Rattle.pdb_tpi.specs.Finder.{item_of}
 use Rattle.pdb_tpi.specs.OpenTable.{item_position}
@@ -18,7 +18,6 @@ use Rattle.pdb_validation.specs.Finding.{FaultPlace, record_fault, stream_fault}
 use Rattle.pdb_validation.specs.Places.{PagesValue, file_byte}
 use Rattle.pdb_validation.specs.Problem.{failure}
 use Rattle.pdb_validation.specs.declared.finding.Part.{Part}
-use Rattle.pdb_validation.specs.declared.finding.Part.TheVariants as parts
 
 -- ---- one record
 
@@ -110,16 +109,9 @@ abbrev pub table_faults : Part → ℕ → (Table → List FaultPlace) → Answe
 table_faults part number within (Ok table) = within table
 table_faults part number within (Err refusal) = stream_fault part number (failure refusal) ∷ []
 
--- the faults of the records of a table of types, and of a table of ids
-abbrev pub type_faults : PagesValue → Table → List FaultPlace
-type_faults pages table = record_faults (item_fault parts.Types 2 pages table) (checked_type table) table
-
-abbrev pub id_faults : PagesValue → Table → List FaultPlace
-id_faults pages table = record_faults (item_fault parts.Ids 4 pages table) checked_id table
-
--- the faults of the table of types in a stream that has those pages, and of the table of ids
-unfoldable pub types_faults : PagesValue → List ℕ → List FaultPlace
-types_faults pages stream = table_faults parts.Types 2 (type_faults pages) (table_of stream)
-
-unfoldable pub ids_faults : PagesValue → List ℕ → List FaultPlace
-ids_faults pages stream = table_faults parts.Ids 4 (id_faults pages) (table_of stream)
+-- the faults of the table in a stream that has those pages, whose records are to be so
+unfoldable pub faults_in_table : Part → ℕ → (Table → ℕ → List ℕ → Answer (Unit {0})) → PagesValue → List ℕ
+    → List FaultPlace
+faults_in_table part number checked pages stream =
+    table_faults part number (λ table. record_faults (item_fault part number pages table) (checked table) table)
+    (table_of stream)

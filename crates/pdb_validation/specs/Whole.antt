@@ -2,10 +2,11 @@
 use Rattle.std.specs.Prelude.{ℕ, nat_lt, if◌then◌else◌, List, [], ◌∷◌, ◌++◌, length, Option, None, Ok, Err}
 use Rattle.std.specs.Option.{option_to_list}
 use Rattle.pdb_base.specs.Answer.{Answer}
-use Rattle.pdb_consistency.specs.declared.inconsistency.Inconsistency.TheVariants as kinds
+use Rattle.pdb_validation.specs.declared.inconsistency.Inconsistency.TheVariants as kinds
 use Rattle.pdb_msf.specs.Header.{Head, file_head}
 use Rattle.pdb_msf.specs.Layout.{LayoutValue, layout_of, stream_by}
 use Rattle.pdb_file.specs.declared.debug_header.DBIExtraStreams.{DBIExtraStreams}
+use Rattle.pdb_tpi.specs.Table.{Table}
 use Rattle.pdb_validation.specs.Finding.{FaultPlace, by_extent, file_fault}
 use Rattle.pdb_validation.specs.Names.{names_fault}
 use Rattle.pdb_validation.specs.Places.{stream_pages}
@@ -14,17 +15,16 @@ use Rattle.pdb_validation.specs.Relations.{related_faults}
 use Rattle.pdb_validation.specs.Roles.{known_roles, role_fault, roles_fault}
 use Rattle.pdb_validation.specs.Sizes.{directory_size, streams_nameable, streams_size}
 use Rattle.pdb_validation.specs.Streams.{if_read, streams_faults}
-use Rattle.pdb_validation.specs.Tables.{ids_faults, types_faults}
-use Rattle.pdb_consistency.specs.declared.mismatch.Extent.{Extent}
+use Rattle.pdb_validation.specs.Tables.{checked_id, checked_type, faults_in_table}
+use Rattle.pdb_validation.specs.declared.mismatch.Extent.{Extent}
 use Rattle.pdb_validation.specs.declared.finding.Part.{Part}
 use Rattle.pdb_validation.specs.declared.finding.Part.TheVariants as parts
 
--- the faults of the table of types in stream 2, and of the table of ids in stream 4
-unfoldable pub faults_of_types : LayoutValue → List ℕ → List FaultPlace
-faults_of_types layout file = if_read [] (types_faults (stream_pages layout 2)) (stream_by layout file 2 None)
-
-unfoldable pub faults_of_ids : LayoutValue → List ℕ → List FaultPlace
-faults_of_ids layout file = if_read [] (ids_faults (stream_pages layout 4)) (stream_by layout file 4 None)
+-- the faults of the table in the stream of a number, whose records are to be so
+unfoldable pub table_faults_by : Part → ℕ → (Table → ℕ → List ℕ → Answer (Unit {0})) → LayoutValue → List ℕ
+    → List FaultPlace
+table_faults_by part number checked layout file =
+    if_read [] (faults_in_table part number checked (stream_pages layout number)) (stream_by layout file number None)
 
 -- the faults of the bytes of streams, and of the parts whose streams have fixed numbers
 unfoldable pub fixed_faults : Extent → LayoutValue → List ℕ → List FaultPlace
@@ -32,7 +32,8 @@ fixed_faults extent layout file =
     (((by_extent extent (streams_faults layout file (streams_nameable layout))
     ++ option_to_list (names_fault layout file))
     ++ option_to_list (roles_fault layout file))
-    ++ by_extent extent (faults_of_types layout file)) ++ by_extent extent (faults_of_ids layout file)
+    ++ by_extent extent (table_faults_by parts.Types 2 checked_type layout file))
+    ++ by_extent extent (table_faults_by parts.Ids 4 (λ table. checked_id) layout file)
 
 -- faults, and behind them the fault of the stream of a role
 abbrev pub with_role : LayoutValue → List ℕ → Option DBIExtraStreams → Part → List FaultPlace → List FaultPlace

@@ -10,10 +10,13 @@ ghost use Rattle.pdb_validation.specs.Finding.{by_extent, error_count, file_faul
 ghost use Rattle.pdb_validation.specs.IsWhole.{IsWhole};
 ghost use Rattle.pdb_validation.specs.Problem.{problem_view};
 ghost use Rattle.pdb_validation.specs.Roles.{role_fault};
-ghost use Rattle.pdb_validation.specs.Whole.{faults_by, faults_of, faults_of_ids, faults_of_types, fixed_faults};
-ghost use Rattle.pdb_validation.specs.Whole.{opened_faults, part_faults, refused_faults, sized_faults, with_roles};
+ghost use Rattle.pdb_validation.specs.Whole.{faults_by, faults_of, fixed_faults, opened_faults, part_faults};
+ghost use Rattle.pdb_validation.specs.Whole.{refused_faults, sized_faults, table_faults_by, with_roles};
 
+use crate::checked_index::CheckedIndex;
 use crate::finding::{Finding, Part, add, in_file};
+use crate::inconsistency::Inconsistency;
+use crate::mismatch::Extent;
 use crate::names::check_names;
 use crate::places::StreamPages;
 use crate::problem::Problem;
@@ -22,16 +25,15 @@ use crate::relations::add_relations;
 use crate::roles::{check_role, check_roles, known_roles};
 use crate::sizes::{nameable, streams_size};
 use crate::streams::add_streams;
-use crate::tables::{add_ids, add_types};
-use pdb_base::Result;
-use pdb_consistency::{Extent, Inconsistency};
-use pdb_file::{DBIExtraStreams, ID_STREAM, TYPE_STREAM};
+use crate::tables::add_table;
+use pdb_base::{IdIndex, Result, TypeIndex};
+use pdb_file::DBIExtraStreams;
 use pdb_msf::{CountedSource, Header, Layout, Source, comes_from_outside};
 use std::alloc::Global;
 
-/// Adds the findings of the table of types, if its stream can be read.
-#[tactic(auto, unfolding(crate::specs::Whole::faults_of_types))]
-fn add_type_stream<S: Source>(
+/// Adds the findings of the table of types or of ids, if its stream can be read.
+#[tactic(auto, unfolding(crate::specs::Whole::table_faults_by))]
+fn add_table_stream<I: CheckedIndex, S: Source>(
     alloc: Global,
     layout: &Layout,
     source: &mut CountedSource<S>,
@@ -41,35 +43,12 @@ fn add_type_stream<S: Source>(
     requires { 0 < layout.now.head.geometry.page_size }
     ensures { ReadsSource (S.state source.old.source) (S.state source.new.source)
         (λ done. map finding_view findings.new.items) result (λ file. Ok (map finding_view findings.old.items
-        ++ by_extent extent (faults_of_types layout.now file))) }
+        ++ by_extent extent (table_faults_by I.PART I.STREAM I.checked layout.now file))) }
 {
-    match read(alloc, layout, source, TYPE_STREAM)? {
+    match read(alloc, layout, source, I::STREAM)? {
         Ok(stream) => {
-            let pages = StreamPages::of(alloc, layout, TYPE_STREAM)?;
-            add_types(alloc, stream, &pages, extent, findings)
-        }
-        Err(_) => Ok(()),
-    }
-}
-
-/// Adds the findings of the table of ids, if its stream can be read.
-#[tactic(auto, unfolding(crate::specs::Whole::faults_of_ids))]
-fn add_id_stream<S: Source>(
-    alloc: Global,
-    layout: &Layout,
-    source: &mut CountedSource<S>,
-    extent: Extent,
-    findings: &mut Vec<Finding>,
-) -> Result<()>
-    requires { 0 < layout.now.head.geometry.page_size }
-    ensures { ReadsSource (S.state source.old.source) (S.state source.new.source)
-        (λ done. map finding_view findings.new.items) result (λ file. Ok (map finding_view findings.old.items
-        ++ by_extent extent (faults_of_ids layout.now file))) }
-{
-    match read(alloc, layout, source, ID_STREAM)? {
-        Ok(stream) => {
-            let pages = StreamPages::of(alloc, layout, ID_STREAM)?;
-            add_ids(alloc, stream, &pages, extent, findings)
+            let pages = StreamPages::of(alloc, layout, I::STREAM)?;
+            add_table::<I>(alloc, stream, &pages, extent, findings)
         }
         Err(_) => Ok(()),
     }
@@ -98,8 +77,8 @@ fn check_fixed<S: Source>(
     )?;
     add(&mut findings, check_names(alloc, layout, source)?)?;
     add(&mut findings, check_roles(alloc, layout, source)?)?;
-    add_type_stream(alloc, layout, source, extent, &mut findings)?;
-    add_id_stream(alloc, layout, source, extent, &mut findings)?;
+    add_table_stream::<TypeIndex, S>(alloc, layout, source, extent, &mut findings)?;
+    add_table_stream::<IdIndex, S>(alloc, layout, source, extent, &mut findings)?;
     Ok(findings)
 }
 
@@ -307,12 +286,12 @@ fn check_file<S: Source>(
 ///   tables, whose sources must not decrease, and the frames of both formats, whose starts must
 ///   increase.
 ///
-/// Behind these comes what is inconsistent between the parts, as `pdb_consistency` says it, each in a
-/// list of its own: the pages that the header counts, pages with two owners or marked as free, the
-/// references, sizes and kinds of records, the header and the hash stream of a table, streams that
-/// have a name or a role and are missing, the version of stream 1, the buckets of the string table,
-/// the header of stream 3, the sizes of modules and of the streams of symbols, and sections that
-/// overlap. Some of it is no more than a warning. Modules and symbols are not read.
+/// Behind these comes what is inconsistent between the parts, each in a list of its own: the pages
+/// that the header counts, pages with two owners or marked as free, the references, sizes and kinds
+/// of records, the header and the hash stream of a table, streams that have a name or a role and are
+/// missing, the version of stream 1, the buckets of the string table, the header of stream 3, the
+/// sizes of modules and of the streams of symbols, and sections that overlap. Some of it is no more
+/// than a warning. Modules and symbols are not read.
 ///
 /// Streams are read one at a time: each for its bytes, and those of the parts again for what they
 /// hold and for what is inconsistent. Since streams are read only if they are no larger together

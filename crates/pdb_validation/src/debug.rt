@@ -2,22 +2,23 @@
 
 ghost use Rattle.std.specs.Prelude.{◌≡◌, ◌<◌, map, Ok};
 ghost use Rattle.pdb_base.specs.Answer.{Answers};
-ghost use Rattle.pdb_consistency.specs.Mismatch.{asked_of};
+ghost use Rattle.pdb_validation.specs.Mismatch.{asked_of};
 ghost use Rattle.pdb_msf.specs.Source.{ReadsSource};
 ghost use Rattle.pdb_validation.specs.Finding.{finding_view};
 ghost use Rattle.pdb_validation.specs.Relations.{debug_relations, in_debug_stream, in_symbol_streams};
 ghost use Rattle.pdb_validation.specs.Relations.{roles_in_stream, symbol_index, symbol_mismatches, symbol_relations};
 ghost use Rattle.pdb_validation.specs.Relations.{symbols_in, with_relations};
 
+use crate::debug_header::check_debug_header;
 use crate::finding::{Finding, Part};
+use crate::mismatch::{Extent, Mismatch};
+use crate::missing_streams::check_roles;
+use crate::modules::check_modules;
 use crate::read::read;
 use crate::relations::add_mismatches;
 use crate::roles::DEBUG_STREAM;
+use crate::symbols::{check_globals, check_publics, check_symbols};
 use pdb_base::{Result, Stream, StreamIndex};
-use pdb_consistency::{
-    Extent, Mismatch, check_debug_header, check_globals, check_modules, check_publics, check_roles,
-    check_symbols,
-};
 use pdb_file::{DBIExtraStreams, DBIHeader};
 use pdb_msf::{CountedSource, Layout, Source};
 use std::alloc::Global;

@@ -3,14 +3,16 @@
 ghost use Rattle.std.specs.Prelude.{◌≡◌, ◌++◌, map, Some, Ok, IfOk};
 ghost use Rattle.std.specs.Option.{option_map, option_to_list};
 ghost use Rattle.pdb_base.specs.Answer.{Answers};
+ghost use Rattle.pdb_base.specs.Refusal.{refusal_of};
 ghost use Rattle.pdb_validation.specs.Finding.{code_text, fault_code, file_fault, finding_view, is_enough, part_code};
 ghost use Rattle.pdb_validation.specs.Finding.{record_code};
 ghost use Rattle.pdb_validation.specs.Finding.{stream_fault};
 ghost use Rattle.pdb_validation.specs.Problem.{problem_view};
+ghost use Rattle.pdb_validation.specs.Streams.{absence};
 
+use crate::mismatch::Extent;
 use crate::problem::{Problem, error_code};
-use pdb_base::Result;
-use pdb_consistency::Extent;
+use pdb_base::{Error, Result};
 use std::fmt;
 
 /// A part of a program database.
@@ -158,6 +160,16 @@ pub(crate) fn in_stream(part: Part, stream: u32, problem: Problem) -> Finding
         byte: None,
         file_byte: None,
         problem,
+    }
+}
+
+/// Returns the finding of a part whose stream can't be read, if it is that there is no such stream.
+pub(crate) fn absence(part: Part, stream: u32, error: Error) -> Option<Finding>
+    ensures { option_map finding_view result ≡ absence part stream (refusal_of error) }
+{
+    match error {
+        Error::StreamNotFound(_) => Some(in_stream(part, stream, Problem::Error(error))),
+        _ => None,
     }
 }
 

@@ -9,10 +9,10 @@ ghost use Rattle.pdb_validation.specs.Finding.{finding_view};
 ghost use Rattle.pdb_validation.specs.Names.{last_name, named_fault, names_fault, string_table_fault};
 ghost use Rattle.pdb_validation.specs.Names.{string_table_number, whole_names};
 
-use crate::finding::{Finding, Part, in_stream};
+use crate::finding::{Finding, Part, absence, in_stream};
 use crate::problem::Problem;
 use crate::read::read;
-use byteorder::{ByteOrder, LittleEndian};
+use crate::words::word_at;
 use pdb_base::{Error, Result, Stream};
 use pdb_file::PDBInformation;
 use pdb_msf::{CountedSource, Layout, Source};
@@ -20,7 +20,7 @@ use pdb_space::{StringRef, StringTable};
 use std::alloc::Global;
 
 /// The number of the stream that identifies the file and names streams.
-const INFORMATION_STREAM: u32 = 1;
+pub(crate) const INFORMATION_STREAM: u32 = 1;
 
 /// The size of the header of a string table in bytes.
 const HEADER_SIZE: usize = 12;
@@ -45,7 +45,7 @@ fn names_size(stream: &Stream) -> u32
     if bytes.len() < HEADER_SIZE {
         return 0;
     }
-    LittleEndian::read_u32(&bytes[8..12])
+    word_at(8, bytes)
 }
 
 /// Checks that there is a name at the last of the names' bytes, and so at each.
@@ -86,12 +86,7 @@ fn check_string_table<S: Source>(
             Ok(()) => Ok(None),
             Err(error) => Ok(Some(in_stream(Part::StringTable, number, Problem::Error(error)))),
         },
-        Err(Error::StreamNotFound(missing)) => Ok(Some(in_stream(
-            Part::StringTable,
-            number,
-            Problem::Error(Error::StreamNotFound(missing)),
-        ))),
-        Err(_) => Ok(None),
+        Err(error) => Ok(absence(Part::StringTable, number, error)),
     }
 }
 
@@ -125,11 +120,6 @@ pub(crate) fn check_names<S: Source>(
 {
     match read(alloc, layout, source, INFORMATION_STREAM)? {
         Ok(stream) => check_named(alloc, layout, source, stream),
-        Err(Error::StreamNotFound(missing)) => Ok(Some(in_stream(
-            Part::Names,
-            INFORMATION_STREAM,
-            Problem::Error(Error::StreamNotFound(missing)),
-        ))),
-        Err(_) => Ok(None),
+        Err(error) => Ok(absence(Part::Names, INFORMATION_STREAM, error)),
     }
 }

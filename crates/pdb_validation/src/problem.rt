@@ -6,8 +6,8 @@ ghost use Rattle.pdb_base.specs.Refusal.{refusal_of};
 ghost use Rattle.pdb_validation.specs.Problem.{error_code, inconsistency_text, is_tolerated, problem_text};
 ghost use Rattle.pdb_validation.specs.Problem.{problem_view, shown_number, words_after, words_before};
 
+use crate::inconsistency::Inconsistency;
 use pdb_base::Error;
-use pdb_consistency::Inconsistency;
 use std::fmt;
 
 /// What is wrong in a part of a file.

@@ -1,45 +1,47 @@
 //! What is inconsistent between the parts of a file, as far as these can be read.
 
-ghost use Rattle.std.specs.Prelude.{◌≡◌, ◌<◌, ◌++◌, map, Ok, IfOk, OnOk};
+ghost use Rattle.std.specs.Prelude.{◌≡◌, ◌<◌, ◌++◌, ℕ, List, map, Ok, IfOk, OnOk};
 ghost use Rattle.pdb_base.specs.Answer.{Answers};
 ghost use Rattle.pdb_base.specs.Index.{stream_number};
 ghost use Rattle.pdb_base.specs.Memory.{FailsOnlyForMemory};
-ghost use Rattle.pdb_consistency.specs.Mismatch.{asked_of};
-ghost use Rattle.pdb_msf.specs.Layout.{layout_of};
+ghost use Rattle.pdb_validation.specs.Mismatch.{asked_of};
+ghost use Rattle.pdb_msf.specs.Layout.{layout_of, stream_by};
 ghost use Rattle.pdb_msf.specs.Source.{IsFixed, ReadsSource};
-ghost use Rattle.pdb_validation.specs.Finding.{finding_view};
+ghost use Rattle.pdb_validation.specs.Finding.{FaultPlace, finding_view};
+ghost use Rattle.pdb_validation.specs.Names.{string_table_number};
 ghost use Rattle.pdb_validation.specs.Places.{stream_pages};
-ghost use Rattle.pdb_validation.specs.Relations.{buckets_of, buckets_relation, container_relations};
-ghost use Rattle.pdb_validation.specs.Relations.{hashes_by, header_relations, id_relations, information_relation};
-ghost use Rattle.pdb_validation.specs.Relations.{mismatch_fault, name_relations};
-ghost use Rattle.pdb_validation.specs.Relations.{named_streams, names_relation};
-ghost use Rattle.pdb_validation.specs.Relations.{section_relations, sections_in, sections_relation};
-ghost use Rattle.pdb_validation.specs.Relations.{type_relations, types_end};
-ghost use Rattle.pdb_validation.specs.Relations.{related_faults, with_relations};
+ghost use Rattle.pdb_validation.specs.Relations.{buckets_of, container_relations, end_in, hashes_by};
+ghost use Rattle.pdb_validation.specs.Relations.{header_relations, in_information, mismatch_fault, name_relations};
+ghost use Rattle.pdb_validation.specs.Relations.{related_faults, section_relations, sections_in, sections_relation};
+ghost use Rattle.pdb_validation.specs.Relations.{table_number, table_relations, with_relations};
 
+use crate::checked_index::CheckedIndex;
 use crate::debug::add_debug_relations;
+use crate::file_header::check_header;
 use crate::finding::{Finding, Part};
-use crate::names::string_table_number;
+use crate::hashes::check_hashes;
+use crate::information::check_information;
+use crate::mismatch::{Extent, Mismatch};
+use crate::missing_streams::check_named_streams;
+use crate::names::INFORMATION_STREAM;
+use crate::pages::check_pages;
 use crate::places::LastPages;
 use crate::problem::Problem;
 use crate::read::read;
+use crate::records::check_records;
 use crate::roles::{known_roles, role_index};
-use pdb_base::{Error, ItemIndex, Result, Stream, StreamIndex};
-use pdb_consistency::{
-    Extent, Mismatch, check_buckets, check_hashes, check_header, check_id_records,
-    check_information, check_named_streams, check_pages, check_section_order, check_table_header,
-    check_type_records,
-};
+use crate::sections::check_section_order;
+use crate::string_table::check_buckets;
+use crate::table_header::check_table_header;
+use crate::tables::learn;
+use pdb_base::{Error, IdIndex, ItemIndex, Result, Stream, StreamIndex, TypeIndex};
+use pdb_file::PDBInformation;
 use pdb_file::section_headers::section_headers;
-use pdb_file::{ID_STREAM, PDBInformation, TYPE_STREAM};
 use pdb_msf::{CountedSource, Layout, Source};
-use pdb_tpi::{IdInformation, ItemInformation, OpenTable, TypeInformation};
+use pdb_tpi::{ItemInformation, OpenTable};
 use std::alloc::Global;
 
-/// The number of the stream that identifies the file and names streams.
-const INFORMATION_STREAM: u32 = 1;
-
-/// The end of the indexes of types where there is no table of types.
+/// The end of the indexes of a table that is not there.
 const NO_END: u32 = 0xffff_ffff;
 
 /// Returns what is inconsistent, as a finding of a part.
@@ -112,13 +114,11 @@ fn hash_mismatches<I: ItemIndex, S: Source>(
     }
 }
 
-/// Adds what is inconsistent in the header of a table in the stream of a number, and in its hash
-/// stream.
-fn add_table_relations<I: ItemIndex, S: Source>(
+/// Adds what is inconsistent in the header of a table, and in its hash stream.
+fn add_header_relations<I: CheckedIndex, S: Source>(
     alloc: Global,
     layout: &Layout,
     source: &mut CountedSource<S>,
-    place: (Part, u32),
     table: ItemInformation<I>,
     extent: Extent,
     findings: &mut Vec<Finding>,
@@ -126,90 +126,43 @@ fn add_table_relations<I: ItemIndex, S: Source>(
     requires { 0 < layout.now.head.geometry.page_size }
     ensures { ReadsSource (S.state source.old.source) (S.state source.new.source)
         (λ done. map finding_view findings.new.items) result (λ file. Ok (with_relations extent layout.now
-        (header_relations layout.now file place.0 place.1 table) (map finding_view findings.old.items))) }
+        (header_relations layout.now file I.PART I.STREAM table) (map finding_view findings.old.items))) }
 {
-    let (part, number) = place;
-    let last = table.header().maximum_index.saturating_sub(1);
-    let mut open = OpenTable::new(alloc, table)?;
-    open.learn(I::from(last));
-    let header = check_table_header(alloc, layout, number, &open, extent)?;
-    add_mismatches(alloc, layout, part, &header, findings)?;
-    let hashes = hash_mismatches(alloc, layout, source, &open, extent)?;
-    add_mismatches(alloc, layout, part, &hashes, findings)
+    let table = learn(alloc, table)?;
+    let header = check_table_header(alloc, layout, I::STREAM, &table, extent)?;
+    add_mismatches(alloc, layout, I::PART, &header, findings)?;
+    let hashes = hash_mismatches(alloc, layout, source, &table, extent)?;
+    add_mismatches(alloc, layout, I::PART, &hashes, findings)
 }
 
-/// Returns the end of the indexes of types.
-#[tactic(auto, unfolding(crate::specs::Relations::types_end))]
-fn types_end<S: Source>(
-    alloc: Global,
-    layout: &Layout,
-    source: &mut CountedSource<S>,
-) -> Result<u32>
-    ensures { ReadsSource (S.state source.old.source) (S.state source.new.source) (λ end. end) result
-        (λ file. Ok (types_end layout.now file)) }
-{
-    let Ok(stream) = read(alloc, layout, source, TYPE_STREAM)? else {
-        return Ok(NO_END);
-    };
-    match TypeInformation::parse(stream) {
-        Ok(types) => Ok(types.header().maximum_index),
-        Err(_) => Ok(NO_END),
-    }
-}
-
-/// Returns what is inconsistent in the names of streams that stream 1 has.
-#[tactic(auto, unfolding(crate::specs::Relations::named_streams), using(crate::proofs::RelationLemmas::nothing_asked))]
-fn named_mismatches(
+/// Adds what is inconsistent in these bytes of stream 1, and which of the streams that it names are
+/// missing, and returns the number of the stream of the string table, if it names one.
+#[tactic(auto, unfolding(crate::specs::Relations::in_information, crate::specs::Relations::named_streams, crate::specs::Names::string_table_number), using(crate::proofs::RelationLemmas::nothing_related))]
+fn add_in_information(
     alloc: Global,
     layout: &Layout,
     stream: Stream,
     extent: Extent,
-) -> Result<Vec<Mismatch>>
-    ensures { Answers (λ mismatches. mismatches.items) result
-        (Ok (asked_of extent (named_streams layout.now stream))) }
+    findings: &mut Vec<Finding>,
+) -> Result<Option<u32>>
+    requires { 0 < layout.now.head.geometry.page_size }
+    ensures told { Answers (λ number. map finding_view findings.new.items) result (Ok (with_relations extent layout.now
+        (in_information layout.now (Ok stream)) (map finding_view findings.old.items))) }
+    ensures number { IfOk result (λ number. number ≡ table_number (string_table_number stream)) }
 {
+    let mismatches = check_information(alloc, &stream, extent)?;
+    add_mismatches(alloc, layout, Part::Names, &mismatches, findings)?;
     let Ok(information) = PDBInformation::parse(stream) else {
-        return Ok(Vec::new(alloc));
+        return Ok(None);
     };
     match information.stream_names(alloc) {
-        Ok(names) => check_named_streams(alloc, layout, &names, extent),
+        Ok(names) => {
+            let missing = check_named_streams(alloc, layout, &names, extent)?;
+            add_mismatches(alloc, layout, Part::Names, &missing, findings)?;
+            Ok(names.number(b"/names").ok())
+        }
         Err(Error::OutOfMemory) => Err(Error::OutOfMemory),
-        Err(_) => Ok(Vec::new(alloc)),
-    }
-}
-
-/// Returns what is inconsistent in stream 1.
-#[tactic(auto, unfolding(crate::specs::Relations::information_relation), using(crate::proofs::RelationLemmas::nothing_asked))]
-fn information_mismatches<S: Source>(
-    alloc: Global,
-    layout: &Layout,
-    source: &mut CountedSource<S>,
-    extent: Extent,
-) -> Result<Vec<Mismatch>>
-    ensures { ReadsSource (S.state source.old.source) (S.state source.new.source)
-        (λ mismatches. mismatches.items) result (λ file. Ok (asked_of extent
-        (information_relation layout.now file))) }
-{
-    match read(alloc, layout, source, INFORMATION_STREAM)? {
-        Ok(stream) => check_information(alloc, &stream, extent),
-        Err(_) => Ok(Vec::new(alloc)),
-    }
-}
-
-/// Returns which of the streams that have names are missing.
-#[tactic(auto, unfolding(crate::specs::Relations::names_relation), using(crate::proofs::RelationLemmas::nothing_asked))]
-fn name_mismatches<S: Source>(
-    alloc: Global,
-    layout: &Layout,
-    source: &mut CountedSource<S>,
-    extent: Extent,
-) -> Result<Vec<Mismatch>>
-    ensures { ReadsSource (S.state source.old.source) (S.state source.new.source)
-        (λ mismatches. mismatches.items) result (λ file. Ok (asked_of extent (names_relation layout.now file))) }
-{
-    match read(alloc, layout, source, INFORMATION_STREAM)? {
-        Ok(stream) => named_mismatches(alloc, layout, stream, extent),
-        Err(_) => Ok(Vec::new(alloc)),
+        Err(_) => Ok(None),
     }
 }
 
@@ -230,27 +183,6 @@ fn buckets_of<S: Source>(
     };
     match read(alloc, layout, source, number)? {
         Ok(stream) => check_buckets(alloc, number, stream.as_slice(), extent),
-        Err(_) => Ok(Vec::new(alloc)),
-    }
-}
-
-/// Returns what is inconsistent in the string table that stream 1 names.
-#[tactic(auto, unfolding(crate::specs::Relations::buckets_relation), using(crate::proofs::RelationLemmas::nothing_asked))]
-fn bucket_mismatches<S: Source>(
-    alloc: Global,
-    layout: &Layout,
-    source: &mut CountedSource<S>,
-    extent: Extent,
-) -> Result<Vec<Mismatch>>
-    ensures { ReadsSource (S.state source.old.source) (S.state source.new.source)
-        (λ mismatches. mismatches.items) result (λ file. Ok (asked_of extent (buckets_relation layout.now file))) }
-{
-    let Ok(stream) = read(alloc, layout, source, INFORMATION_STREAM)? else {
-        return Ok(Vec::new(alloc));
-    };
-    match string_table_number(alloc, stream) {
-        Ok(number) => buckets_of(alloc, layout, source, number, extent),
-        Err(Error::OutOfMemory) => Err(Error::OutOfMemory),
         Err(_) => Ok(Vec::new(alloc)),
     }
 }
@@ -324,61 +256,41 @@ fn add_container_relations<S: Source>(
     add_mismatches(alloc, layout, Part::Stream, &mismatches, findings)
 }
 
-/// Adds what is inconsistent in the records of types, in the header and in their hash stream.
-#[tactic(auto, unfolding(crate::specs::Relations::type_relations), using(crate::proofs::RelationLemmas::nothing_related))]
-fn add_type_relations<S: Source>(
+/// Adds what is inconsistent in the records of a table, in its header and in its hash stream, where
+/// types have indexes below `types`, and returns the end of its indexes.
+#[tactic(auto, unfolding(crate::specs::Relations::table_relations), using(crate::proofs::RelationLemmas::nothing_related))]
+fn add_table_relations<I: CheckedIndex, S: Source>(
     alloc: Global,
     layout: &Layout,
     source: &mut CountedSource<S>,
+    types: u32,
     extent: Extent,
     findings: &mut Vec<Finding>,
-) -> Result<()>
+) -> Result<u32>
     requires { 0 < layout.now.head.geometry.page_size }
-    ensures { ReadsSource (S.state source.old.source) (S.state source.new.source)
-        (λ done. map finding_view findings.new.items) result (λ file. Ok (with_relations extent layout.now
-        (type_relations layout.now file) (map finding_view findings.old.items))) }
+    ensures { ReadsSource {A = ℕ × List FaultPlace} (S.state source.old.source) (S.state source.new.source)
+        (λ end. (end, map finding_view findings.new.items)) result
+        (λ file. Ok (
+          end_in (stream_by layout.now file I.STREAM None),
+          with_relations extent layout.now
+              (table_relations layout.now file I.PART I.STREAM (I.wrong types)) (map finding_view findings.old.items),
+        )) }
 {
-    let Ok(stream) = read(alloc, layout, source, TYPE_STREAM)? else {
-        return Ok(());
+    let Ok(stream) = read(alloc, layout, source, I::STREAM)? else {
+        return Ok(NO_END);
     };
-    let Ok(types) = TypeInformation::parse(stream) else {
-        return Ok(());
+    let Ok(table) = ItemInformation::<I>::parse(stream) else {
+        return Ok(NO_END);
     };
-    let records = check_type_records(alloc, &types, TYPE_STREAM, extent)?;
-    add_mismatches(alloc, layout, Part::Types, &records, findings)?;
-    let place = (Part::Types, TYPE_STREAM);
-    add_table_relations(alloc, layout, source, place, types, extent, findings)
-}
-
-/// Adds what is inconsistent in the records of ids, in the header and in their hash stream.
-#[tactic(auto, unfolding(crate::specs::Relations::id_relations), using(crate::proofs::RelationLemmas::nothing_related))]
-fn add_id_relations<S: Source>(
-    alloc: Global,
-    layout: &Layout,
-    source: &mut CountedSource<S>,
-    extent: Extent,
-    findings: &mut Vec<Finding>,
-) -> Result<()>
-    requires { 0 < layout.now.head.geometry.page_size }
-    ensures { ReadsSource (S.state source.old.source) (S.state source.new.source)
-        (λ done. map finding_view findings.new.items) result (λ file. Ok (with_relations extent layout.now
-        (id_relations layout.now file) (map finding_view findings.old.items))) }
-{
-    let end = types_end(alloc, layout, source)?;
-    let Ok(stream) = read(alloc, layout, source, ID_STREAM)? else {
-        return Ok(());
-    };
-    let Ok(ids) = IdInformation::parse(stream) else {
-        return Ok(());
-    };
-    let records = check_id_records(alloc, &ids, end, ID_STREAM, extent)?;
-    add_mismatches(alloc, layout, Part::Ids, &records, findings)?;
-    let place = (Part::Ids, ID_STREAM);
-    add_table_relations(alloc, layout, source, place, ids, extent, findings)
+    let end = table.header().maximum_index;
+    let records = check_records(alloc, &table, types, extent)?;
+    add_mismatches(alloc, layout, I::PART, &records, findings)?;
+    add_header_relations(alloc, layout, source, table, extent, findings)?;
+    Ok(end)
 }
 
 /// Adds what is inconsistent in stream 1, the names of streams and the string table.
-#[tactic(auto, unfolding(crate::specs::Relations::name_relations))]
+#[tactic(auto, unfolding(crate::specs::Relations::name_relations, crate::specs::Relations::in_information, crate::specs::Relations::buckets_relation), using(crate::proofs::RelationLemmas::nothing_related))]
 fn add_name_relations<S: Source>(
     alloc: Global,
     layout: &Layout,
@@ -391,11 +303,11 @@ fn add_name_relations<S: Source>(
         (λ done. map finding_view findings.new.items) result (λ file. Ok (with_relations extent layout.now
         (name_relations layout.now file) (map finding_view findings.old.items))) }
 {
-    let information = information_mismatches(alloc, layout, source, extent)?;
-    add_mismatches(alloc, layout, Part::Names, &information, findings)?;
-    let names = name_mismatches(alloc, layout, source, extent)?;
-    add_mismatches(alloc, layout, Part::Names, &names, findings)?;
-    let buckets = bucket_mismatches(alloc, layout, source, extent)?;
+    let Ok(stream) = read(alloc, layout, source, INFORMATION_STREAM)? else {
+        return Ok(());
+    };
+    let number = add_in_information(alloc, layout, stream, extent, findings)?;
+    let buckets = buckets_of(alloc, layout, source, number, extent)?;
     add_mismatches(alloc, layout, Part::StringTable, &buckets, findings)
 }
 
@@ -426,7 +338,7 @@ fn add_section_relations<S: Source>(
 }
 
 /// Adds what is inconsistent between the parts of a file, as far as these can be read.
-#[tactic(auto, unfolding(crate::specs::Relations::related_faults))]
+#[tactic(auto, unfolding(crate::specs::Relations::related_faults, crate::specs::Relations::types_end))]
 pub(crate) fn add_relations<S: Source>(
     alloc: Global,
     layout: &Layout,
@@ -442,8 +354,9 @@ pub(crate) fn add_relations<S: Source>(
         (map finding_view findings.old.items))) }
 {
     add_container_relations(alloc, layout, source, extent, findings)?;
-    add_type_relations(alloc, layout, source, extent, findings)?;
-    add_id_relations(alloc, layout, source, extent, findings)?;
+    // A type refers to no index from its own on, wherever those of types end.
+    let end = add_table_relations::<TypeIndex, S>(alloc, layout, source, NO_END, extent, findings)?;
+    add_table_relations::<IdIndex, S>(alloc, layout, source, end, extent, findings)?;
     add_name_relations(alloc, layout, source, extent, findings)?;
     add_debug_relations(alloc, layout, source, extent, findings)?;
     add_section_relations(alloc, layout, source, extent, findings)

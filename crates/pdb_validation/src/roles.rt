@@ -13,11 +13,11 @@ ghost use Rattle.pdb_validation.specs.Roles.{role_index, role_problem, roles_fau
 ghost use Rattle.pdb_validation.specs.Roles.{starts_rise, unless_sorted};
 ghost use Rattle.pdb_validation.specs.declared.finding.Part.TheVariants as parts;
 
-use crate::finding::{Finding, Part, in_stream};
+use crate::finding::{Finding, Part, absence, in_stream};
+use crate::inconsistency::Inconsistency;
 use crate::problem::Problem;
 use crate::read::read;
 use pdb_base::{Error, FallibleIterator, Result, Stream, StreamIndex};
-use pdb_consistency::Inconsistency;
 use pdb_file::DBIExtraStreams;
 use pdb_file::section_headers::section_headers;
 use pdb_frames::{FrameDataIter, FrameTable};
@@ -162,12 +162,7 @@ fn check_numbered<S: Source>(
 {
     match read(alloc, layout, source, number)? {
         Ok(stream) => check_bytes_of(alloc, part, number, stream),
-        Err(Error::StreamNotFound(missing)) => Ok(Some(in_stream(
-            part,
-            number,
-            Problem::Error(Error::StreamNotFound(missing)),
-        ))),
-        Err(_) => Ok(None),
+        Err(error) => Ok(absence(part, number, error)),
     }
 }
 

@@ -8,7 +8,7 @@ ghost use Rattle.pdb_validation.specs.Sizes.{streams_size};
 use pdb_msf::Layout;
 
 /// The numbers of streams are below this one, which has 16 bits and names no stream.
-const NO_STREAM: u32 = 0xffff;
+pub(crate) const NO_STREAM: u32 = 0xffff;
 
 /// Returns how many streams of a layout can be named.
 pub(crate) fn nameable(layout: &Layout) -> u32

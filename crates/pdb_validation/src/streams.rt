@@ -2,16 +2,15 @@
 
 ghost use Rattle.std.specs.Prelude.{◌++◌, map, Ok};
 ghost use Rattle.std.specs.Option.{option_map};
-ghost use Rattle.pdb_base.specs.Answer.{Answers};
 ghost use Rattle.pdb_msf.specs.Source.{ReadsSource};
 ghost use Rattle.pdb_validation.specs.Finding.{by_extent, finding_view};
 ghost use Rattle.pdb_validation.specs.Streams.{bytes_fault, streams_faults};
 
 use crate::finding::{Finding, Part, add_until, in_stream};
+use crate::mismatch::Extent;
 use crate::problem::Problem;
 use crate::read::read;
 use pdb_base::{Error, Result};
-use pdb_consistency::Extent;
 use pdb_msf::{CountedSource, Layout, Source};
 use std::alloc::Global;
 

@@ -3,10 +3,10 @@ use Rattle.std.specs.Prelude.{◌≡◌, ◌≢◌, ◌↔◌, ℕ, Bool, false,
 use Rattle.std.specs.Prelude.{IfOk}
 use Rattle.pdb_base.specs.declared.error.Error.{Error}
 use Rattle.pdb_base.specs.Answer.{Answer, ◌>>=◌}
-use Rattle.pdb_identity.specs.Format.{format_of}
-use Rattle.pdb_identity.specs.Identity.{file_identity}
-use Rattle.pdb_identity.specs.declared.format.Format.TheVariants.{Image, Msf7}
-use Rattle.pdb_identity.specs.declared.identity.Identity.{Identity}
+use Rattle.pdb_file.specs.Format.{format_of}
+use Rattle.pdb_file.specs.Identity.{file_identity}
+use Rattle.pdb_file.specs.declared.format.Format.TheVariants.{Image, Msf7}
+use Rattle.pdb_file.specs.declared.identity.Identity.{Identity}
 use Rattle.pdb_msf.specs.Header.{file_head}
 use Rattle.pdb_msf.specs.Source.{State, IsKept}
 use Rattle.pdb_output.specs.Output.{GetsUnlessFailed, OutputState, Writes, done_of}

@@ -1,9 +1,9 @@
 -- What `match` does with a file, and how the program ends.
 use Rattle.std.specs.Prelude.{◌≡◌, ◌↔◌, ℕ, Bool, IsTrue, IfOk, List, Result, Ok, Err}
 use Rattle.pdb_base.specs.declared.error.Error.{Error}
-use Rattle.pdb_identity.specs.Image.{IsDatabaseOf}
-use Rattle.pdb_identity.specs.declared.identity.Identity.{Identity}
-use Rattle.pdb_identity.specs.declared.image.CodeView.{CodeView}
+use Rattle.pdb_file.specs.Image.{IsDatabaseOf}
+use Rattle.pdb_file.specs.declared.identity.Identity.{Identity}
+use Rattle.pdb_file.specs.declared.image.CodeView.{CodeView}
 use Rattle.pdb_msf.specs.Source.{State}
 use Rattle.pdb_output.specs.Output.{OutputState, Writes, done_of}
 use Rattle.pdbdump_tables.specs.Reading.{Reads}

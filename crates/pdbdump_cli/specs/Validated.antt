@@ -6,7 +6,7 @@ use Rattle.pdb_output.specs.Output.{OutputState, Writes}
 use Rattle.pdbdump_rows.specs.declared.form.Form.{Form}
 use Rattle.pdbdump_rows.specs.declared.form.Form.TheVariants as forms
 use Rattle.pdbdump_rows.specs.Rows.{AreLines}
-use Rattle.pdb_consistency.specs.declared.mismatch.Extent.{Extent}
+use Rattle.pdb_validation.specs.declared.mismatch.Extent.{Extent}
 use Rattle.pdb_validation.specs.Finding.{FaultPlace, error_count, warning_count}
 use Rattle.pdb_validation.specs.IsWhole.{IsWhole}
 use Rattle.pdb_validation.specs.Whole.{faults_of}

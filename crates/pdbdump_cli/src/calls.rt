@@ -7,7 +7,7 @@ use crate::command::{
 use crate::selection_calls::{beside_breakpad, selecting};
 use clap::ArgMatches;
 use pdb_cli::number;
-use pdb_consistency::Extent;
+use pdb_validation::Extent;
 use pdbdump_declarations::{Language, Options as DeclareOptions};
 use pdbdump_layouts::{LetterCase, Options, Order, Style};
 use pdbdump_rows::Form;

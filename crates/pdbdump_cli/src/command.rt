@@ -1,7 +1,7 @@
 //! The commands of the program and their arguments.
 
-use pdb_consistency::Extent;
-use pdb_identity::CodeView;
+use pdb_file::CodeView;
+use pdb_validation::Extent;
 use pdbdump_declarations::Options as DeclareOptions;
 use pdbdump_layouts::Options;
 use pdbdump_tables::{AskedAddress, KeyStyle, MapStreams, Selection};

@@ -2,7 +2,7 @@
 
 ghost use Rattle.std.specs.Prelude.{◌≡◌, ◌≢◌, ◌↔◌, IsTrue, IfOk, MatchOption};
 ghost use Rattle.std.specs.Option.{option_map};
-ghost use Rattle.pdb_identity.specs.declared.format.Format.TheVariants.{Msf7};
+ghost use Rattle.pdb_file.specs.declared.format.Format.TheVariants.{Msf7};
 ghost use Rattle.pdbdump_cli.specs.Identified.{IsConcluded, IsExpected, IsIdDone, IsIdentified, IsIdentityShown};
 ghost use Rattle.pdbdump_cli.specs.Identified.{identity_in};
 ghost use Rattle.pdbdump_tables.specs.Reading.{Reads};
@@ -13,7 +13,7 @@ use crate::input_file::InputFile;
 use crate::sentences::tell;
 use crate::served::end;
 use pdb_container::{Error, PDB, Source, SourceView};
-use pdb_identity::{Format, Identity};
+use pdb_file::{Format, Identity};
 use pdb_output::Output;
 use pdbdump_rows::Form;
 use pdbdump_tables::{is_key, write_identity};

@@ -6,7 +6,7 @@ use crate::command::Identify;
 use crate::identified::conclude;
 use crate::sentences::tell;
 use pdb_container::{Error, Source};
-use pdb_identity::{CodeView, NoDatabase};
+use pdb_file::{CodeView, NoDatabase};
 use pdb_msf::CountedSource;
 use pdb_output::Output;
 use pdbdump_rows::Form;

@@ -88,11 +88,12 @@ fn whole_if_listed(listed: Result<()>, is_whole: bool) -> Result<bool>
     }
 }
 
-/// Writes the part of a file that a command lists. A summary has no such part. `is_whole` becomes
-/// false if a record of a table can't be parsed.
-fn list_part<S: Source + Drop, W: Write>(
+/// Writes what a command lists of a file of this size that was opened. `is_whole` becomes false if a
+/// part or a record that it lists can't be read.
+fn list_command<S: Source + Drop, W: Write>(
     alloc: Global,
     file: PDB<S>,
+    size: u64,
     command: Command<'_, '_>,
     form: Form,
     is_whole: &mut bool,
@@ -101,7 +102,7 @@ fn list_part<S: Source + Drop, W: Write>(
     ensures { DoesIn form command.entry (S.state file.source) file.head out.old out.new result }
 {
     match command {
-        Command::Summary => Ok(()),
+        Command::Summary => list_summary(alloc, file, size, form, is_whole, out),
         Command::Types { stream, index } => {
             list_types(
                 alloc,
@@ -128,25 +129,6 @@ fn list_part<S: Source + Drop, W: Write>(
     }
 }
 
-/// Writes what a command lists of a file of this size that was opened. `is_whole` becomes false if a
-/// part or a record that it lists can't be read.
-fn list_sized<S: Source + Drop, W: Write>(
-    alloc: Global,
-    file: PDB<S>,
-    size: u64,
-    command: Command<'_, '_>,
-    form: Form,
-    is_whole: &mut bool,
-    out: &mut Output<W>,
-) -> Result<()>
-    ensures { DoesIn form command.entry (S.state file.source) file.head out.old out.new result }
-{
-    match command {
-        Command::Summary => list_summary(alloc, file, size, form, is_whole, out),
-        other => list_part(alloc, file, other, form, is_whole, out),
-    }
-}
-
 /// Writes what a command lists of a file of this size that was opened. Returns whether each part and
 /// each record that it lists could be read.
 fn list_opened<S: Source + Drop, W: Write>(
@@ -160,7 +142,7 @@ fn list_opened<S: Source + Drop, W: Write>(
     ensures { DoesIn form command.entry (S.state file.source) file.head out.old out.new (done_of result) }
 {
     let mut is_whole = true;
-    let listed = list_sized(alloc, file, size, command, form, &mut is_whole, out);
+    let listed = list_command(alloc, file, size, command, form, &mut is_whole, out);
     whole_if_listed(listed, is_whole)
 }
 

@@ -6,7 +6,7 @@ use crate::command::Matching;
 use crate::identified::identity_in;
 use crate::input_file::InputFile;
 use pdb_container::{Result, Source};
-use pdb_identity::Identity;
+use pdb_file::Identity;
 use pdb_output::Output;
 use pdbdump_rows::Form;
 use pdbdump_tables::{Pair, write_match};

@@ -20,7 +20,7 @@ use clap::error::ErrorKind as ParseErrorKind;
 use pdb_base::Stream;
 use pdb_cli::{Errors, texts_of, words_of};
 use pdb_container::{Error, FileSource, Result, Source, SourceView};
-use pdb_identity::CodeView;
+use pdb_file::CodeView;
 use pdb_msf::SeekFile;
 use pdb_output::Output;
 use pdbdump_rows::{Form, push_text};

@@ -1,6 +1,6 @@
 //! What is seen of a file while it is read: its first bytes, and its size.
 
-use pdb_identity::Format;
+use pdb_file::Format;
 use std::alloc::{AllocError, Global};
 use std::io;
 use std::io::Read;

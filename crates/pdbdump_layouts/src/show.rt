@@ -1,9 +1,7 @@
 //! The layouts that a call shows: of all classes, or of those that names mean.
 
 ghost use Rattle.std.specs.Prelude.{◌≡◌, ◌⊎◌, false, OnOk};
-ghost use Rattle.pdb_base.specs.Answer.{Answers};
 ghost use Rattle.pdb_base.specs.Memory.{FailsOnlyForMemory};
-ghost use Rattle.pdb_tpi.specs.Table.{table_of};
 ghost use Rattle.pdbdump_types.specs.Shown.{IsShowResult, IsStopped, StaysAccounted};
 
 use crate::c_style::push_c;

@@ -4,4 +4,5 @@ pub mod Lines
 pub mod Line
 pub mod Rows
 pub mod Sink
+pub mod Sentences
 pub mod Laws

@@ -77,9 +77,14 @@ abbrev pub PutsField : ShownField → LineState → LineState → Result (Unit {
 PutsField field old new (Ok done) = new ≡ add_field old field
 PutsField field old new (Err e) = ⊤
 
--- A field was added to a line, unless memory ran out.
-abbrev pub AddsField : ShownField → LineState → LineState → Type 0
-AddsField field old new = IsTrue new.is_whole → new ≡ add_field old field
+-- Fields were added to a line, unless memory ran out.
+unfoldable pub AddsFields : ShownRow → LineState → LineState → Type 0
+AddsFields row old new = IsTrue new.is_whole → new ≡ all_shown old row
+
+-- A field with what was made for it was added to a line, unless memory ran out.
+abbrev pub AddsMade : {A : Type 0} → (A → ShownField) → Result A AllocError → LineState → LineState → Type 0
+AddsMade field (Ok made) old new = AddsFields (field made ∷ []) old new
+AddsMade field (Err e) old new = new.is_whole ≡ false
 
 -- the field that a row of an index begins with, and that of a number
 abbrev pub indexed : ℕ → ShownRow
@@ -92,7 +97,7 @@ numbered n = (NUMBER.now, number n) ∷ []
 abbrev pub moved_from : ℕ → ShownRow
 moved_from address = (SOURCE_ADDRESS.now, hexadecimal address) ∷ []
 
--- A row was added to a line that begins with these fields.
+-- A row that begins with these fields was added to a line.
 pub record HasRow (front : ShownRow) (old new : LineState) : Type 0 where
   pub rest : ShownRow
   pub shown : new ≡ all_shown (all_shown old front) rest
@@ -136,17 +141,17 @@ AddsText Holds old new (Err e) = e ≡ OutOfMemory
 
 -- The row that was added to a line has ended, as one line or in full; or memory ran out.
 pub record IsLineEnded (old new : LineState) (result : Result (Unit {0}) AllocError) : Type 0 where
-  pub row : (form : Form) (start : LineState) (front : ShownRow) → AddsRow front start old → start ≡ begun form
-      → EndsRow (row_text form) front new result
-  pub full : (form : Form) (start : LineState) (front : ShownRow) → AddsRow front start old → start ≡ begun_full form
-      → EndsRow (full_text form) front new result
+  pub row : (form : Form) (start : LineState) (row : ShownRow) → AddsFields row start old → start ≡ begun form
+      → EndsLine (row_text form row) new result
+  pub full : (form : Form) (start : LineState) (row : ShownRow) → AddsFields row start old → start ≡ begun_full form
+      → EndsLine (full_text form row) new result
 
 -- The line of the row that was added to it was written; or it was cut short.
 pub record IsLineWritten (line : LineState) (old new : OutputState) (result : Result (Unit {0}) Error) : Type 0 where
-  pub row : (form : Form) (start : LineState) (front : ShownRow) → AddsRow front start line → start ≡ begun form
-      → WritesWhat (IsRow (row_text form) front) old new result
+  pub row : (form : Form) (start : LineState) (row : ShownRow) → AddsFields row start line → start ≡ begun form
+      → Writes (row_text form row) old new result
 
 -- The line of the row that was added to it was appended to a text; or memory ran out.
 pub record IsLineAppended (line : LineState) (old new : List ℕ) (result : Result (Unit {0}) Error) : Type 0 where
-  pub row : (form : Form) (start : LineState) (front : ShownRow) → AddsRow front start line → start ≡ begun form
-      → AddsText (IsRow (row_text form) front) old new result
+  pub row : (form : Form) (start : LineState) (row : ShownRow) → AddsFields row start line → start ≡ begun form
+      → AddsText (λ text. text ≡ row_text form row) old new result

@@ -1,6 +1,7 @@
 -- A row as a value, independent of where its bytes are stored: a name, a word or another text is the list
 -- of its bytes.
 use Rattle.std.specs.Prelude.{ℕ, ℤ, Bool, List, map}
+use Rattle.std.specs.Borrow.{Bor}
 use Rattle.std.specs.List.{filter}
 use Rattle.pdbdump_rows.specs.declared.value.Value.{Value}
 use Rattle.pdbdump_rows.specs.declared.value.Value.TheVariants as values
@@ -43,3 +44,7 @@ value_shown (values.Words flags) = words (words_beside_true (map (λ flag. (flag
 value_shown (values.Numbers list) = numbers list.now
 value_shown (values.Indexes list) = indexes list.now
 value_shown values.Absent = absent
+
+-- the shown field of a `Field`
+abbrev pub field_shown : Bor (List ℕ) × Value → ShownField
+field_shown field = (field.0.now, value_shown field.1)

@@ -120,6 +120,6 @@ fn show_fields(line: &mut Line, leaf: u16, data: &IdData<'_>)
 pub fn show_id(line: &mut Line, index: u32, leaf: u16, data: &IdData<'_>)
     ensures { AddsRow (indexed index) line.old line.new }
 {
-    line.front(INDEX, Value::Hexadecimal(index));
+    line.field(INDEX, Value::Hexadecimal(index));
     show_fields(line, leaf, data)
 }

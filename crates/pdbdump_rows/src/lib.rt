@@ -29,7 +29,7 @@ pub use frame_rows::show_frame;
 pub use id_rows::show_id;
 pub use line::{Line, append_line, write_line};
 pub use omap_rows::show_omap;
-pub use refused::{error_text, show_error};
+pub use refused::{error_text, sentence, show_error};
 pub use rows::{Rows, Sheet};
 pub use section_rows::show_section;
 pub use text::push_text;

@@ -1,9 +1,10 @@
 //! A line that is written field by field.
 
-ghost use Rattle.std.specs.Prelude.{◌≡◌, [], false};
-ghost use Rattle.pdbdump_rows.specs.Line.{AddsField, AddsRow, EndsLine, IsLineAppended, IsLineEnded, IsLineWritten};
-ghost use Rattle.pdbdump_rows.specs.Line.{PutsField, begun, begun_full, line_bytes};
-ghost use Rattle.pdbdump_rows.specs.Row.{value_shown};
+ghost use Rattle.std.specs.Prelude.{◌≡◌, [], ◌∷◌, false, map};
+ghost use Rattle.pdbdump_rows.specs.Line.{AddsFields, AddsMade, AddsRow, EndsLine, IsLineAppended, IsLineEnded};
+ghost use Rattle.pdbdump_rows.specs.Line.{IsLineWritten, PutsField, begun, begun_full, line_bytes};
+ghost use Rattle.pdbdump_rows.specs.Row as rows;
+ghost use Rattle.pdbdump_rows.specs.Row.{field_shown, value_shown};
 
 use crate::form::Form;
 use crate::push::{is_shown, push_end, push_line, push_next};
@@ -129,27 +130,30 @@ impl Line {
         Ok(())
     }
 
-    /// Adds the field that a row is known by.
-    pub fn front(&mut self, name: &'static str, value: Value<'_>)
-        ensures { AddsField (name.now, value_shown value.entry) self.old self.new }
+    /// Adds a field, and notes if an allocation fails.
+    #[tactic(auto, unfolding(crate::specs::Line::AddsFields))]
+    fn add(&mut self, name: &'static str, value: &Value<'_>)
+        ensures { AddsFields ((name.now, value_shown value.now) ∷ []) self.old self.new }
     {
-        if self.is_whole && self.put(name, &value).is_err() {
+        if self.is_whole && self.put(name, value).is_err() {
             self.is_whole = false;
         }
     }
 
     /// Adds a field.
-    #[tactic(auto, using(crate::proofs::lemmas::Line::field_alone))]
+    #[tactic(auto, using(crate::proofs::lemmas::Line::fields_alone))]
     pub fn field(&mut self, name: &'static str, value: Value<'_>)
-        ensures { AddsRow [] self.old self.new }
+        ensures fields { AddsFields ((name.now, value_shown value.entry) ∷ []) self.old self.new }
+        ensures row { AddsRow [] self.old self.new }
     {
-        self.front(name, value);
+        self.add(name, &value);
     }
 
     /// Adds fields.
-    #[tactic(auto, using(crate::proofs::lemmas::Line::adding))]
+    #[tactic(auto, using(crate::proofs::lemmas::Line::fields_alone))]
     pub fn fields(&mut self, fields: &[Field<'_>])
-        ensures { AddsRow [] self.old self.new }
+        ensures fields { AddsFields (map field_shown fields.now) self.old self.new }
+        ensures row { AddsRow [] self.old self.new }
     {
         for (name, value) in fields {
             self.field(name, *value);
@@ -159,7 +163,8 @@ impl Line {
     /// Adds a field with a list of indexes, for which an allocation may have failed.
     #[tactic(auto, using(crate::proofs::lemmas::Line::adding))]
     pub(crate) fn indexes(&mut self, name: &'static str, indexes: Result<Vec<u32>, AllocError>)
-        ensures { AddsRow [] self.old self.new }
+        ensures field { AddsMade (λ list. (name.now, rows.indexes list.items)) indexes self.old self.new }
+        ensures row { AddsRow [] self.old self.new }
     {
         match indexes {
             Ok(indexes) => self.field(name, Value::Indexes(&indexes)),
@@ -170,7 +175,8 @@ impl Line {
     /// Adds a field with a text that was made, for which an allocation may have failed.
     #[tactic(auto, using(crate::proofs::lemmas::Line::adding))]
     pub fn made_text(&mut self, name: &'static str, text: Result<Vec<u8>, AllocError>)
-        ensures { AddsRow [] self.old self.new }
+        ensures field { AddsMade (λ bytes. (name.now, rows.text bytes.items)) text self.old self.new }
+        ensures row { AddsRow [] self.old self.new }
     {
         match text {
             Ok(text) => self.field(name, Value::Text(RawString::from(text.as_slice()))),
@@ -193,7 +199,7 @@ impl Line {
     ///
     /// # Errors
     /// Fails if this or an earlier allocation failed.
-    #[tactic(auto, using(crate::proofs::lemmas::Line::ends_row, crate::proofs::lemmas::Line::ends_full))]
+    #[tactic(auto, using(crate::proofs::lemmas::Line::ends_row))]
     pub fn finish(&mut self) -> Result<(), AllocError>
         ensures { IsLineEnded self.old self.new result }
     {
@@ -216,7 +222,7 @@ impl Line {
 /// # Errors
 /// Fails with `OutOfMemory` if an allocation for the line failed, and with `IoError` if the output
 /// fails, which may then have got a prefix of the line.
-#[tactic(auto, using(crate::proofs::lemmas::Line::line_lacks))]
+#[tactic(auto, using(crate::proofs::lemmas::Line::line_written, crate::proofs::lemmas::Line::line_lacks))]
 pub fn write_line<W: Write>(line: &mut Line, out: &mut Output<W>) -> Result<(), Error>
     ensures { IsLineWritten line.old out.old out.new result }
 {

@@ -13,6 +13,6 @@ use pdb_space::OMAPRecord;
 pub fn show_omap(line: &mut Line, mapping: OMAPRecord)
     ensures { AddsRow (moved_from mapping.source) line.old line.new }
 {
-    line.front(SOURCE_ADDRESS, Value::Hexadecimal(mapping.source_address()));
+    line.field(SOURCE_ADDRESS, Value::Hexadecimal(mapping.source_address()));
     line.field(TARGET_ADDRESS, Value::Hexadecimal(mapping.target_address()));
 }

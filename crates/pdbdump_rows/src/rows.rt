@@ -2,9 +2,10 @@
 
 #![tactic(auto, using(crate::proofs::lemmas::Sink::adding_lines))]
 
-ghost use Rattle.std.specs.Prelude.{◌≡◌, None};
+ghost use Rattle.std.specs.Prelude.{◌≡◌, None, map};
 ghost use Rattle.pdbdump_rows.specs.Line.{begun};
-ghost use Rattle.pdbdump_rows.specs.Sink.{AddsLines, EndsLines, ended};
+ghost use Rattle.pdbdump_rows.specs.Row.{field_shown};
+ghost use Rattle.pdbdump_rows.specs.Sink.{AddsLine, AddsLines, AreAsBefore, IsRowEnded, ended, lacking};
 
 use crate::form::Form;
 use crate::line::{Line, write_line};
@@ -77,6 +78,8 @@ impl<'o, W: Write> Rows<'o, W> {
 
     /// Notes that an allocation for a row failed.
     pub fn lack(&mut self)
+        ensures fault { self.new.sheet.now.fault ≡ lacking self.old.sheet.now.fault }
+        ensures out { self.new.out ≡ self.old.out }
         ensures lines { AddsLines self.old self.new }
         ensures whole { self.new.sheet.now.is_whole ≡ self.old.sheet.now.is_whole }
     {
@@ -88,6 +91,7 @@ impl<'o, W: Write> Rows<'o, W> {
     /// Begins the line of a row.
     pub fn begin(&mut self)
         ensures line { self.new.sheet.now.line ≡ begun self.new.sheet.now.form }
+        ensures before { AreAsBefore self.old self.new }
         ensures lines { AddsLines self.old self.new }
         ensures whole { self.new.sheet.now.is_whole ≡ self.old.sheet.now.is_whole }
     {
@@ -97,7 +101,7 @@ impl<'o, W: Write> Rows<'o, W> {
 
     /// Ends the line of a row and writes it.
     pub fn end(&mut self)
-        ensures lines { EndsLines self.old self.new }
+        ensures line { IsRowEnded self.old self.new }
         ensures whole { self.new.sheet.now.is_whole ≡ self.old.sheet.now.is_whole }
     {
         if self.sheet.fault.is_none() {
@@ -108,8 +112,10 @@ impl<'o, W: Write> Rows<'o, W> {
     }
 
     /// Writes a row with these fields.
+    #[tactic(auto, using(crate::proofs::lemmas::Sink::row_adds))]
     pub fn row(&mut self, fields: &[Field<'_>])
-        ensures { AddsLines self.old self.new }
+        ensures line { AddsLine (map field_shown fields.now) self.old self.new }
+        ensures lines { AddsLines self.old self.new }
     {
         self.begin();
         self.sheet.line.fields(fields);

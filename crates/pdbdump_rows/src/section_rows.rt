@@ -36,7 +36,7 @@ pub fn show_section(line: &mut Line, number: u32, header: &ImageSectionHeader)
     ensures { AddsRow (numbered number) line.old line.new }
 {
     let name = RawString::from(name_bytes(header));
-    line.front(NUMBER, Value::Number(number as u64));
+    line.field(NUMBER, Value::Number(number as u64));
     line.fields(&[
         (NAME, Value::Text(name)),
         (VIRTUAL_ADDRESS, Value::Hexadecimal(header.virtual_address)),

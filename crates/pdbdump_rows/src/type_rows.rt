@@ -75,6 +75,6 @@ pub(crate) fn show_fields(line: &mut Line, leaf: u16, data: &TypeData<'_>)
 pub fn show_type(line: &mut Line, index: u32, leaf: u16, data: &TypeData<'_>)
     ensures { AddsRow (indexed index) line.old line.new }
 {
-    line.front(INDEX, Value::Hexadecimal(index));
+    line.field(INDEX, Value::Hexadecimal(index));
     show_fields(line, leaf, data)
 }

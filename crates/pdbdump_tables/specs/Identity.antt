@@ -1,9 +1,9 @@
 -- How the identity of a file is shown.
 use Rattle.std.specs.Prelude.{◌≡◌, ⊤, ℕ, List, [], map}
 use Rattle.std.specs.Char.{to_ascii_lowercase}
-use Rattle.pdb_identity.specs.Identity.{age_of}
-use Rattle.pdb_identity.specs.Key.{upper_key}
-use Rattle.pdb_identity.specs.declared.identity.Identity.{Identity}
+use Rattle.pdb_file.specs.Identity.{age_of}
+use Rattle.pdb_file.specs.Key.{upper_key}
+use Rattle.pdb_file.specs.declared.identity.Identity.{Identity}
 use Rattle.pdbdump_rows.specs.declared.form.Form.{Form}
 use Rattle.pdbdump_rows.specs.declared.form.Form.TheVariants as forms
 use Rattle.pdbdump_rows.specs.Line.{IsRow}

@@ -5,12 +5,11 @@
 ghost use Rattle.std.specs.Prelude.{◌≡◌, ◌↔◌, [], string_bytes, IsTrue, IfOk};
 ghost use Rattle.pdbdump_rows.specs.Line.{IsRow, AddsRow, WritesWhat};
 ghost use Rattle.pdbdump_rows.specs.Lines.{row_text};
-ghost use Rattle.pdb_identity.specs.Key.{upper_key};
+ghost use Rattle.pdb_file.specs.Key.{upper_key};
 ghost use Rattle.pdbdump_tables.specs.Identity.{IsIdentity, IsKey};
 
 use pdb_base::{Error, RawString};
-use pdb_file::Features;
-use pdb_identity::{Identity, LowerKey, UpperKey};
+use pdb_file::{Features, Identity, LowerKey, UpperKey};
 use pdb_output::Output;
 use pdbdump_rows::{Field, Flag, Form, Line, Value, optional_text, push_text, write_line};
 use std::alloc::{AllocError, Global};
@@ -97,6 +96,11 @@ fn lower_path(alloc: Global, name: Option<&str>, key: UpperKey) -> Result<Vec<u8
         Some(name) => store_path(alloc, Some(&name.to_ascii_lowercase(alloc)?), &key),
         None => store_path(alloc, None, &key),
     }
+}
+
+/// Returns the bytes of the text of a key.
+pub(crate) fn key_bytes(alloc: Global, key: UpperKey) -> Result<Vec<u8>, AllocError> {
+    Ok(format!(in alloc; "{key}")?.into_bytes())
 }
 
 /// Returns a key as text.
@@ -223,18 +227,25 @@ fn show_guid(line: &mut Line, name: Option<&str>, guid: &str)
     line.field(GUID, Value::Text(RawString::from(guid)));
 }
 
-/// Adds the fields of all that identifies a file, with the texts of its GUID and of its key.
-fn show_identity(line: &mut Line, name: Option<&str>, identity: &Identity, guid: &str, key: &str)
+/// Adds the fields of all that identifies a file, with the text of its GUID.
+fn show_identity(
+    alloc: Global,
+    line: &mut Line,
+    name: Option<&str>,
+    identity: &Identity,
+    guid: &str,
+)
     ensures { AddsRow [] line.old line.new }
 {
     show_guid(line, name, guid);
     line.fields(&number_fields(identity));
     show_features(line, identity.features);
     line.fields(&machine_fields(identity));
-    line.field(KEY, Value::Text(RawString::from(key)));
+    line.made_text(KEY, key_bytes(alloc, identity.key()));
 }
 
 /// Writes all that identifies a file as an object of JSON.
+#[tactic(auto, using(pdbdump_rows::proofs::lemmas::Line::showing))]
 fn write_object<W: Write>(
     alloc: Global,
     name: Option<&str>,
@@ -245,10 +256,9 @@ fn write_object<W: Write>(
 {
     let mut buffer = [0u8; 36];
     let guid = identity.guid.hyphenated().encode_upper(&mut buffer);
-    let key = key_text(alloc, identity.key())?;
     let mut line = Line::new(alloc);
     line.begin(Form::Json);
-    show_identity(&mut line, name, identity, guid, &key);
+    show_identity(alloc, &mut line, name, identity, guid);
     write_line(&mut line, out)
 }
 

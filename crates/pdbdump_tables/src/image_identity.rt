@@ -7,9 +7,11 @@ ghost use Rattle.pdbdump_rows.specs.Line.{IsRow, AddsRow, WritesWhat};
 ghost use Rattle.pdbdump_rows.specs.Lines.{row_text};
 ghost use Rattle.pdbdump_tables.specs.Identity.{IsIdentity, IsKeyOf};
 
-use crate::identity::{AGE, CPU, FORMAT, GUID, KEY, KeyStyle, MACHINE, NAME, key_line, key_text};
+use crate::identity::{
+    AGE, CPU, FORMAT, GUID, KEY, KeyStyle, MACHINE, NAME, key_bytes, key_line, key_text,
+};
 use pdb_base::{Error, RawString};
-use pdb_identity::CodeView;
+use pdb_file::CodeView;
 use pdb_output::Output;
 use pdbdump_rows::{Field, Form, Line, Value, write_line};
 use std::alloc::{AllocError, Global};
@@ -34,17 +36,18 @@ fn show_path(line: &mut Line, name: &str, path: &[u8])
     line.field("path", Value::Text(RawString::from(path)));
 }
 
-/// Adds the fields of what an image says of its database, with the texts of the GUID and of the key.
-fn show_image(line: &mut Line, name: &str, image: &CodeView, guid: &str, key: &str)
+/// Adds the fields of what an image says of its database, with the text of the GUID.
+fn show_image(alloc: Global, line: &mut Line, name: &str, image: &CodeView, guid: &str)
     ensures { AddsRow [] line.old line.new }
 {
     show_path(line, name, &image.path);
     line.field(GUID, Value::Text(RawString::from(guid)));
     line.fields(&number_fields(image));
-    line.field(KEY, Value::Text(RawString::from(key)));
+    line.made_text(KEY, key_bytes(alloc, image.key()));
 }
 
 /// Writes what an image says of its database as an object of JSON.
+#[tactic(auto, using(pdbdump_rows::proofs::lemmas::Line::showing))]
 fn write_object<W: Write>(
     alloc: Global,
     name: &str,
@@ -55,10 +58,9 @@ fn write_object<W: Write>(
 {
     let mut buffer = [0u8; 36];
     let guid = image.guid.hyphenated().encode_upper(&mut buffer);
-    let key = key_text(alloc, image.key())?;
     let mut line = Line::new(alloc);
     line.begin(Form::Json);
-    show_image(&mut line, name, image, guid, &key);
+    show_image(alloc, &mut line, name, image, guid);
     write_line(&mut line, out)
 }
 

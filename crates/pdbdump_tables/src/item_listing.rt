@@ -3,7 +3,7 @@
 ghost use Rattle.pdbdump_tables.specs.Listed.{IsTableListed, IsWalked};
 ghost use Rattle.pdbdump_tables.specs.Listing.{ListsLines};
 
-use crate::item_line::{ListedIndex, make_item};
+use crate::item_line::{ListedIndex, make_item, show_selected};
 use crate::refused_record::ItemPlace;
 use crate::search::Search;
 use crate::selection::Selection;
@@ -93,7 +93,7 @@ fn list_selected<I: ListedIndex, W: Write>(
             byte: byte as u32,
         };
         line.begin(form);
-        if !I::show_selected(alloc, &item, place, selection, search, &mut line)? {
+        if !show_selected(alloc, &item, place, selection, search, &mut line)? {
             continue 'records;
         }
         write_line(&mut line, out)?;

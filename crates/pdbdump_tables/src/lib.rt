@@ -48,7 +48,7 @@ pub use hex_dump::write_dump;
 pub use id_listing::id_at;
 pub use identity::{KeyStyle, is_key, write_identity};
 pub use image_identity::{is_key_of_image, write_image};
-pub use item_line::ListedIndex;
+pub use item_line::{ItemData, ListedIndex};
 pub use item_listing::{items, select_ids, select_types};
 pub use map::{Address, AskedAddress, list_map};
 pub use map_source::MapStreams;

@@ -7,9 +7,9 @@ ghost use Rattle.pdbdump_rows.specs.Line.{IsRow, AddsRow, WritesWhat};
 ghost use Rattle.pdbdump_rows.specs.Lines.{row_text};
 ghost use Rattle.pdbdump_tables.specs.Identity.{IsIdentity};
 
-use crate::identity::{KEY, key_text};
+use crate::identity::{KEY, key_bytes};
 use pdb_base::{Error, RawString};
-use pdb_identity::{CodeView, Identity};
+use pdb_file::{CodeView, Identity};
 use pdb_output::Output;
 use pdbdump_rows::{Form, Line, Value, push_text, write_line};
 use std::alloc::{AllocError, Global};
@@ -37,36 +37,35 @@ fn match_text(alloc: Global, pair: &Pair<'_>) -> Result<Vec<u8>, AllocError> {
         push_text(Form::Text, pair.image_path.as_bytes(), &mut text)?;
     } else {
         text.extend_from_slice(b": has key ")?;
-        text.extend_from_slice(key_text(alloc, pair.identity.key())?.as_bytes())?;
+        text.extend_from_slice(&key_bytes(alloc, pair.identity.key())?)?;
         text.extend_from_slice(b", but ")?;
         push_text(Form::Text, pair.image_path.as_bytes(), &mut text)?;
         text.extend_from_slice(b" names key ")?;
-        text.extend_from_slice(key_text(alloc, pair.image.key())?.as_bytes())?;
+        text.extend_from_slice(&key_bytes(alloc, pair.image.key())?)?;
     }
     text.push(b'\n')?;
     Ok(text)
 }
 
-/// Adds the fields of whether the database belongs to the image, with the texts of both keys.
-fn show_match(line: &mut Line, pair: &Pair<'_>, key: &str, image_key: &str)
+/// Adds the fields of whether the database belongs to the image, with both keys.
+fn show_match(alloc: Global, line: &mut Line, pair: &Pair<'_>)
     ensures { AddsRow [] line.old line.new }
 {
     line.field("file", Value::Text(RawString::from(pair.path)));
     line.field("image", Value::Text(RawString::from(pair.image_path)));
     line.field("belongs", Value::Flag(pair.image.is_of(pair.identity)));
-    line.field(KEY, Value::Text(RawString::from(key)));
-    line.field("image_key", Value::Text(RawString::from(image_key)));
+    line.made_text(KEY, key_bytes(alloc, pair.identity.key()));
+    line.made_text("image_key", key_bytes(alloc, pair.image.key()));
 }
 
 /// Writes whether the database belongs to the image as an object of JSON.
+#[tactic(auto, using(pdbdump_rows::proofs::lemmas::Line::showing))]
 fn write_object<W: Write>(alloc: Global, pair: &Pair<'_>, out: &mut Output<W>) -> Result<(), Error>
     ensures { WritesWhat (IsRow (row_text Form.Json) []) out.old out.new result }
 {
-    let key = key_text(alloc, pair.identity.key())?;
-    let image_key = key_text(alloc, pair.image.key())?;
     let mut line = Line::new(alloc);
     line.begin(Form::Json);
-    show_match(&mut line, pair, &key, &image_key);
+    show_match(alloc, &mut line, pair);
     write_line(&mut line, out)
 }
 

@@ -27,7 +27,7 @@ fn next_place(place: u32, size: usize) -> Option<u32>
 fn show_name(line: &mut Line, place: u32, name: RawString<'_>)
     ensures { AddsRow (placed_at place) line.old line.new }
 {
-    line.front("offset", Value::Hexadecimal(place));
+    line.field("offset", Value::Hexadecimal(place));
     line.field("name", Value::Text(name));
 }
 

@@ -22,7 +22,7 @@ use std::io::Write;
 fn show_role(line: &mut Line, role: &'static str, number: Option<u32>)
     ensures { AddsRow (role_shown role.now) line.old line.new }
 {
-    line.front("role", Value::Word(role));
+    line.field("role", Value::Word(role));
     line.field("stream", optional_number(number));
 }
 

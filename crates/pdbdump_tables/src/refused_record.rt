@@ -35,7 +35,7 @@ pub struct ItemPlace {
 pub(crate) fn show_refused(line: &mut Line, index: u32, leaf: u16, place: ItemPlace, fault: &Error)
     ensures { AddsRow (indexed index) line.old line.new }
 {
-    line.front("index", Value::Hexadecimal(index));
+    line.field("index", Value::Hexadecimal(index));
     line.field("kind", Value::Kind(leaf));
     show_error(line, fault);
     line.fields(&[

@@ -1,6 +1,6 @@
 //! The names of streams, as a summary shows them.
 
-ghost use Rattle.std.specs.Prelude.{◌≡◌, ◌+◌, ◌≤◌, length, min, IfSome, map, take, vec_len, IfOk};
+ghost use Rattle.std.specs.Prelude.{◌≡◌, ◌+◌, ◌≤◌, length, IfSome, IfOk};
 
 use pdb_base::RawString;
 use pdb_file::StreamName;

@@ -73,8 +73,33 @@ fn show_name(alloc: Global, line: &mut Line, name: ShownName<'_>)
     }
 }
 
-/// Writes the line of a stream: its number, its size in bytes, how many pages hold it, its role and
+/// Adds the fields of a stream: its number, its size in bytes, how many pages hold it, its role and
 /// its name.
+fn show_stream(
+    alloc: Global,
+    line: &mut Line,
+    known: &mut Known<'_>,
+    page_size: u32,
+    number: u32,
+    size: u32,
+)
+    ensures { AddsRow [] line.old line.new }
+{
+    line.fields(&[
+        ("stream", Value::Number(number as u64)),
+        ("bytes", Value::Number(size as u64)),
+        ("pages", pages_held(page_size, size)),
+        (
+            "role",
+            optional_word(role_of(&known.roles, &known.headers, number)),
+        ),
+    ]);
+    if let Some(name) = known.names.show(number) {
+        show_name(alloc, line, name);
+    }
+}
+
+/// Writes the line of a stream.
 fn write_size<W: Write>(
     rows: &mut Rows<'_, W>,
     known: &mut Known<'_>,
@@ -86,18 +111,7 @@ fn write_size<W: Write>(
 {
     let alloc = rows.alloc();
     rows.begin();
-    rows.sheet.line.fields(&[
-        ("stream", Value::Number(number as u64)),
-        ("bytes", Value::Number(size as u64)),
-        ("pages", pages_held(page_size, size)),
-        (
-            "role",
-            optional_word(role_of(&known.roles, &known.headers, number)),
-        ),
-    ]);
-    if let Some(name) = known.names.show(number) {
-        show_name(alloc, &mut rows.sheet.line, name);
-    }
+    show_stream(alloc, &mut rows.sheet.line, known, page_size, number, size);
     rows.end();
 }
 

@@ -1,15 +1,15 @@
 //! Small files, tables and lists, of which each breaks one relation. The bytes are written by hand.
 
 use pdb_base::{Stream, TypeIndex};
-use pdb_consistency::{
-    Extent, Inconsistency, Mismatch, check_buckets, check_debug_header, check_globals,
-    check_hashes, check_modules, check_pages, check_publics, check_section_order, check_symbols,
-    check_type_records,
-};
 use pdb_file::section_headers::section_headers;
 use pdb_fixtures::{file_of, stream_of, with_bytes};
 use pdb_msf::{CountedSource, Layout};
 use pdb_tpi::{OpenTable, TypeInformation};
+use pdb_validation::{
+    Extent, Inconsistency, Mismatch, check_buckets, check_debug_header, check_globals,
+    check_hashes, check_modules, check_pages, check_publics, check_records, check_section_order,
+    check_symbols,
+};
 use std::alloc::Global;
 use std::process::Abort;
 
@@ -182,7 +182,7 @@ fn record_mismatches(
     extent: Extent,
 ) -> Vec<Mismatch> {
     let types = types(rt, alloc, bytes);
-    check_type_records(alloc, &types, 2, extent).expect(rt, "memory")
+    check_records(alloc, &types, 0, extent).expect(rt, "memory")
 }
 
 /// Returns what is inconsistent between the table of types, which is open up to its last record,

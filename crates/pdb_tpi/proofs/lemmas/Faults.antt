@@ -1,6 +1,6 @@
 -- The answers for a table, an item, a type and an id follow their rules.
-use Rattle.std.proofs.Common.{◌≡◌, ◌≢◌, ◌⊎◌, inl, inr, ℕ, ◌+◌, ◌-◌, ◌<◌, ◌≤◌, true, eqb, leb, List, [], ◌∷◌}
-use Rattle.std.proofs.Common.{length, take, drop, refl, sym, ap, ◌∙◌, subst, arith, Option, Some, Ok, Err}
+use Rattle.std.proofs.Common.{◌≡◌, ◌≢◌, inl, inr, ℕ, ◌+◌, ◌-◌, ◌<◌, ◌≤◌, true, eqb, leb, List, [], ◌∷◌, length, take}
+use Rattle.std.proofs.Common.{drop, refl, sym, ap, ◌∙◌, subst, arith, Option, Ok, Err}
 use Rattle.std.specs.Prelude.{codes}
 use Rattle.std.specs.List.{slice_get}
 use Rattle.std.proofs.lemmas.Bool.{cases_lt, eq-eqb, eqb-false, eqb-true, le-leb, le-ltb, leb-false, leb-true, lt-leb}
@@ -9,20 +9,18 @@ use Rattle.std.proofs.lemmas.List.{length-drop, length-take-le}
 use Rattle.std.proofs.lemmas.Option.{slice_get_within}
 use Rattle.pdb_base.specs.declared.index.TypeIndex.{TypeIndex}
 use Rattle.pdb_base.specs.Endian.{little_number}
-use Rattle.pdb_base.specs.Refusal.{Refusal, unexpected_eof, invalid_type_information_header}
-use Rattle.pdb_base.specs.Refusal.{type_not_found, unimplemented_type_kind}
+use Rattle.pdb_base.specs.Refusal.{Refusal, unexpected_eof, invalid_type_information_header, unimplemented_type_kind}
 use Rattle.pdb_base.specs.Answer.{Answer, ◌>>=◌, ok_if}
 use Rattle.pdb_base.specs.Rules.{◌⇒◌, FirstRefuses, FollowsRules}
-use Rattle.pdb_base.proofs.lemmas.Collected.{ok, err, ok_is, err_is, ok_is_no_err, answer_cases, bind_err, bind_ok}
+use Rattle.pdb_base.proofs.lemmas.Collected.{ok, err, ok_is, err_is, ok_is_no_err, answer_cases, bind_ok}
 use Rattle.pdb_base.proofs.lemmas.Collected.{required_holds}
 use Rattle.pdb_base.proofs.lemmas.Rules.{follows_ok, follows_fails, follows_kept, follows_refused, follows_passed}
 use Rattle.pdb_base.proofs.lemmas.Rules.{follows_found, follows_next, follows_map, follows_if, follows_last}
 use Rattle.pdb_base.proofs.lemmas.Rules.{follows_as_one, follows_assigned, follows_restated}
-use Rattle.pdb_values.specs.Primitive.{first_record, primitive_type}
+use Rattle.pdb_values.specs.Primitive.{first_record}
 use Rattle.pdb_values.specs.TypeValue.{TypeValue, Fields, field_list, values_in}
 use Rattle.pdb_values.specs.TypeValue as values
 use Rattle.pdb_values.specs.TypeView.{primitive_of}
-use Rattle.pdb_values.proofs.PrimitiveLemmas.{is_refused_by_index}
 use Rattle.pdb_records.specs.Agreement.{Agrees}
 use Rattle.pdb_records.specs.Fields.{field_list_leaf, record_at, type_record}
 use Rattle.pdb_records.specs.Grammar.{IsRecord, NoRecord}
@@ -35,18 +33,18 @@ use Rattle.pdb_tpi.specs.Walk.{IsWalk, fault_of}
 use Rattle.pdb_tpi.specs.Steps.{room, body, walk, walk_rest, nth_item}
 use Rattle.pdb_tpi.specs.Finder.{item_of}
 use Rattle.pdb_tpi.specs.Record.{kind_of, type_of, id_of}
-use Rattle.pdb_tpi.specs.Chain.{ContinuedList, as_field_list, list_of, not_below, Lead, IsChain, GoesUp, Breaks}
-use Rattle.pdb_tpi.specs.Chain.{fields_of}
+use Rattle.pdb_tpi.specs.Chain.{ContinuedList, as_field_list, list_of, Lead, IsChain, Breaks, fields_of}
 use Rattle.pdb_tpi.specs.Laws.{AreBytes}
-use Rattle.pdb_tpi.specs.Faults.{table_header_at, table_in, table_rules, IsInWalk, IsItemOf, rest_rules}
-use Rattle.pdb_tpi.specs.Faults.{StopsBefore, item_rules, IsTypeOf, type_rules, IsIdOf, id_rules}
-use Rattle.pdb_tpi.specs.Faults.{IsListOf, list_rules, LeadTo, AreChained, ChainBreaks, AreFieldsOf}
+use Rattle.pdb_tpi.specs.Faults.{table_header_at, table_in, table_rules, IsInWalk, IsItemOf, rest_rules, StopsBefore}
+use Rattle.pdb_tpi.specs.Faults.{item_rules, IsTypeOf, type_rules, IsIdOf, id_rules, IsListOf, list_rules, LeadTo}
+use Rattle.pdb_tpi.specs.Faults.{AreChained, ChainBreaks, AreFieldsOf}
 use Rattle.pdb_tpi.proofs.ChainLemmas.{chain_answer}
 use Rattle.pdb_tpi.proofs.FrontLemmas.{IsPrefix, item_front}
 use Rattle.pdb_tpi.proofs.WalkLemmas.{fault_whole, nth_some}
 use Rattle.pdb_tpi.proofs.StepLemmas.{nth_ok, nth_err}
 use Rattle.pdb_tpi.proofs.HeaderLemmas.{fields_stand}
 use Rattle.pdb_tpi.proofs.HeaderFaults.{too_short}
+use Rattle.pdb_tpi.proofs.RecordLemmas.{refused_by_index}
 use Rattle.pdb_tpi.proofs.LawLemmas.{bytes_dropped, walks_once, table_walk, has_fault}
 
 -- ---- the table
@@ -65,30 +63,23 @@ check_follows : (bytes : List ℕ) (header : Header) → FollowsRules (
     ) (λ x. x ≡ tt) (check_header header (length bytes))
 unfolding check_header
 check_follows bytes header =
-    let size = header.header_size in
-    let minimum = header.minimum_index in
-    follows_if _ (leb 56 size) _ _ (λ x. x ≡ tt) _ (within 56 size) (leb-false 56 size) (λ _.
-    follows_if _ (leb size 1024) _ _ (λ x. x ≡ tt) _ (within size 1024) (leb-false size 1024) (λ _.
-    follows_if _ (leb size (length bytes)) _ _ (λ x. x ≡ tt) _ (within size (length bytes))
-    (leb-false size (length bytes)) (λ _.
-    follows_if _ (leb 4096 minimum) _ _ (λ x. x ≡ tt) _ (within 4096 minimum) (leb-false 4096 minimum) (λ _.
-    follows_last _ (leb minimum header.maximum_index) _ (within minimum header.maximum_index)
-    (leb-false minimum header.maximum_index)))))
+    follows_if _ (leb 56 header.header_size) _ _ _ _ (within 56 _) (leb-false 56 _) (λ _.
+    follows_if _ (leb header.header_size 1024) _ _ _ _ (within _ 1024) (leb-false _ 1024) (λ _.
+    follows_if _ (leb header.header_size (length bytes)) _ _ _ _ (within _ (length bytes))
+    (leb-false _ (length bytes)) (λ _.
+    follows_if _ (leb 4096 header.minimum_index) _ _ _ _ (within 4096 _) (leb-false 4096 _) (λ _.
+    follows_last _ (leb header.minimum_index header.maximum_index) _ (within _ header.maximum_index)
+    (leb-false _ header.maximum_index)))))
 
-header_follows : (byte : ℕ) (bytes : List ℕ)
-    → FollowsRules (table_rules (byte ∷ bytes)) (λ header. header ≡ table_header_at (byte ∷ bytes)) (header_of (byte
-    ∷ bytes))
-header_follows byte bytes =
-    let all = byte ∷ bytes in
-    elim (cases_lt (length (byte ∷ bytes)) 56) [
-      | inl short ↦ rw (too_short (byte ∷ bytes) (omega arith) short)
-          (follows_fails _ _ _ (λ header. header ≡ table_header_at (byte ∷ bytes)) short)
-      | inr long ↦ follows_kept _ _ _ (λ header. header ≡ table_header_at (byte ∷ bytes)) (header_of (byte ∷ bytes))
-          (λ short. omega arith) (unfold header_of in unfold read_header_of in rw (fields_stand (byte ∷ bytes) long)
-          (follows_next _ [] tt (λ header. header ≡ table_header_at (byte ∷ bytes)) _ _
-          (check_follows (byte ∷ bytes) (table_header_at (byte ∷ bytes)))
-          (follows_ok (table_header_at (byte ∷ bytes)))))
-    ]
+header_follows : (byte : ℕ) (bytes : List ℕ) → FollowsRules (table_rules (byte ∷ bytes))
+    (λ header. header ≡ table_header_at (byte ∷ bytes)) (header_of (byte ∷ bytes))
+header_follows byte bytes = elim (cases_lt (length (byte ∷ bytes)) 56) [
+  | inl short ↦ rw (too_short (byte ∷ bytes) (omega arith) short) (follows_fails _ _ _ _ short)
+  | inr long ↦ follows_kept _ _ _ _ _ (λ short. omega arith)
+      (unfold header_of in unfold read_header_of in rw (fields_stand (byte ∷ bytes) long)
+      (follows_next _ [] tt _ _ _ (check_follows (byte ∷ bytes) (table_header_at (byte ∷ bytes)))
+      (follows_ok (table_header_at (byte ∷ bytes)))))
+]
 
 pub table_follows : (bytes : List ℕ)
     → FollowsRules (table_rules bytes) (λ table. table ≡ table_in bytes) (table_of bytes)
@@ -101,18 +92,17 @@ table_follows (byte ∷ bytes) =
 
 -- ---- an item
 
-rest_follows : (bytes : List ℕ) → FollowsRules (rest_rules bytes) (λ (x : Unit {0}). ⊥) (err (fault_of bytes))
+pub rest_follows : (bytes : List ℕ) → FollowsRules (rest_rules bytes) (λ (x : Unit {0}). ⊥) (err (fault_of bytes))
 rest_follows bytes =
-    let len = little_number 2 (take 2 bytes) in
     let faults = has_fault bytes in
     elim (cases_lt (length bytes) 2) [
-      | inl short ↦ rw (faults.no_length short) (follows_fails _ _ _ (λ (x : Unit {0}). ⊥) short)
-      | inr long ↦ follows_kept _ _ _ (λ (x : Unit {0}). ⊥) _ (λ short. omega arith)
+      | inl short ↦ rw (faults.no_length short) (follows_fails _ _ _ _ short)
+      | inr long ↦ follows_kept _ _ _ _ _ (λ short. omega arith)
           (elim (cases_lt (little_number 2 (take 2 bytes)) 2) [
-            | inl few ↦ rw (faults.too_short long few) (follows_fails _ _ _ (λ (x : Unit {0}). ⊥) few)
-            | inr some ↦ follows_kept _ _ _ (λ (x : Unit {0}). ⊥) _ (λ few. omega arith)
+            | inl few ↦ rw (faults.too_short long few) (follows_fails _ _ _ _ few)
+            | inr some ↦ follows_kept _ _ _ _ _ (λ few. omega arith)
                 (elim (cases_lt (length bytes) (2 + little_number 2 (take 2 bytes))) [
-                  | inl cut ↦ rw (faults.cut some cut) (follows_fails _ _ _ (λ (x : Unit {0}). ⊥) cut)
+                  | inl cut ↦ rw (faults.cut some cut) (follows_fails _ _ _ _ cut)
                   | inr whole ↦
                       let item = take (little_number 2 (take 2 bytes)) (drop 2 bytes) in
                       let size : length item ≡ little_number 2 (take 2 bytes) =
@@ -124,9 +114,9 @@ rest_follows bytes =
                         word = sym size;
                         is = ap (λ (n : ℕ). take n (drop 2 bytes)) (sym size);
                       } in
-                      follows_kept _ _ _ (λ (x : Unit {0}). ⊥) _ (λ cut. omega arith)
+                      follows_kept _ _ _ _ _ (λ cut. omega arith)
                       (rw (fault_whole bytes item (item_front bytes item front))
-                      (follows_fails (Unit {0}) _ [] (λ (x : Unit {0}). ⊥) tt))
+                      (follows_fails (Unit {0}) _ [] _ tt))
                 ])
           ])
     ]
@@ -207,8 +197,6 @@ pub item_follows : (table : Table) (index : ℕ) → AreBytes table.bytes
     → FollowsRules (item_rules table index) (IsItemOf table index) (item_of table index)
 unfolding item_of
 item_follows table index fits =
-    let minimum = table.header.minimum_index in
-    let maximum = table.header.maximum_index in
     elim (cases_lt index table.header.minimum_index) [
       | inl under ↦ rw (lt-ltb index table.header.minimum_index under)
           (follows_kept _ _ _ (IsItemOf table index) _ (λ past. let above = past.0 in omega arith)
@@ -235,29 +223,20 @@ agreed : {A : Type 0} (read : List ℕ → Answer (A × List ℕ)) (Is : List �
     (No : List ℕ → Refusal → Type 0) → Agrees read Is No → (bytes : List ℕ)
     → FollowsRules (No bytes ∷ []) (λ value. (rest : List ℕ) × Is bytes value rest) (read bytes >>= λ x. Ok x.0)
 agreed {A} read Is No agrees bytes = elim (answer_cases (read bytes)) [
-  | inl there ↦
-      let value = there.0.0 in
-      rw there.1 (follows_passed (No bytes) [] (λ value. (rest : List ℕ) × Is bytes value rest) (ok there.0.0)
+  | inl there ↦ rw there.1 (follows_passed (No bytes) [] _ (ok there.0.0)
       (λ e bad. ok_is_no_err there.0 e (sym there.1 ∙ agrees.fails bytes e bad))
-      (follows_found (λ value. (rest : List ℕ) × Is bytes value rest) (ok there.0.0) there.0.0 refl
+      (follows_found _ (ok there.0.0) there.0.0 refl
       (λ x e. subst (λ (v : A). (rest : List ℕ) × Is bytes v rest) (ok_is there.0.0 x e)
       (there.0.1, agrees.found bytes there.0.0 there.0.1 there.1))
       (λ x is. ap (λ (v : A). ok v) (ap (λ (p : A × List ℕ). p.0)
       (ok_is there.0 (x, is.0) (sym there.1 ∙ agrees.only bytes x is.0 is.1))))))
-  | inr refused ↦
-      rw refused.1 (follows_refused (No bytes) refused.0 (λ value. (rest : List ℕ) × Is bytes value rest)
-      (agrees.failed bytes refused.0 refused.1)
+  | inr refused ↦ rw refused.1 (follows_refused (No bytes) refused.0 _ (agrees.failed bytes refused.0 refused.1)
       (λ e bad. err_is {A = A × List ℕ} e refused.0 (sym (agrees.fails bytes e bad) ∙ refused.1)))
 ]
 
 pub id_follows : (item : List ℕ) → FollowsRules (id_rules item) (IsIdOf item) (id_of item)
 unfolding id_of id_record
 id_follows item = agreed id_at IsId NoId ids_agree item
-
-refused_by_index : (index : ℕ) (e : Refusal) → primitive_of index ≡ Err e → e ≡ type_not_found index
-unfolding primitive_of
-refused_by_index index e h = is_refused_by_index index e
-    (bind_err (primitive_type index) (λ type. values.plain (values.primitive type)) e h)
 
 primitive_follows : (index : ℕ) (item : List ℕ) → index < first_record
     → FollowsRules (type_rules index item) (IsTypeOf index item) (primitive_of index)
@@ -268,11 +247,7 @@ primitive_follows index item below = elim (answer_cases (primitive_of index)) [
       (λ value is. elim is [ inl primitive ↦ primitive.1 | inr above ↦ absurd (let bad = above.0 in omega arith) ])))
   | inr refused ↦
       let named = refused_by_index index refused.0 refused.1 in
-      let is : primitive_of index ≡ err (type_not_found index) =
-      refused.1 ∙ ap (λ (e : Refusal). err {A = TypeValue} e) named in
-      subst (λ (answer : Answer TypeValue). FollowsRules (type_rules index item) (IsTypeOf index item) answer) (sym is)
-      (follows_fails _ _ _ (IsTypeOf index item)
-      (below, λ value there. ok_is_no_err value (type_not_found index) (sym there ∙ is)))
+      rw (refused.1, named) (follows_fails _ _ _ _ (below, λ value there. cc))
 ]
 
 record_follows : (index : ℕ) (item : List ℕ) → first_record ≤ index
@@ -332,44 +307,30 @@ said_list kind value list (fields, is, listed) =
     ∙ ap (λ (all : List TypeValue). ok
     (let said : ContinuedList = record { fields = all; continuation = list.continuation } in said)) (sym listed)
 
-one_fields : (fields other : Fields) (next also : Option TypeIndex) → field_list fields next ≡ field_list other also
-    → (fields ≡ other) × (next ≡ also)
-one_fields fields other next also is = (cc, cc)
-
-listed_follows : (kind : ℕ) (fields : Fields) (next : Option TypeIndex)
-    → FollowsRules (
-    (((others : Fields) (continuation : Option TypeIndex) → field_list fields next ≢ field_list others continuation)
+-- a type is a list of fields, or is refused with its kind
+abbrev FollowsList : ℕ → TypeValue → Type 0
+FollowsList kind value = FollowsRules (
+    (((others : Fields) (continuation : Option TypeIndex) → value ≢ field_list others continuation)
     ⇒ unimplemented_type_kind kind)
     ∷ []
-    ) (SaysList (field_list fields next)) (as_field_list kind (field_list fields next))
-listed_follows kind fields next =
+    ) (SaysList value) (as_field_list kind value)
+
+unlisted : (kind : ℕ) (value : TypeValue) → ((others : Fields) (continuation : Option TypeIndex)
+    → value ≢ field_list others continuation) → as_field_list kind value ≡ Err (unimplemented_type_kind kind)
+    → FollowsList kind value
+unlisted kind value none is = rw is (follows_fails _ _ [] (SaysList value) none)
+
+as_list_follows : (kind : ℕ) (value : TypeValue) → FollowsList kind value
+as_list_follows kind (field_list fields next) =
     let list : ContinuedList = record { fields = values_in fields; continuation = next } in
     follows_kept _ _ [] (SaysList (field_list fields next)) _ (λ none. none fields next refl)
     (follows_found (SaysList (field_list fields next)) (ok list) list refl
     (λ x e. subst (λ (l : ContinuedList). SaysList (field_list fields next) l) (ok_is list x e) (fields, refl, refl))
     (λ x is. said_list kind (field_list fields next) x is))
-
-unlisted : (kind : ℕ) (value : TypeValue) → ((others : Fields) (continuation : Option TypeIndex)
-    → value ≢ field_list others continuation) → as_field_list kind value ≡ Err (unimplemented_type_kind kind)
-    → FollowsRules (
-    (((others : Fields) (continuation : Option TypeIndex) → value ≢ field_list others continuation)
-    ⇒ unimplemented_type_kind kind)
-    ∷ []
-    ) (SaysList value) (as_field_list kind value)
-unlisted kind value none is = rw is (follows_fails _ _ [] (SaysList value) none)
-
-as_list_follows : (kind : ℕ) (value : TypeValue)
-    → FollowsRules (
-    (((others : Fields) (continuation : Option TypeIndex) → value ≢ field_list others continuation)
-    ⇒ unimplemented_type_kind kind)
-    ∷ []
-    ) (SaysList value) (as_field_list kind value)
-as_list_follows kind (field_list fields next) = listed_follows kind fields next
-as_list_follows kind (values.plain value) = unlisted kind (values.plain value) (λ fields next is. cc) refl
-as_list_follows kind (values.array value) = unlisted kind (values.array value) (λ fields next is. cc) refl
-as_list_follows kind (values.argument_list list) =
-    unlisted kind (values.argument_list list) (λ fields next is. cc) refl
-as_list_follows kind (values.method_list list) = unlisted kind (values.method_list list) (λ fields next is. cc) refl
+as_list_follows kind (values.plain value) = unlisted kind _ (λ fields next is. cc) refl
+as_list_follows kind (values.array value) = unlisted kind _ (λ fields next is. cc) refl
+as_list_follows kind (values.argument_list list) = unlisted kind _ (λ fields next is. cc) refl
+as_list_follows kind (values.method_list list) = unlisted kind _ (λ fields next is. cc) refl
 
 list_only : (table : Table) (index : ℕ) (list : ContinuedList) → AreBytes table.bytes → IsListOf table index list
     → list_of (item_of table) index ≡ Ok list
@@ -422,77 +383,68 @@ list_follows table index fits =
 
 -- ---- chains
 
-lead_of : (table : Table) (from : ℕ) (lists : List ContinuedList) (to : ℕ) → AreBytes table.bytes
-    → LeadTo table from lists to → Lead (item_of table) from lists to
-lead_of table from [] to fits lead = lead
-lead_of table from (list ∷ lists) to fits (is, (next, goes_on, below, lead)) =
-    (list_only table from list fits is, (next, goes_on, below, lead_of table next.0 lists to fits lead))
+module _ (table : Table) (fits : AreBytes table.bytes) where
+  lead_of : (from : ℕ) (lists : List ContinuedList) (to : ℕ) → LeadTo table from lists to
+      → Lead (item_of table) from lists to
+  lead_of from [] to lead = lead
+  lead_of from (list ∷ lists) to (is, (next, goes_on, below, lead)) =
+      (list_only table from list fits is, (next, goes_on, below, lead_of next.0 lists to lead))
 
-lead_in : (table : Table) (from : ℕ) (lists : List ContinuedList) (to : ℕ) → AreBytes table.bytes
-    → Lead (item_of table) from lists to → LeadTo table from lists to
-lead_in table from [] to fits lead = lead
-lead_in table from (list ∷ lists) to fits (is, (next, goes_on, below, lead)) =
-    (list_found table from list fits is, (next, goes_on, below, lead_in table next.0 lists to fits lead))
+  lead_in : (from : ℕ) (lists : List ContinuedList) (to : ℕ) → Lead (item_of table) from lists to
+      → LeadTo table from lists to
+  lead_in from [] to lead = lead
+  lead_in from (list ∷ lists) to (is, (next, goes_on, below, lead)) =
+      (list_found table from list fits is, (next, goes_on, below, lead_in next.0 lists to lead))
 
-chain_of : (table : Table) (index : ℕ) (lists : List ContinuedList) → AreBytes table.bytes
-    → AreChained table index lists → IsChain (item_of table) index lists
-chain_of table index lists fits (before, at, last, are, lead, is, ends) = record {
-  before = before;
-  at = at;
-  last = last;
-  are = are;
-  lead = lead_of table index before at fits lead;
-  is_last = list_only table at last fits is;
-  ends = ends;
-}
+  chain_of : (index : ℕ) (lists : List ContinuedList) → AreChained table index lists
+      → IsChain (item_of table) index lists
+  chain_of index lists (before, at, last, are, lead, is, ends) = record {
+    before = before;
+    at = at;
+    last = last;
+    are = are;
+    lead = lead_of index before at lead;
+    is_last = list_only table at last fits is;
+    ends = ends;
+  }
 
-chain_in : (table : Table) (index : ℕ) (lists : List ContinuedList) → AreBytes table.bytes
-    → IsChain (item_of table) index lists → AreChained table index lists
-chain_in table index lists fits chain = (
-  chain.before,
-  chain.at,
-  chain.last,
-  chain.are,
-  lead_in table index chain.before chain.at fits chain.lead,
-  list_found table chain.at chain.last fits chain.is_last,
-  chain.ends,
-)
+  chain_in : (index : ℕ) (lists : List ContinuedList) → IsChain (item_of table) index lists
+      → AreChained table index lists
+  chain_in index lists chain = (
+    chain.before,
+    chain.at,
+    chain.last,
+    chain.are,
+    lead_in index chain.before chain.at chain.lead,
+    list_found table chain.at chain.last fits chain.is_last,
+    chain.ends,
+  )
 
-breaks_of : (table : Table) (index : ℕ) (e : Refusal) → AreBytes table.bytes → ChainBreaks table index e
-    → Breaks (item_of table) index e
-breaks_of table index e fits (before, at, lead, inl refused) = record {
-  before = before;
-  at = at;
-  lead = lead_of table index before at fits lead;
-  why = inl (((list_follows table at fits).refused e).1 refused);
-}
-breaks_of table index e fits (before, at, lead, inr (list, next, is, goes_on, above, named)) = record {
-  before = before;
-  at = at;
-  lead = lead_of table index before at fits lead;
-  why = inr (
-    record { list = list; next = next; is = list_only table at list fits is; goes_on = goes_on; above = above },
-    named,
-  );
-}
+  breaks_of : (index : ℕ) (e : Refusal) → ChainBreaks table index e → Breaks (item_of table) index e
+  breaks_of index e (before, at, lead, why) = record {
+    before = before;
+    at = at;
+    lead = lead_of index before at lead;
+    why = elim why [
+      | inl refused ↦ inl (((list_follows table at fits).refused e).1 refused)
+      | inr (list, next, is, goes_on, above, named) ↦ inr (
+        record { list = list; next = next; is = list_only table at list fits is; goes_on = goes_on; above = above },
+        named,
+      )
+    ];
+  }
 
-why_in : (table : Table) (at : ℕ) (e : Refusal) → AreBytes table.bytes
-    → (list_of (item_of table) at ≡ Err e) ⊎ (GoesUp (item_of table) at × (e ≡ not_below))
-    → FirstRefuses (list_rules table at) e
-    ⊎ ((list : ContinuedList) × (next : TypeIndex) × IsListOf table at list × (list.continuation ≡ Some next)
-    × (at ≤ next.0) × (e ≡ not_below))
-why_in table at e fits (inl refused) = inl (((list_follows table at fits).refused e).0 refused)
-why_in table at e fits (inr (up, named)) =
-    inr (up.list, up.next, list_found table at up.list fits up.is, up.goes_on, up.above, named)
-
-breaks_in : (table : Table) (index : ℕ) (e : Refusal) → AreBytes table.bytes → Breaks (item_of table) index e
-    → ChainBreaks table index e
-breaks_in table index e fits breaks = (
-  breaks.before,
-  breaks.at,
-  lead_in table index breaks.before breaks.at fits breaks.lead,
-  why_in table breaks.at e fits breaks.why,
-)
+  breaks_in : (index : ℕ) (e : Refusal) → Breaks (item_of table) index e → ChainBreaks table index e
+  breaks_in index e breaks = (
+    breaks.before,
+    breaks.at,
+    lead_in index breaks.before breaks.at breaks.lead,
+    elim breaks.why [
+      | inl refused ↦ inl (((list_follows table breaks.at fits).refused e).0 refused)
+      | inr (up, named) ↦
+          inr (up.list, up.next, list_found table breaks.at up.list fits up.is, up.goes_on, up.above, named)
+    ],
+  )
 
 pub fields_follow : (table : Table) (index : ℕ) → AreBytes table.bytes
     → FollowsRules (ChainBreaks table index ∷ []) (AreFieldsOf table index) (fields_of (item_of table) index)
@@ -500,18 +452,18 @@ fields_follow table index fits =
     let chains = chain_answer (item_of table) index in
     record {
       refused = λ e. (
-        λ h. inl (breaks_in table index e fits (chains.broken e h)),
+        λ h. inl (breaks_in table fits index e (chains.broken e h)),
         λ h. elim h [
-          | inl breaks ↦ chains.refused e (breaks_of table index e fits breaks)
+          | inl breaks ↦ chains.refused e (breaks_of table fits index e breaks)
           | inr later ↦ absurd later.1
         ],
       );
       value = λ fields. (
         λ h. let chain = chains.chained fields h in (
-          ((λ e breaks. chains.never_both chain.0 e chain.1 (breaks_of table index e fits breaks)), tt),
-          (chain.0, chain_in table index chain.0 fits chain.1, chain.2),
+          ((λ e breaks. chains.never_both chain.0 e chain.1 (breaks_of table fits index e breaks)), tt),
+          (chain.0, chain_in table fits index chain.0 chain.1, chain.2),
         ),
-        λ both. let chain = both.1 in chains.joined chain.0 (chain_of table index chain.0 fits chain.1)
+        λ both. let chain = both.1 in chains.joined chain.0 (chain_of table fits index chain.0 chain.1)
             ∙ ap (λ (all : List TypeValue). ok all) (sym chain.2),
       );
     }

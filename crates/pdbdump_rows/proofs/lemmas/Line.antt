@@ -1,11 +1,12 @@
 -- A line that is written field by field is the one line of its fields.
 use Rattle.std.proofs.Common.{◌≡◌, ℕ, Bool, true, false, List, [], ◌∷◌, ◌++◌, codes, refl, ap, sym, subst, Result, ◌∙◌}
-use Rattle.std.proofs.Common.{Ok, Err, ⊎_elim, append_assoc, IsTrue, true≢false}
+use Rattle.std.proofs.Common.{Ok, Err, ⊎_elim, append_assoc, IsTrue, true≢false, ◌+◌, ◌<◌, length, take, map}
+use Rattle.std.proofs.Common.{get_or, Bor}
 use Rattle.std.specs.Result.{IsErr, IsErrAnd}
 use Rattle.std.specs.declared.alloc.AllocError.{AllocError}
 use Rattle.std.specs.List.{filter, flat_map}
 use Rattle.std.proofs.lemmas.Bool.{cond-true, cond-false, cases_Bool}
-use Rattle.std.proofs.lemmas.List.{append-nil}
+use Rattle.std.proofs.lemmas.List.{append-nil, map-append, take_more}
 use Rattle.pdb_base.specs.declared.error.Error.{Error}
 use Rattle.pdb_base.specs.declared.error.Error.TheVariants.{OutOfMemory}
 use Rattle.pdb_output.proofs.lemmas.Written.{lacks_all}
@@ -13,11 +14,12 @@ use Rattle.pdb_output.specs.Output.{OutputState, Writes}
 use Rattle.pdbdump_rows.specs.declared.form.Form.{Form}
 use Rattle.pdbdump_rows.specs.declared.form.Form.TheVariants.{Text, Json}
 use Rattle.pdbdump_rows.specs.Line.{AddsText, EndsLine, EndsRow, IsLineAppended, IsLineEnded, IsLineWritten}
-use Rattle.pdbdump_rows.specs.Line.{AddsField, AddsRow, IsRow, LineState, WritesWhat}
+use Rattle.pdbdump_rows.specs.Line.{AddsFields, AddsRow, IsRow, LineState, WritesWhat}
 use Rattle.pdbdump_rows.specs.Line.{all_shown, begun, begun_full, line_bytes, ending, line_opening, add_field}
 use Rattle.pdbdump_rows.specs.Lines.{field_line, field_text, fields_text, full_text, is_shown, row_text, separate}
 use Rattle.pdbdump_rows.specs.Lines.{separator}
-use Rattle.pdbdump_rows.specs.Row.{ShownField, ShownRow}
+use Rattle.pdbdump_rows.specs.Row.{ShownField, ShownRow, field_shown}
+use Rattle.pdbdump_rows.specs.declared.value.Value.{Value}
 
 -- a line that shows a field
 abbrev after : Form → List ℕ → LineState
@@ -170,11 +172,41 @@ pub no_fields : (line : LineState) → AddsRow [] line line
 unfolding AddsRow
 no_fields line whole = record { rest = []; shown = refl }
 
--- a line with the first field alone
-pub first_field : (field : ShownField) (old now : LineState) → AddsField field old now
+-- the first field alone
+pub first_field : (field : ShownField) (old now : LineState) → AddsFields (field ∷ []) old now
     → AddsRow (field ∷ []) old now
-unfolding AddsRow
+unfolding AddsFields AddsRow
 first_field field old now is whole = record { rest = []; shown = is whole }
+
+-- some fields alone
+pub fields_alone : (row : ShownRow) (old now : LineState) → AddsFields row old now → AddsRow [] old now
+unfolding AddsFields AddsRow
+fields_alone row old now is whole = record { rest = row; shown = is whole }
+
+-- fields behind others
+fields_joined : (row more : ShownRow) (old now new : LineState) → AddsFields row old now → AddsFields more now new
+    → AddsFields (row ++ more) old new
+unfolding AddsFields
+fields_joined row more old now new before next whole =
+    next whole
+    ∙ ap (λ (line : LineState). all_shown line more) (before (was_whole now more new (next whole) whole))
+    ∙ sym (all_joined old row more)
+
+-- none yet of a list
+pub no_field : (line : LineState) → AddsFields [] line line
+unfolding AddsFields
+no_field line whole = refl
+
+-- one field more of a list
+pub field_more : (fields : List (Bor (List ℕ) × Value)) (i : ℕ) (d : Bor (List ℕ) × Value) (old now new : LineState)
+    → i < length fields → AddsFields (map field_shown (take i fields)) old now
+    → AddsFields (field_shown (get_or fields i d) ∷ []) now new
+    → AddsFields (map field_shown (take (i + 1) fields)) old new
+field_more fields i d old now new within before next =
+    subst (λ (row : ShownRow). AddsFields row old new)
+    (sym (ap (map field_shown) (take_more fields i d within)
+    ∙ map-append field_shown (take i fields) (get_or fields i d ∷ [])))
+    (fields_joined (map field_shown (take i fields)) (field_shown (get_or fields i d) ∷ []) old now new before next)
 
 -- more fields
 pub fields_more : (front : ShownRow) (old now new : LineState) → AddsRow [] now new → AddsRow front old now
@@ -188,11 +220,6 @@ fields_more front old now new more before whole =
       shown = next.shown ∙ ap (λ (line : LineState). all_shown line next.rest) first.shown
           ∙ sym (all_joined (all_shown old front) first.rest next.rest);
     }
-
--- a field alone
-pub field_alone : (field : ShownField) (old new : LineState) → AddsField field old new → AddsRow [] old new
-unfolding AddsRow
-field_alone field old new is whole = record { rest = field ∷ []; shown = is whole }
 
 -- fields, of which the first ones may be known
 pub fields_at_all : (front : ShownRow) (old new : LineState) → AddsRow front old new → AddsRow [] old new
@@ -210,61 +237,76 @@ pub ruleset adding = (no_fields, first_field, fields_more, fields_lack)
 
 -- ---- a line that has ended
 
+-- a line ends as the row of the fields that were added to it
+pub ends_row : (old new : LineState) (result : Result (Unit {0}) AllocError) → IsTrue old.is_whole
+    → EndsLine (line_bytes old) new result → IsLineEnded old new result
+unfolding AddsFields
+ends_row old new (Ok done) whole ends = record {
+  row = λ form start row adds first. ends
+      ∙ ap line_bytes (adds whole ∙ ap (λ (line : LineState). all_shown line row) first) ∙ line_is form row;
+  full = λ form start row adds first. ends
+      ∙ ap line_bytes (adds whole ∙ ap (λ (line : LineState). all_shown line row) first) ∙ full_is form row;
+}
+ends_row old new (Err e) whole ends =
+    record { row = λ form start row adds first. tt; full = λ form start row adds first. tt }
+
 -- the fields of a row, of which the first ones are known
-row_is : (front rest : ShownRow) (line start now : LineState) → line ≡ all_shown (all_shown now front) rest
-    → now ≡ start → line ≡ all_shown start (front ++ rest)
-row_is front rest line start now is same =
-    is ∙ sym (all_joined now front rest) ∙ ap (λ (first : LineState). all_shown first (front ++ rest)) same
-
--- a line with a row ends as the one line of it
-pub ends_row : (form : Form) (start : LineState) (front : ShownRow) (old new : LineState)
-    (result : Result (Unit {0}) AllocError) → IsTrue old.is_whole → AddsRow front start old → start ≡ begun form
-    → EndsLine (line_bytes old) new result → EndsRow (row_text form) front new result
-unfolding AddsRow
-ends_row form start front old new (Ok done) whole adds first ends =
-    let row = adds whole in
-    record {
-      rest = row.rest;
-      shown = ends ∙ ap line_bytes (row_is front row.rest old (begun form) start row.shown first)
-          ∙ line_is form (front ++ row.rest);
-    }
-ends_row form start front old new (Err e) whole adds first ends = tt
-
--- and in full
-pub ends_full : (form : Form) (start : LineState) (front : ShownRow) (old new : LineState)
-    (result : Result (Unit {0}) AllocError) → IsTrue old.is_whole → AddsRow front start old → start ≡ begun_full form
-    → EndsLine (line_bytes old) new result → EndsRow (full_text form) front new result
-unfolding AddsRow
-ends_full form start front old new (Ok done) whole adds first ends =
-    let row = adds whole in
-    record {
-      rest = row.rest;
-      shown = ends ∙ ap line_bytes (row_is front row.rest old (begun_full form) start row.shown first)
-          ∙ full_is form (front ++ row.rest);
-    }
-ends_full form start front old new (Err e) whole adds first ends = tt
+pub row_of : (front : ShownRow) (start line : LineState) → AddsRow front start line
+    → (rest : ShownRow) × AddsFields (front ++ rest) start line
+unfolding AddsFields AddsRow
+row_of front start line adds = ⊎_elim
+    (λ (holds : line.is_whole ≡ true).
+    ((adds holds).rest, λ whole. (adds holds).shown ∙ sym (all_joined start front (adds holds).rest)))
+    (λ (fails : line.is_whole ≡ false). ([], λ whole. absurd (true≢false (sym whole ∙ fails))))
+    (cases_Bool line.is_whole)
 
 -- ---- what a function that ends a line is proved of
+
+ends_as : (show : ShownRow → List ℕ) (front : ShownRow) (start old new : LineState)
+    (result : Result (Unit {0}) AllocError)
+    → ((row : ShownRow) → AddsFields row start old → EndsLine (show row) new result) → AddsRow front start old
+    → EndsRow show front new result
+ends_as show front start old new (Ok done) ends adds =
+    let row = row_of front start old adds in
+    record { rest = row.0; shown = ends (front ++ row.0) row.1 }
+ends_as show front start old new (Err e) ends adds = tt
 
 pub row_ended : (form : Form) (front : ShownRow) (start old new : LineState) (result : Result (Unit {0}) AllocError)
     → IsLineEnded old new result → AddsRow front start old → start ≡ begun form
     → EndsRow (row_text form) front new result
-row_ended form front start old new result is adds first = is.row form start front adds first
+row_ended form front start old new result is adds first =
+    ends_as (row_text form) front start old new result (λ row fields. is.row form start row fields first) adds
 
 pub full_ended : (form : Form) (front : ShownRow) (start old new : LineState) (result : Result (Unit {0}) AllocError)
     → IsLineEnded old new result → AddsRow front start old → start ≡ begun_full form
     → EndsRow (full_text form) front new result
-full_ended form front start old new result is adds first = is.full form start front adds first
+full_ended form front start old new result is adds first =
+    ends_as (full_text form) front start old new result (λ row fields. is.full form start row fields first) adds
 
 pub row_written : (form : Form) (front : ShownRow) (start line : LineState) (old new : OutputState)
     (result : Result (Unit {0}) Error) → IsLineWritten line old new result → AddsRow front start line
     → start ≡ begun form → WritesWhat (IsRow (row_text form) front) old new result
-row_written form front start line old new result is adds first = is.row form start front adds first
+row_written form front start line old new result is adds first =
+    let row = row_of front start line adds in
+    record {
+      text = row_text form (front ++ row.0);
+      holds = record { rest = row.0; shown = refl };
+      written = is.row form start (front ++ row.0) row.1 first;
+    }
+
+-- a text that is a row is one that begins with the first fields of it
+as_row : (show : ShownRow → List ℕ) (front rest : ShownRow) (old new : List ℕ) (result : Result (Unit {0}) Error)
+    → AddsText (λ text. text ≡ show (front ++ rest)) old new result → AddsText (IsRow show front) old new result
+as_row show front rest old new (Ok done) has =
+    record { text = has.text; holds = record { rest = rest; shown = has.holds }; added = has.added }
+as_row show front rest old new (Err e) lacks = lacks
 
 pub row_appended : (form : Form) (front : ShownRow) (start line : LineState) (old new : List ℕ)
     (result : Result (Unit {0}) Error) → IsLineAppended line old new result → AddsRow front start line
     → start ≡ begun form → AddsText (IsRow (row_text form) front) old new result
-row_appended form front start line old new result is adds first = is.row form start front adds first
+row_appended form front start line old new result is adds first =
+    let row = row_of front start line adds in
+    as_row (row_text form) front row.0 old new result (is.row form start (front ++ row.0) row.1 first)
 
 -- the line that is made of a row is written
 pub made_written : (show : ShownRow → List ℕ) (front : ShownRow) (made bytes : List ℕ) (old new : OutputState)
@@ -282,11 +324,20 @@ row_lacks show front old e want = record {
   written = lacks_all old (show (front ++ [])) e want;
 }
 
+-- the line that was made is written
+pub line_written : (line made : LineState) (bytes : List ℕ) (old new : OutputState) (result : Result (Unit {0}) Error)
+    → IsLineEnded line made (Ok tt) → bytes ≡ made.bytes → Writes bytes old new result
+    → IsLineWritten line old new result
+line_written line made bytes old new result ends is writes = record {
+  row = λ form start row adds first. subst (λ (text : List ℕ). Writes text old new result)
+      (is ∙ ends.row form start row adds first) writes;
+}
+
 -- memory ran out before the line was written
 pub line_lacks : (line : LineState) (old : OutputState) (result : Result (Unit {0}) Error)
     → IsErr result × IsErrAnd result (λ e. e ≡ OutOfMemory) → IsLineWritten line old old result
 line_lacks line old (Ok done) lacks = absurd cc
 line_lacks line old (Err e) lacks =
-    record { row = λ form start front adds first. row_lacks (row_text form) front old e lacks.1 }
+    record { row = λ form start row adds first. lacks_all old (row_text form row) e lacks.1 }
 
 pub ruleset showing = (row_ended, full_ended, row_written, row_appended)

@@ -11,6 +11,7 @@ use Rattle.pdbdump_rows.specs.declared.form.Form.{Form}
 use Rattle.pdbdump_rows.specs.Line.{AddsRow, HasText, IsLineWritten, IsRow, LineState, WritesWhat, begun}
 use Rattle.pdbdump_rows.specs.Lines.{row_text}
 use Rattle.pdbdump_rows.specs.Row.{ShownRow}
+use Rattle.pdbdump_rows.proofs.lemmas.Line.{row_written}
 use Rattle.pdbdump_rows.specs.Rows.{AreLines, AreRows, AreRowsSoFar, WritesLines, more, none}
 
 -- rows behind others
@@ -160,7 +161,7 @@ pub line_of_row : (form : Form) (front : ShownRow) (start line : LineState) (old
     (result : Result (Unit {0}) Error) → IsLineWritten line old new result → AddsRow front start line
     → start ≡ begun form → WritesLines form old new result
 line_of_row form front start line old new result is adds first =
-    lines_of_row form front old new result (is.row form start front adds first)
+    lines_of_row form front old new result (row_written form front start line old new result is adds first)
 
 -- an error is passed on
 pub lines_passed : (form : Form) (old new : OutputState) (e : Error) (result : Result (Unit {0}) Error)

@@ -1,5 +1,5 @@
 -- Lines of what was read.
-use Rattle.std.proofs.Common.{◌⊎◌, inl, inr, Ok}
+use Rattle.std.proofs.Common.{inl, inr, Ok}
 use Rattle.pdb_output.specs.Output.{OutputState}
 use Rattle.pdbdump_rows.specs.declared.form.Form.{Form}
 use Rattle.pdbdump_rows.specs.Rows.{WritesLines}

@@ -1,4 +1,4 @@
-use Rattle.pdb_file.proofs.NamedLaws.{finds_named}
+use Rattle.pdb_file.proofs.FaultLaws.{finds_named}
 use Rattle.pdb_file.proofs.laws.stream_names.Goals as goal
 
 pub returns : goal.returns

@@ -2,7 +2,7 @@ use Rattle.std.proofs.Common.{◌≡◌, Vec, Global, List, map, refl, sym, ap, 
 use Rattle.std.proofs.lemmas.Simd.{map-map}
 use Rattle.pdb_base.specs.Answer.{Answer, Answers}
 use Rattle.pdb_base.proofs.lemmas.Collected.{ok_is}
-use Rattle.pdb_consistency.specs.declared.mismatch.Extent.{Extent}
+use Rattle.pdb_validation.specs.declared.mismatch.Extent.{Extent}
 use Rattle.pdb_validation.specs.Finding.{finding_view}
 use Rattle.pdb_validation.specs.Whole.{faults_of}
 use Rattle.pdb_handles.specs.Findings.{extent_of, finding_of}

@@ -1,15 +1,9 @@
-use Rattle.std.proofs.Common.{◌≤◌, ap, inr, sym, ◌∙◌, subst, arith}
+use Rattle.std.proofs.Common.{◌≤◌, inr, sym, ◌∙◌, subst}
 use Rattle.pdb_base.specs.declared.index.TypeIndex.{TypeIndex}
 use Rattle.pdb_values.specs.Primitive.{first_record}
 use Rattle.pdb_tpi.specs.Item.{item_bytes}
-use Rattle.pdb_tpi.specs.LookUp.{answers}
-use Rattle.pdb_tpi.proofs.LookUpLemmas.{answers_no_want, passes_no_want, wants_on}
+use Rattle.pdb_tpi.proofs.LookUpLemmas.{wants_on}
 use Rattle.pdb_tpi.proofs.fields.field_list.Goals as goal
-
-pub returns-in_err-item-clause-memory : goal.returns-in_err-item-clause-memory
-returns-in_err-item-clause-memory c =
-    passes_no_want (answers c.args.types c.args.index.0) c.from_residual.result c.in_err-item.field-0.0 _
-    (answers_no_want c.args.types c.args.index.0) c.in_err-item.ensures.item c.from_residual.ensures.1
 
 pub returns-in_err-value-clause-memory : goal.returns-in_err-value-clause-memory
 returns-in_err-value-clause-memory c =

@@ -1,5 +1,5 @@
 use Rattle.pdb_base.proofs.lemmas.Refused.{passed_on}
-use Rattle.pdb_identity.specs.Identity.{file_identity}
+use Rattle.pdb_file.specs.Identity.{file_identity}
 use Rattle.pdb_msf.specs.Header.{file_head}
 use Rattle.pdbdump_tables.proofs.lemmas.Reading.{read_of, reads_then, unread_then}
 use Rattle.pdbdump_cli.specs.Identified.{identity_in}

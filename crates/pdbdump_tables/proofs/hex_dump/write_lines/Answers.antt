@@ -1,5 +1,5 @@
 use Rattle.std.specs.Prelude.{⊤}
-use Rattle.std.proofs.Common.{[], ◌++◌, List, ℕ, Result, Ok, refl}
+use Rattle.std.proofs.Common.{◌++◌, Result, Ok}
 use Rattle.pdb_base.specs.declared.error.Error.{Error}
 use Rattle.pdb_base.proofs.lemmas.Refused.{passed_on}
 use Rattle.pdb_output.specs.Output.{OutputState}

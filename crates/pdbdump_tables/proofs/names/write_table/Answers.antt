@@ -3,6 +3,7 @@ use Rattle.pdb_base.proofs.lemmas.Refused.{passed_on}
 use Rattle.pdbdump_tables.specs.Tables.{all_names, next_place}
 use Rattle.pdbdump_tables.proofs.TableLemmas.{name_first, name_step, name_end, name_none, name_most}
 use Rattle.pdbdump_rows.proofs.lemmas.Rows.{so_far_all, so_far_cut, so_far_more, so_far_none}
+use Rattle.pdbdump_rows.proofs.lemmas.Line.{row_written}
 use Rattle.pdbdump_tables.proofs.names.write_table.Goals as goal
 
 pub loop-init : goal.loop-init
@@ -22,7 +23,7 @@ returns-in_default-next_place g c =
     c.loop-test.true c.in-Ok.ensures more in (
       refl,
       so_far_all _ _ _ _ _ refl (so_far_more _ _ _ [] _ _ _ _ step c.loop.invariant
-          (c.in_ok-write_line.ensures.row _ _ _ c.show_name.ensures c.begin.ensures)),
+          (row_written _ _ _ _ _ _ _ c.in_ok-write_line.ensures c.show_name.ensures c.begin.ensures)),
     )
 
 pub loop-preserved : goal.loop-preserved
@@ -31,7 +32,7 @@ loop-preserved g c =
     let step = name_step 0xffffffff c.loop.counter c.args.table.now c.loop.place c.in-Ok.name.0.now
     c.in-Some.next c.loop-test.true c.in-Ok.ensures more in
     so_far_more _ _ _ _ _ _ _ _ step c.loop.invariant
-    (c.in_ok-write_line.ensures.row _ _ _ c.show_name.ensures c.begin.ensures)
+    (row_written _ _ _ _ _ _ _ c.in_ok-write_line.ensures c.show_name.ensures c.begin.ensures)
 
 pub returns : goal.returns
 returns g c = (refl, so_far_all _ _ _ _ _ (name_most _ _ _ _ c.loop-test.false) c.loop.invariant)
@@ -42,4 +43,4 @@ returns-in_err-write_line g c =
     c.loop-test.true c.in-Ok.ensures in
     rw (passed_on _ _ c.from_residual.ensures.1)
     (inr (so_far_cut _ _ _ _ _ _ _ _ _ next c.loop.invariant
-    (c.in_err-write_line.ensures.row _ _ _ c.show_name.ensures c.begin.ensures)))
+    (row_written _ _ _ _ _ _ _ c.in_err-write_line.ensures c.show_name.ensures c.begin.ensures)))

@@ -1,6 +1,7 @@
 use Rattle.pdb_base.proofs.lemmas.Refused.{passed_on}
 use Rattle.pdbdump_rows.proofs.lemmas.Rows.{so_far_cut, so_far_more, so_far_none}
 use Rattle.pdbdump_tables.proofs.TableLemmas.{omap_next}
+use Rattle.pdbdump_rows.proofs.lemmas.Line.{row_written}
 use Rattle.pdbdump_tables.proofs.omap.write_records.Goals as goal
 
 pub loop-record-init : goal.loop-record-init
@@ -12,7 +13,7 @@ loop-record-preserved g c =
     let next = omap_next c.loop-record.record-iterator c.in-Some.record c.next.new.self
     c.in-Some.ensures.steps in
     so_far_more _ _ _ _ _ _ _ _ next c.loop-record.invariant
-    (c.in_ok-write_line.ensures.row _ _ _ c.show_omap.ensures c.begin.ensures)
+    (row_written _ _ _ _ _ _ _ c.in_ok-write_line.ensures c.show_omap.ensures c.begin.ensures)
 
 pub returns-in_err-write_line : goal.returns-in_err-write_line
 returns-in_err-write_line g c =
@@ -20,4 +21,4 @@ returns-in_err-write_line g c =
     c.in-Some.ensures.steps in
     rw (passed_on _ _ c.from_residual.ensures.1)
     (so_far_cut _ _ _ _ _ _ _ _ _ next c.loop-record.invariant
-    (c.in_err-write_line.ensures.row _ _ _ c.show_omap.ensures c.begin.ensures))
+    (row_written _ _ _ _ _ _ _ c.in_err-write_line.ensures c.show_omap.ensures c.begin.ensures))

@@ -5,6 +5,7 @@ use Rattle.pdb_file.proofs.HeaderLemmas.{header_refused, header_step}
 use Rattle.pdbdump_tables.specs.Tables.{sections_listing}
 use Rattle.pdbdump_tables.proofs.TableLemmas.{cut_end, section_first, section_next, section_none, whole_end}
 use Rattle.pdbdump_rows.proofs.lemmas.Rows.{so_far_all, so_far_cut, so_far_more, so_far_none}
+use Rattle.pdbdump_rows.proofs.lemmas.Line.{row_written}
 use Rattle.pdbdump_tables.proofs.sections.write_sections.Goals as goal
 
 pub returns-in_err-header : goal.returns-in_err-header
@@ -29,7 +30,7 @@ loop-place-preserved g c =
     omega (arith, c.loop-place-test.true, ap length c.as_slice-size.ensures.bytes) in
     record {
       written = so_far_more _ _ _ _ _ _ _ _ (section_next _ _ within) c.loop-place.invariant.written
-          (c.in_ok-write_line.ensures.row _ _ _ c.show_section.ensures c.begin.ensures);
+          (row_written _ _ _ _ _ _ _ c.in_ok-write_line.ensures c.show_section.ensures c.begin.ensures);
       rest = omega (arith, step.1, c.loop-place.invariant.rest, c.loop-place-test.true);
     }
 
@@ -59,4 +60,4 @@ returns-in_err-write_line g c =
     omega (arith, c.loop-place-test.true, ap length c.as_slice-size.ensures.bytes) in
     rw (passed_on _ _ c.from_residual-in_err-write_line.ensures.1)
     (inr (so_far_cut _ _ _ _ _ _ _ _ _ (section_next _ _ within) c.loop-place.invariant.written
-    (c.in_err-write_line.ensures.row _ _ _ c.show_section.ensures c.begin.ensures)))
+    (row_written _ _ _ _ _ _ _ c.in_err-write_line.ensures c.show_section.ensures c.begin.ensures)))

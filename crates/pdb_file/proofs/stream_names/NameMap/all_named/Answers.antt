@@ -1,16 +1,8 @@
-use Rattle.std.proofs.Common.{◌∙◌, ap, sym, arith, inl, List, [], ◌∷◌, map}
+use Rattle.std.proofs.Common.{◌∙◌, ap, sym, arith, List, [], ◌∷◌, map}
 use Rattle.std.proofs.lemmas.List.{map-append}
-use Rattle.pdb_base.proofs.lemmas.Collected.{ok, collected_more, collected_stops}
-use Rattle.pdb_base.proofs.lemmas.Refused.{passed_on}
-use Rattle.pdb_file.specs.StreamNames.{Named, map_view, named_at, named_in, named_view}
+use Rattle.pdb_base.proofs.lemmas.Collected.{ok, collected_more}
+use Rattle.pdb_file.specs.StreamNames.{Named, map_view, named_at, named_view}
 use Rattle.pdb_file.proofs.stream_names.NameMap.all_named.Goals as goal
-
-pub returns-in_err-named_at : goal.returns-in_err-named_at
-unfolding named_in
-returns-in_err-named_at c =
-    rw (passed_on _ _ c.from_residual-in_err-named_at.ensures.1)
-    (inl (collected_stops (named_at (map_view c.args.self.now)) c.loop-place.place _ _ _ c.loop-place-test.true
-    c.loop-place.invariant.so_far c.in_err-named_at.ensures))
 
 pub loop-place-preserved : goal.loop-place-preserved
 loop-place-preserved c = record {

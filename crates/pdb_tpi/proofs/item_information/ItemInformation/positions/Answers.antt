@@ -3,18 +3,13 @@ use Rattle.std.specs.Prelude.{IsTrue}
 use Rattle.std.proofs.lemmas.Bool.{cases_lt, false≢true}
 use Rattle.pdb_tpi.specs.declared.header.Header.{Header}
 use Rattle.pdb_tpi.specs.Table.{count_in_header}
-use Rattle.pdb_tpi.proofs.FinderLemmas.{some_blocks, no_blocks, places_none, places_first}
+use Rattle.pdb_tpi.proofs.FinderLemmas.{places_none, places_first}
 use Rattle.pdb_tpi.proofs.item_information.ItemInformation.positions.Goals.{then-not-is_empty, else-not-is_empty}
 use Rattle.pdb_tpi.proofs.item_information.ItemInformation.positions.Goals as goal
 
 -- a table that isn't empty counts an index
 some : (count : ℕ) → (count ≡ 0 → IsTrue false) → 0 < count
 some count not = elim (cases_lt 0 count) [ inl is ↦ is | inr none ↦ absurd (false≢true (not (omega arith))) ]
-
-pub push_reserved-requires : goal.push_reserved-requires
-push_reserved-requires g c =
-    let room = some_blocks c.args.self.now (some (count_in_header c.args.self.now) c.if-not-is_empty.ensures.1) in
-    omega (arith, room, c.most_blocks.ensures, c.in_ok-positions.ensures.len, c.in_ok-positions.ensures.exact)
 
 pub returns-clause-places : goal.returns-clause-places
 returns-clause-places g c = elim c.if-not-is_empty.branch [
@@ -32,8 +27,3 @@ returns-clause-places g c = elim c.if-not-is_empty.branch [
       (places_none c.args.self.now (vec_capacity c.in_ok-positions.positions)
       (omega (arith, c.most_blocks.ensures, c.in_ok-positions.ensures.exact)))
 ]
-
--- where no index is counted, no place is reserved, and so memory is not refused
-pub returns-in_err-positions-clause-uncounted : goal.returns-in_err-positions-clause-uncounted
-returns-in_err-positions-clause-uncounted g c none =
-    absurd (false≢true (c.in_err-positions.ensures.succeeds (c.most_blocks.ensures ∙ no_blocks c.args.self.now none)))

@@ -1,10 +1,9 @@
-use Rattle.std.proofs.Common.{ℕ, ◌≤◌, ◌^◌, List, ap, sym, ◌∙◌, arith}
+use Rattle.std.proofs.Common.{ℕ, List, ap, sym, ◌∙◌}
 use Rattle.pdb_base.specs.Count.{calls_of}
 use Rattle.pdb_base.proofs.lemmas.Refused.{passed_on}
 use Rattle.pdb_tpi.specs.Walk.{first_item}
 use Rattle.pdb_tpi.proofs.FrontLemmas.{front_item}
-use Rattle.pdb_tpi.proofs.WalkLemmas.{place_end, place_full, place_next, read_next, read_fault, read_full, reads_next}
-use Rattle.pdb_tpi.proofs.WalkLemmas.{reads_behind, counted}
+use Rattle.pdb_tpi.proofs.WalkLemmas.{counted, place_end, place_next, read_next, read_fault, reads_behind}
 use Rattle.pdb_tpi.proofs.item_iter.ItemIter.read.Goals as goal
 
 pub returns-in_err-bytes-clause-item : goal.returns-in_err-bytes-clause-item
@@ -24,23 +23,6 @@ returns-in_err-bytes-clause-counted g c =
     ∙ reads_behind s.table.now s.index s.position (calls_of c.args.count.now)
     (place_end s.table.now s.index s.position _ c.self.invariant fault))
 
-pub returns-in_default-clause-item : goal.returns-in_default-clause-item
-returns-in_default-clause-item g c =
-    let s = c.self.inside in
-    let last : 2 ^ 32 ≤ s.index = omega (arith, c.in_default.ensures) in
-    let whole = ap first_item (sym c.bytes_from.ensures) ∙ c.in_ok-bytes.ensures.item in
-    rw (← c.self.view_is) (read_full s.table.now s.index s.position c.in_ok-bytes.bytes.now c.self.invariant whole last)
-
-pub returns-in_default-clause-counted : goal.returns-in_default-clause-counted
-returns-in_default-clause-counted g c =
-    let s = c.self.inside in
-    let last : 2 ^ 32 ≤ s.index = omega (arith, c.in_default.ensures) in
-    rw (← c.self.view_is)
-    (c.in_ok-bytes.ensures.counted ∙ ap (λ (bytes : List ℕ). counted bytes
-    (calls_of c.args.count.now)) c.bytes_from.ensures
-    ∙ reads_behind s.table.now s.index s.position (calls_of c.args.count.now)
-    (place_full s.table.now s.index s.position c.self.invariant last))
-
 pub invariant_of-result : goal.invariant_of-result
 invariant_of-result g c =
     record { least = (front_item _ _ c.in_ok-bytes.ensures.item).kind }
@@ -57,14 +39,3 @@ returns-clause-item g c =
     let whole = ap first_item (sym c.bytes_from.ensures) ∙ c.in_ok-bytes.ensures.item in
     rw (← c.self.view_is) (read_next s.table.now s.index s.position c.in_ok-bytes.bytes.now
     (place_next s.table.now s.index s.position c.in_ok-bytes.bytes.now c.self.invariant whole c.in-Ok.ensures.0))
-
-pub returns-clause-counted : goal.returns-clause-counted
-returns-clause-counted g c =
-    let s = c.self.inside in
-    let whole = ap first_item (sym c.bytes_from.ensures) ∙ c.in_ok-bytes.ensures.item in
-    rw (← c.self.view_is)
-    (c.in_ok-bytes.ensures.counted ∙ ap (λ (bytes : List ℕ). counted bytes
-    (calls_of c.args.count.now)) c.bytes_from.ensures
-    ∙ reads_next s.table.now s.index s.position (calls_of c.args.count.now) c.in_ok-bytes.bytes.now
-    (place_next s.table.now s.index s.position c.in_ok-bytes.bytes.now c.self.invariant whole c.in-Ok.ensures.0)
-    whole)

@@ -1,12 +1,10 @@
-use Rattle.std.proofs.Common.{◌≡◌, ◌+◌, ◌*◌, ◌-◌, ◌≤◌, ◌<◌, length, max, vec_capacity, ap, refl, inl, inr, arith}
+use Rattle.std.proofs.Common.{◌*◌, ◌-◌, ◌<◌, length, vec_capacity, ap, refl, arith}
 use Rattle.std.proofs.lemmas.List.{length_push}
-use Rattle.pdb_base.specs.Refusal.{refusal_of}
 use Rattle.pdb_tpi.specs.declared.header.Header.{Header}
 use Rattle.pdb_tpi.specs.Table.{Table}
-use Rattle.pdb_tpi.specs.Steps.{walk}
-use Rattle.pdb_tpi.specs.Finder.{first_of_block, last_reached}
+use Rattle.pdb_tpi.specs.Finder.{first_of_block}
 use Rattle.pdb_tpi.proofs.StepLemmas.{nth_err}
-use Rattle.pdb_tpi.proofs.FinderLemmas.{IsUpTo, block_learned, known_reached, up_to_is}
+use Rattle.pdb_tpi.proofs.FinderLemmas.{block_learned, up_to_is}
 use Rattle.pdb_tpi.proofs.open_table.OpenTable.learn_blocks.Goals as goal
 
 pub push_reserved-requires : goal.push_reserved-requires
@@ -39,61 +37,38 @@ loop-block-preserved g c =
     }
 
 pub returns-in_default-clause-learned : goal.returns-in_default-clause-learned
-returns-in_default-clause-learned g c =
-    let up =
-    let now = c.loop-block.self-inside in
+returns-in_default-clause-learned g c _ =
     let inv = c.loop-block.invariant in
-    let start = length c.self.inside.positions.items in
-    let i = g.I.ItemIndex.number c.args.index in
-    let is = g.met.I.ItemIndex.turns_into c.args.index c.into-number.result c.into-number.ensures in
-    let least = ap (λ (h : Header). h.minimum_index) c.header-header.ensures.header in
-    let most = ap (λ (h : Header). h.maximum_index) c.header-header.ensures.header in
-    let first = ap (λ (t : Table). t.header.minimum_index) inv.table in
-    let last = ap (λ (t : Table). t.header.maximum_index) inv.table in
-    let none : length (walk now.items) ≤ c.loop-block.block * 8 - 1 =
-    (nth_err now.items (c.loop-block.block * 8 - 1) (refusal_of c.in_default.field-0) c.in_default.ensures.item).0 in
-    let stops : last_reached now.items < length now.positions.items =
-    omega (arith, none, inv.next, inv.stays.some (omega arith)) in
-    up_to_is now.items start i (length now.positions.items) (omega arith) (omega arith)
-    (omega (arith, inv.grown, inv.next)) (omega (arith, inv.within, inv.next))
-    (known_reached now.items now.positions.items _ inv.stays.blocks) (inr stops) in
-    up.learned
+    let none = (nth_err c.loop-block.self-inside.items (c.loop-block.block * 8 - 1) _ c.in_default.ensures.item).0 in
+    omega (arith, none, inv.next, inv.stays.some (omega arith))
 
 pub returns-in_default-clause-next : goal.returns-in_default-clause-next
 returns-in_default-clause-next g c =
-    let up =
     let now = c.loop-block.self-inside in
     let inv = c.loop-block.invariant in
-    let start = length c.self.inside.positions.items in
     let i = g.I.ItemIndex.number c.args.index in
     let is = g.met.I.ItemIndex.turns_into c.args.index c.into-number.result c.into-number.ensures in
     let least = ap (λ (h : Header). h.minimum_index) c.header-header.ensures.header in
     let most = ap (λ (h : Header). h.maximum_index) c.header-header.ensures.header in
     let first = ap (λ (t : Table). t.header.minimum_index) inv.table in
     let last = ap (λ (t : Table). t.header.maximum_index) inv.table in
-    let none : length (walk now.items) ≤ c.loop-block.block * 8 - 1 =
-    (nth_err now.items (c.loop-block.block * 8 - 1) (refusal_of c.in_default.field-0) c.in_default.ensures.item).0 in
-    let stops : last_reached now.items < length now.positions.items =
-    omega (arith, none, inv.next, inv.stays.some (omega arith)) in
-    up_to_is now.items start i (length now.positions.items) (omega arith) (omega arith)
-    (omega (arith, inv.grown, inv.next)) (omega (arith, inv.within, inv.next))
-    (known_reached now.items now.positions.items _ inv.stays.blocks) (inr stops) in
-    rw (← c.self.view_is, ← c.loop-block.invariant.table, ← up.next) refl
+    let none = (nth_err now.items (c.loop-block.block * 8 - 1) _ c.in_default.ensures.item).0 in
+    let up = up_to_is now.items now.positions.items _ (length c.self.inside.positions.items) i inv.stays.blocks
+    (omega arith) (omega arith) (omega (arith, inv.grown, inv.next)) (omega (arith, inv.within, inv.next))
+    (omega (arith, none, inv.next, inv.stays.some (omega arith))) in
+    rw (← c.self.view_is, ← inv.table, ← up) refl
 
 pub returns-clause-next : goal.returns-clause-next
 returns-clause-next g c =
-    let up =
     let now = c.loop-block.self-inside in
     let inv = c.loop-block.invariant in
-    let start = length c.self.inside.positions.items in
     let i = g.I.ItemIndex.number c.args.index in
     let is = g.met.I.ItemIndex.turns_into c.args.index c.into-number.result c.into-number.ensures in
     let least = ap (λ (h : Header). h.minimum_index) c.header-header.ensures.header in
     let most = ap (λ (h : Header). h.maximum_index) c.header-header.ensures.header in
     let first = ap (λ (t : Table). t.header.minimum_index) inv.table in
     let last = ap (λ (t : Table). t.header.maximum_index) inv.table in
-    up_to_is now.items start i (length now.positions.items) (omega arith) (omega arith)
-    (omega (arith, inv.grown, inv.next)) (omega (arith, inv.within, inv.next))
-    (known_reached now.items now.positions.items _ inv.stays.blocks)
-    (inl (omega (arith, inv.next, c.loop-block-test.false))) in
-    rw (← c.self.view_is, ← c.loop-block.invariant.table, ← up.next) refl
+    let up = up_to_is now.items now.positions.items _ (length c.self.inside.positions.items) i inv.stays.blocks
+    (omega arith) (omega arith) (omega (arith, inv.grown, inv.next)) (omega (arith, inv.within, inv.next))
+    (omega (arith, inv.next, c.loop-block-test.false)) in
+    rw (← c.self.view_is, ← inv.table, ← up) refl

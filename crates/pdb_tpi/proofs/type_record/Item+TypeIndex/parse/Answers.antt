@@ -1,27 +1,20 @@
-use Rattle.std.proofs.Common.{◌≡◌, [], length, Ok, Err, arith}
+use Rattle.std.proofs.Common.{◌≡◌, [], Ok, Err, arith}
 use Rattle.pdb_base.specs.Refusal.{refusal_of}
 use Rattle.pdb_base.specs.Answer.{Answers}
 use Rattle.pdb_base.specs.Memory.{LacksOnlyIf}
 use Rattle.pdb_base.specs.Place.{left}
 use Rattle.pdb_base.specs.Reading.{number_at}
-use Rattle.pdb_values.specs.TypeView.{primitive_of, type_value}
+use Rattle.pdb_values.specs.TypeView.{type_value}
 use Rattle.pdb_records.specs.Fields.{record_at}
 use Rattle.pdb_records.specs.Memory.{NeedsMemory}
 use Rattle.pdb_records.proofs.lemmas.Whole.{says_type, says_record, shows_record, refuses_record, says_cut, says_short}
 use Rattle.pdb_records.proofs.lemmas.Whole.{reads_list, reads_other, reads_none, none_no_want}
-use Rattle.pdb_records.proofs.MemoryLemmas.{gives_no_want, needs_fields, needs_behind}
-use Rattle.pdb_tpi.proofs.RecordLemmas.{primitive_no_want, primitive_short, reads_record}
+use Rattle.pdb_tpi.proofs.RecordLemmas.{needs_behind, needs_fields, primitive_short, reads_record}
 use Rattle.pdb_tpi.proofs.type_record.Item+TypeIndex.parse.Goals as goal
-
-pub returns-then-index-lt-FIRST_RECORD-clause-memory : goal.returns-then-index-lt-FIRST_RECORD-clause-memory
-returns-then-index-lt-FIRST_RECORD-clause-memory c =
-    gives_no_want type_value c.type_data_for_primitive.result (primitive_of c.args.self.now.index.0) _
-    (primitive_no_want c.args.self.now.index.0) c.type_data_for_primitive.ensures
 
 pub returns-then-index-lt-FIRST_RECORD-clause-short : goal.returns-then-index-lt-FIRST_RECORD-clause-short
 returns-then-index-lt-FIRST_RECORD-clause-short c =
-    primitive_short (length c.args.self.now.bytes.now) c.args.self.now.index.0 c.type_data_for_primitive.result
-    c.type_data_for_primitive.ensures
+    primitive_short _ c.args.self.now.index.0 c.type_data_for_primitive.result c.type_data_for_primitive.ensures
 
 -- no bytes for the leaf
 pub returns-in_err-kind : goal.returns-in_err-kind

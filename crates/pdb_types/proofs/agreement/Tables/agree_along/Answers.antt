@@ -5,14 +5,12 @@ use Rattle.pdb_types.proofs.agreement.Tables.agree_along.Goals as goal
 
 pub loop-place-preserved : goal.loop-place-preserved
 loop-place-preserved c =
-    let size = c.loop-place.pairs.ok.0 in
-    let count = c.len.ensures in
-    let test = c.if-place-len.false in
-    let within : c.loop-place.place < length c.loop-place.pairs.items = omega arith in
+    let within : c.loop-place.place < length c.loop-place.pairs.items =
+    omega (arith, c.loop-place.pairs.ok.0, c.len.ensures, c.if-place-len.false) in
     let is = ok_is _ _ c.in_ok-push_within.ensures in
     record {
-      same = step_same _ _ c.args.most c.loop-place.place c.loop-place.pairs.items c.push_within.new.pairs.items
-          c.index-pair.result.now _ c.in_ok-push_within.field-0 c.loop-place.invariant.same within
+      same = step_same _ _ c.args.most c.loop-place.place c.loop-place.pairs.items _ c.loop-place.invariant.same
+          c.push_within.new.pairs.items c.index-pair.result.now c.in_ok-push_within.field-0 within
           c.loop-place-test.true c.index-pair.ensures is c.if-not-branch.false;
       within = step_within _ _ c.loop-place.place c.loop-place.pairs.items c.push_within.new.pairs.items
           c.index-pair.result.now c.in_ok-push_within.field-0 within is c.if-not-branch.false;
@@ -20,39 +18,29 @@ loop-place-preserved c =
 
 pub returns-then-place-len : goal.returns-then-place-len
 returns-then-place-len c =
-    let size = c.loop-place.pairs.ok.0 in
-    let count = c.len.ensures in
-    let test = c.if-place-len.true in
     ap ok (at_end _ _ c.args.most c.loop-place.place c.loop-place.pairs.items _ c.loop-place.invariant.same
-    (omega arith))
+    (omega (arith, c.loop-place.pairs.ok.0, c.len.ensures, c.if-place-len.true)))
 
 pub returns-then-not-branch : goal.returns-then-not-branch
 returns-then-not-branch c =
-    let size = c.loop-place.pairs.ok.0 in
-    let count = c.len.ensures in
-    let test = c.if-place-len.false in
-    let within : c.loop-place.place < length c.loop-place.pairs.items = omega arith in
-    ap ok (step_differs _ _ c.args.most c.loop-place.place c.loop-place.pairs.items c.push_within.new.pairs.items
-    c.index-pair.result.now _ c.in_ok-push_within.field-0 c.loop-place.invariant.same within c.loop-place-test.true
+    let within : c.loop-place.place < length c.loop-place.pairs.items =
+    omega (arith, c.loop-place.pairs.ok.0, c.len.ensures, c.if-place-len.false) in
+    ap ok (step_differs _ _ c.args.most c.loop-place.place c.loop-place.pairs.items _ c.loop-place.invariant.same
+    c.push_within.new.pairs.items c.index-pair.result.now c.in_ok-push_within.field-0 within c.loop-place-test.true
     c.index-pair.ensures (ok_is _ _ c.in_ok-push_within.ensures) c.if-not-branch.true)
 
 pub returns-then-len-most : goal.returns-then-len-most
 returns-then-len-most c =
-    let size = c.loop-place.pairs.ok.0 in
-    let count = c.len.ensures in
-    let test = c.if-place-len.false in
-    let within : c.loop-place.place < length c.loop-place.pairs.items = omega arith in
+    let within : c.loop-place.place < length c.loop-place.pairs.items =
+    omega (arith, c.loop-place.pairs.ok.0, c.len.ensures, c.if-place-len.false) in
     let next = c.loop-place-test.true in
-    let grown = c.push_within.new.pairs.ok.0 in
-    let new_count = c.len-in-loop-place.ensures in
-    let many = c.if-len-most.true in
     ap ok (overfull _ _ c.args.most (c.loop-place.place + 1) c.push_within.new.pairs.items _
-    (step_same _ _ c.args.most c.loop-place.place c.loop-place.pairs.items c.push_within.new.pairs.items
-    c.index-pair.result.now _ c.in_ok-push_within.field-0 c.loop-place.invariant.same within c.loop-place-test.true
-    c.index-pair.ensures (ok_is _ _ c.in_ok-push_within.ensures) c.if-not-branch.false) (omega arith) (omega arith))
+    (step_same _ _ c.args.most c.loop-place.place c.loop-place.pairs.items _ c.loop-place.invariant.same
+    c.push_within.new.pairs.items c.index-pair.result.now c.in_ok-push_within.field-0 within next
+    c.index-pair.ensures (ok_is _ _ c.in_ok-push_within.ensures) c.if-not-branch.false) (omega (arith, next))
+    (omega (arith, c.push_within.new.pairs.ok.0, c.len-in-loop-place.ensures, c.if-len-most.true)))
 
 pub returns : goal.returns
 returns c =
-    ap ok (ended _ _ c.args.most c.loop-place.place c.len-2.result c.loop-place.pairs.items _
-    c.loop-place.invariant.same c.loop-place-test.false (omega arith)
-    (c.len-2.ensures ∙ c.loop-place.pairs.ok.0))
+    ap ok (ended _ _ c.args.most c.loop-place.place c.loop-place.pairs.items _ c.loop-place.invariant.same
+    c.len-2.result c.loop-place-test.false (omega arith) (c.len-2.ensures ∙ c.loop-place.pairs.ok.0))

@@ -1,7 +1,7 @@
 use Rattle.std.proofs.Common.{ℕ, rules, refl}
 use Rattle.std.proofs.lemmas.List.Sorted.{IsNonDecreasingBy-from_sort_by_key}
 use Rattle.pdb_base.proofs.lemmas.Refused.{passed_on}
-use Rattle.pdb_types.proofs.NumberLemmas.{numbered, whole_refused, whole_walked, whole_numbers}
+use Rattle.pdb_types.proofs.NumberLemmas.{numbered, whole_refused, whole_walked}
 use Rattle.pdb_types.proofs.definition_walk.DefinitionWalk.sorted.Goals as goal
 
 pub returns-in_err-walk-clause-walked : goal.returns-in_err-walk-clause-walked
@@ -16,10 +16,10 @@ returns-clause-numbered c = λ not.
     numbered _ _ _ _ (rw (c.in_ok-walk.ensures.kept, c.of-numbering.ensures.numbering) refl)
     (rw c.in_ok-walk.ensures.kept c.of-numbering.ensures.fits)
     (rw c.in_ok-walk.ensures.kept
-    (whole_numbers _ _ _ (rw c.items.ensures at (c.in_ok-walk.ensures.walked not))))
+    (whole_walked _ _ _ (rw c.items.ensures at (c.in_ok-walk.ensures.walked not))).1)
     c.sort_unstable_by_key.ensures.permutation
     (IsNonDecreasingBy-from_sort_by_key (λ (n : ℕ). n) _ c.sort_unstable_by_key.ensures.sorted
     (λ a r f k. search rules))
 
 pub returns-clause-walked : goal.returns-clause-walked
-returns-clause-walked c = λ not. whole_walked _ _ _ (rw c.items.ensures at (c.in_ok-walk.ensures.walked not))
+returns-clause-walked c = λ not. (whole_walked _ _ _ (rw c.items.ensures at (c.in_ok-walk.ensures.walked not))).0

@@ -1,7 +1,5 @@
-use Rattle.std.proofs.Common.{ℕ, ◌∙◌, ap, sym, arith, Ok, Option, Some}
-use Rattle.pdb_base.specs.Answer.{Answer}
+use Rattle.std.proofs.Common.{◌∙◌, sym, arith}
 use Rattle.pdb_base.proofs.lemmas.Refused.{passed_on}
-use Rattle.pdb_types.specs.Part.{extent_end, part_before}
 use Rattle.pdb_types.proofs.PartLemmas.{part_alone, part_by, part_none, part_refused, part_refused_by, part_zero}
 use Rattle.pdb_types.proofs.definitions.Definitions.+part_along.Goals as goal
 
@@ -18,10 +16,8 @@ returns-in_default t c = part_none c.args.most c.args.self.now c.args.index.0 (o
 
 pub returns-in_default-base_within : goal.returns-in_default-base_within
 returns-in_default-base_within t c =
-    let found : ℕ → Answer (Option ℕ) = λ size. Ok (Some size) in
-    part_alone c.args.most c.args.self.now c.args.index.0 c.in-Some.outline (omega arith)
-    (rw c.in-Some.is at c.in_ok-outline.ensures) (sym c.base_within.ensures ∙ c.in_default-base_within.is)
-    ∙ ap found (sym c.part_before.ensures)
+    rw c.part_before.ensures (part_alone c.args.most c.args.self.now c.args.index.0 c.in-Some.outline (omega arith)
+    (rw c.in-Some.is at c.in_ok-outline.ensures) (sym c.base_within.ensures ∙ c.in_default-base_within.is))
 
 pub returns-in_err-part : goal.returns-in_err-part
 returns-in_err-part t c = rw (passed_on _ _ c.from_residual-in_err-part.ensures.1)
@@ -31,11 +27,7 @@ returns-in_err-part t c = rw (passed_on _ _ c.from_residual-in_err-part.ensures.
 
 pub returns : goal.returns
 returns t c =
-    let found : ℕ → Answer (Option ℕ) = λ size. Ok (Some size) in
-    let outline = c.in-Some.outline in
-    let last = c.in-Some-base_within.last in
-    part_by c.args.most c.args.self.now c.args.index.0 outline last (Ok c.in_ok-part.part) (omega arith)
+    rw (c.part_before-2.ensures, c.extent_end-end.ensures, c.part_extent.ensures)
+    (part_by c.args.most c.args.self.now c.args.index.0 c.in-Some.outline c.in-Some-base_within.last _ (omega arith)
     (rw c.in-Some.is at c.in_ok-outline.ensures) (sym c.base_within.ensures ∙ c.in-Some-base_within.is)
-    c.in_ok-part.ensures
-    ∙ ap found (sym (c.part_before-2.ensures ∙ ap (part_before outline)
-    (c.extent_end-end.ensures ∙ ap (extent_end last.offset) c.part_extent.ensures)))
+    c.in_ok-part.ensures)

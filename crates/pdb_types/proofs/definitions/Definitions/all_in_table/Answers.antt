@@ -1,28 +1,23 @@
 use Rattle.std.proofs.Common.{◌≡◌, ℕ, ◌+◌, ap, ◌∙◌, arith}
-use Rattle.std.proofs.lemmas.List.{map-append}
+use Rattle.std.proofs.lemmas.List.{append-nil, map-append}
 use Rattle.pdb_base.proofs.lemmas.Collected.{ok, ok_is}
 use Rattle.pdb_types.specs.Declaration.{type_name}
 use Rattle.pdb_types.specs.Numbering.{most_above}
 use Rattle.pdb_types.specs.declared.numbering.Numbering.{Numbering}
-use Rattle.pdb_types.proofs.DefinitionLemmas.{defined_among, scanned_all, scanned_none, scanned_some}
+use Rattle.pdb_types.proofs.DefinitionLemmas.{defined_among, scanned_all, scanned_more}
 use Rattle.pdb_types.proofs.definitions.Definitions.all_in_table.Goals as goal
 use Rattle.pdb_types.proofs.definitions.Definitions.all_in_table.Goals.{then-branch+in_ok-push, else-branch}
 
 pub loop-above-preserved : goal.loop-above-preserved
 loop-above-preserved c =
-    let table = c.args.self.now in
-    let name = type_name c.args.name in
-    let above = c.loop-above.above in
-    let told = ap (λ (n : Numbering). n.least + above) c.requires in
+    let told = ap (λ (n : Numbering). n.least + c.loop-above.above) c.requires in
+    let more = scanned_more _ (type_name c.args.name) _ _ _ told c.loop-above.invariant in
     elim c.if-branch.branch [
       | then-branch+in_ok-push w ↦
           rw (w.found-is, w.in_ok-push.ensures.items, map-append)
-          (scanned_some table name above (c.args.numbering.least + above) _ told c.loop-above.invariant
-          (ok_is _ _ c.in_ok-defines.ensures ∙ w.if-branch.true))
+          (rw (ok_is _ _ c.in_ok-defines.ensures ∙ w.if-branch.true) at more)
       | else-branch w ↦
-          rw w.found-is
-          (scanned_none table name above (c.args.numbering.least + above) _ told c.loop-above.invariant
-          (ok_is _ _ c.in_ok-defines.ensures ∙ w.if-branch.false))
+          rw w.found-is (rw (ok_is _ _ c.in_ok-defines.ensures ∙ w.if-branch.false, append-nil) at more)
     ]
 
 pub returns : goal.returns

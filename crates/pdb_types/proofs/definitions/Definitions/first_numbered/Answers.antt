@@ -10,7 +10,7 @@ returns-then-branch c =
     let are = of_name _ _ _ _ _ c.requires.numbered c.first-first.ensures.first
     (c.candidates-candidates.ensures _ c.requires.of_table.numbers) in
     let within : c.loop-candidate.candidate-index < length c.candidates-candidates.result.now = omega arith in
-    ap ok (number_first _ _ _ _ c.loop-candidate.candidate-index _ _ are c.loop-candidate.invariant within
+    ap ok (number_first _ _ _ _ are c.loop-candidate.candidate-index _ _ c.loop-candidate.invariant within
     (get_or_default _ _ _ _ within) (told _ _ _ _ _ _ c.requires.of_table.numbers c.index-index.ensures)
     (ok_is _ _ c.in_ok-defines.ensures ∙ c.if-branch.true))
 

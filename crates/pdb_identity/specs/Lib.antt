@@ -1,5 +1,0 @@
-pub mod Identity
-pub mod Header
-pub mod Key
-pub mod Format
-pub mod Image
