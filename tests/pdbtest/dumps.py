@@ -2,7 +2,6 @@
 
 import itertools
 import json
-import re
 import random
 
 from pdbtest import llvm
@@ -44,18 +43,12 @@ def escaped(text):
     return "".join(json.dumps(c)[1:-1] if is_hidden(c) else c for c in text)
 
 
-def sentence_of(error):
-    """What pdbdump says of an error that pdbq tells."""
-    missing = re.fullmatch(r"Type (\d+) not found", error)
-    return f"no record has the index {int(missing[1]):#x}" if missing else SENTENCES.get(error, error)
-
-
 def rows_of(words, outcome):
     """The rows with which pdbdump answers what pdbq answers so."""
     lines = outcome.out.decode().split("\n")[:-1]
     verb = words.split()[0]
     if outcome.err:
-        rows = [f"error={sentence_of(outcome.err.decode().rstrip())}"]
+        rows = [f"error={outcome.err.decode().rstrip()}"]
     elif verb == "stream":
         rows = [f"bytes={''.join(lines)}"]
     elif verb in ("type", "id"):

@@ -293,10 +293,7 @@ NAMED_BY_NUMBER = {
 
 
 # What pdbq says by a name, or by the system's texts, and the status of the library for C.
-STATUSES = {
-    "UnrecognizedFileFormat|too short for a program database": 1, "IO error while reading PDB.*": 7, "UnexpectedEof": 8,
-    "TypeTooShort": 14,
-}  # fmt: skip
+STATUSES = {"UnrecognizedFileFormat": 1, "IO error while reading PDB.*": 7, "UnexpectedEof": 8, "TypeTooShort": 14}
 
 
 def in_words_of_c(err):

@@ -17,4 +17,5 @@ pub use input::{MOST_READS, read_all, read_within};
 pub use lines::reply_lines;
 pub use outcome::{Outcome, act, usage};
 pub use process::{Errors, program};
+pub use refusal::error_text;
 pub use words::{number, query};

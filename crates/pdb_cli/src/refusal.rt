@@ -21,8 +21,11 @@ fn io_error_text(alloc: Global, cause: &io::Error) -> Result<Vec<u8>>
     Ok(text)
 }
 
-/// Returns the text of an error.
-fn error_text(alloc: Global, error: &Error) -> Result<Vec<u8>>
+/// Returns the text of an error: the library's, and behind that of an I/O error the text of its cause.
+///
+/// # Errors
+/// Fails if an allocation fails.
+pub fn error_text(alloc: Global, error: &Error) -> Result<Vec<u8>>
     ensures ok { IfOk result (λ text. IsTextOf (refusal_of error.now) text.items) }
     ensures memory { FailsOnlyForMemory result }
 {

@@ -7,12 +7,14 @@ ghost use Rattle.pdbdump_rows.specs.{Rows.WritesLines, Sink.AddsLines};
 ghost use Rattle.pdbdump_cli.specs.Asked.{is_answer};
 
 use pdb_base::RawString;
-use pdb_container::{Reply, Result};
+use pdb_container::{Error, Reply, Result};
 use pdb_output::Output;
-use pdbdump_rows::{Form, Rows, Sheet, Value, optional_text, show_error};
-use std::alloc::Global;
+use pdbdump_rows::names::ERROR;
+use pdbdump_rows::{Form, Rows, Sheet, Value, optional_text};
+use std::alloc::{AllocError, Global};
 use std::io::Write;
 use std::ops::Range;
+use std::result;
 
 /// What is written in answer to a line that is no question.
 const NO_QUERY: &[u8] =
@@ -68,6 +70,11 @@ fn write_ranges<W: Write>(rows: &mut Rows<'_, W>, ranges: &[Range<u32>])
     }
 }
 
+/// Returns the text of an error as `pdbq` prints it.
+fn refusal_text(alloc: Global, error: &Error) -> result::Result<Vec<u8>, AllocError> {
+    pdb_cli::error_text(alloc, error).map_err(|_| AllocError)
+}
+
 /// Writes the rows of a reply.
 fn write_reply<W: Write>(rows: &mut Rows<'_, W>, reply: &Reply)
     ensures { AddsLines rows.old rows.new }
@@ -79,8 +86,9 @@ fn write_reply<W: Write>(rows: &mut Rows<'_, W>, reply: &Reply)
         Reply::Fields(names) => write_names(rows, names),
         Reply::Ranges(ranges) => write_ranges(rows, ranges),
         Reply::Refused(error) => {
+            let alloc = rows.alloc();
             rows.begin();
-            show_error(&mut rows.sheet.line, error);
+            rows.sheet.line.made_text(ERROR, refusal_text(alloc, error));
             rows.end();
         }
     }

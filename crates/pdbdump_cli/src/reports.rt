@@ -30,11 +30,14 @@ const NUMBER_FRONT: &[u8] = b" (os error ";
 /// How the error is reported that an allocation failed.
 const NO_MEMORY: &[u8] = b"OutOfMemory";
 
-/// How the errors are reported that a file ends before bytes that are wanted of it, or within its
-/// header.
+/// How the error is reported that a file ends before bytes that are wanted of it.
 const ENDED: &[u8] = b"unexpected end of file";
 
-const NO_HEADER: &[u8] = b"too short for a program database";
+/// How the error is reported that a file has another format, or ends within its header.
+const NO_HEADER: &[u8] = b"not a program database of version 7.00";
+
+/// What is told of a file that begins as a program database, and ends within its header.
+const SHORT: &[u8] = b"too short for a program database";
 
 /// What is told of an image begins so.
 const IMAGE_FRONT: &[u8] = b"a program (PE)";
@@ -214,6 +217,7 @@ impl Reported<'_> {
         }
         match self.other_format(report) {
             Some(format) => error_line(alloc, &self.subject, "format", format.as_bytes()),
+            None if report == NO_HEADER => error_line(alloc, &self.subject, "content", SHORT),
             None => error_line(alloc, &self.subject, "content", report),
         }
     }

@@ -22,7 +22,7 @@ pub fn sentence(alloc: Global, error: &Error) -> Result<Option<Vec<u8>>, AllocEr
     ensures { IfOk result (λ text. option_map (λ bytes. bytes.items) text ≡ sentence_of (refusal_of error.now)) }
 {
     let words: &[u8] = match error {
-        Error::UnrecognizedFileFormat => b"too short for a program database",
+        Error::UnrecognizedFileFormat => b"not a program database of version 7.00",
         Error::UnexpectedEof => b"data ends in the middle of a record or a table",
         Error::TypeTooShort => b"the length of a record leaves no room for its kind",
         Error::StreamNameNotFound => b"no stream has the name or the role that is looked for",
