@@ -12,9 +12,9 @@ SECONDS = 600  # for one command
 SOON = 1.0  # seconds, for the first answers
 
 
-def run(words, folder, given=None, **env):
+def run(words, folder, given=None, most=SECONDS, **env):
     """What a command gives, and how long it took."""
-    how = {"stdout": subprocess.PIPE, "stderr": subprocess.PIPE, "timeout": SECONDS, "text": True, "errors": "replace"}
+    how = {"stdout": subprocess.PIPE, "stderr": subprocess.PIPE, "timeout": most, "text": True, "errors": "replace"}
     started = time.monotonic()
     with open(given or os.devnull, "rb") as data:
         try:
