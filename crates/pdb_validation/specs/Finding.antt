@@ -1,14 +1,10 @@
 -- What is found wrong in a file.
-use Rattle.std.specs.Prelude.{ℕ, ◌-◌, Bool, true, false, not, List, [], ◌++◌, filter, length, take, codes, Option, Some}
-use Rattle.std.specs.Prelude.{None}
-use Rattle.pdb_validation.specs.Inconsistency.{inconsistency_code}
-use Rattle.pdb_validation.specs.Problem.{ProblemValue, failure, inconsistent, error_code, is_tolerated, problem_view}
-use Rattle.pdb_validation.specs.declared.finding.Code.{Code}
+use Rattle.std.specs.Prelude.{ℕ, ◌-◌, Bool, true, false, not, List, filter, length, take, Option, Some, None}
+use Rattle.pdb_validation.specs.Problem.{ProblemValue, is_tolerated, problem_view}
 use Rattle.pdb_validation.specs.declared.mismatch.Extent.{Extent}
 use Rattle.pdb_validation.specs.declared.mismatch.Extent.TheVariants as extents
 use Rattle.pdb_validation.specs.declared.finding.Finding.{Finding}
 use Rattle.pdb_validation.specs.declared.finding.Part.{Part}
-use Rattle.pdb_validation.specs.declared.finding.Part.TheVariants as parts
 
 -- a part of a file in which something is wrong: the number of the stream, the index of the record, and the byte of
 -- the stream and of the file at which the fault is, if there are such, and what is wrong
@@ -85,40 +81,3 @@ by_extent extents.All faults = faults
 abbrev pub is_enough : Extent → Option FaultPlace → Bool
 is_enough extents.First (Some fault) = true
 is_enough extent fault = false
-
--- ---- codes
-
--- the code of a part, under which programs tell of its faults
-abbrev pub part_code : Part → List ℕ
-part_code parts.Header = codes "HEADER"
-part_code parts.Directory = codes "DIRECTORY"
-part_code parts.Sizes = codes "SIZES"
-part_code parts.Stream = codes "STREAM"
-part_code parts.Names = codes "NAMES"
-part_code parts.StringTable = codes "STRING-TABLE"
-part_code parts.Roles = codes "ROLES"
-part_code parts.Types = codes "TYPES"
-part_code parts.Ids = codes "IDS"
-part_code parts.SectionHeaders = codes "SECTION-HEADERS"
-part_code parts.OriginalSectionHeaders = codes "ORIGINAL-SECTION-HEADERS"
-part_code parts.OmapToSource = codes "OMAP-TO-SOURCE"
-part_code parts.OmapFromSource = codes "OMAP-FROM-SOURCE"
-part_code parts.OldFrames = codes "OLD-FRAMES"
-part_code parts.NewFrames = codes "NEW-FRAMES"
-
--- that a fault is at a record
-abbrev pub record_code : Option ℕ → List ℕ
-record_code (Some index) = codes "-RECORD"
-record_code None = []
-
--- The code of a fault: of an error the code of its part, that it is at a record if it is, and which error it is; of
--- what is inconsistent its own.
-abbrev pub code_by : Part → Option ℕ → ProblemValue → List ℕ
-code_by part index (failure refusal) = part_code part ++ record_code index ++ error_code refusal
-code_by part index (inconsistent what) = inconsistency_code what
-
-abbrev pub fault_code : FaultPlace → List ℕ
-fault_code fault = code_by fault.part fault.index fault.problem
-
-abbrev pub code_text : Code → List ℕ
-code_text code = code.part.now ++ code.record.now ++ code.kind.now

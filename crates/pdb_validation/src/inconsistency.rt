@@ -1,7 +1,9 @@
 //! What can be inconsistent in a file.
 
 ghost use Rattle.std.specs.Prelude.{◌≡◌};
-ghost use Rattle.pdb_validation.specs.Inconsistency.{inconsistency_code, is_warning};
+ghost use Rattle.pdb_validation.specs.Inconsistency.{is_warning};
+
+use std::fmt;
 
 /// What does not hold between parts of a file, each of which can be read.
 #[derive(Clone, Copy, Debug, PartialEq, Eq)]
@@ -116,43 +118,41 @@ pub enum Inconsistency {
 
 impl Inconsistency {
     /// Returns the code of the inconsistency, under which programs tell of it.
-    pub fn code(self) -> &'static str
-        ensures { result.now ≡ inconsistency_code self }
-    {
+    pub fn code(self) -> &'static str {
         match self {
-            Inconsistency::DirectoryTooLarge => "DIRECTORY-TOO-LARGE",
-            Inconsistency::StreamsTooLarge => "STREAMS-TOO-LARGE",
-            Inconsistency::OutOfOrder => "OUT-OF-ORDER",
-            Inconsistency::PageShared(_) => "PAGE-SHARED",
-            Inconsistency::PageFree(_) => "PAGE-FREE",
-            Inconsistency::StreamMissing(_) => "STREAM-MISSING",
-            Inconsistency::DebugSizes => "DEBUG-SIZES",
-            Inconsistency::ReferenceNotBelow(_) => "REFERENCE-NOT-BELOW",
-            Inconsistency::RecordUnaligned => "RECORD-UNALIGNED",
-            Inconsistency::KindNotRead(_) => "KIND-NOT-READ",
-            Inconsistency::HashCount(_) => "HASH-COUNT",
-            Inconsistency::HashTooLarge(_) => "HASH-TOO-LARGE",
-            Inconsistency::IndexOffset(_) => "INDEX-OFFSET",
-            Inconsistency::BucketsCut => "BUCKETS-CUT",
-            Inconsistency::NameOffset(_) => "NAME-OFFSET",
-            Inconsistency::NameCount(_) => "NAME-COUNT",
-            Inconsistency::SectionsOverlap => "SECTIONS-OVERLAP",
-            Inconsistency::FreePageMap(_) => "FREE-PAGE-MAP",
-            Inconsistency::PageCount(_) => "PAGE-COUNT",
-            Inconsistency::UnknownVersion(_) => "UNKNOWN-VERSION",
-            Inconsistency::UnknownMachine(_) => "UNKNOWN-MACHINE",
-            Inconsistency::NamedStreamCount(_) => "NAMED-STREAM-COUNT",
-            Inconsistency::RecordBytes(_) => "RECORD-BYTES",
-            Inconsistency::HashSize(_) => "HASH-SIZE",
-            Inconsistency::NoHashStream => "NO-HASH-STREAM",
-            Inconsistency::HashPart(_) => "HASH-PART",
-            Inconsistency::NameUnreached(_) => "NAME-UNREACHED",
-            Inconsistency::ModuleCut => "MODULE-CUT",
-            Inconsistency::ModuleSizes(_) => "MODULE-SIZES",
-            Inconsistency::SymbolHashVersion(_) => "SYMBOL-HASH-VERSION",
-            Inconsistency::SymbolHashSizes => "SYMBOL-HASH-SIZES",
-            Inconsistency::PublicSizes => "PUBLIC-SIZES",
-            Inconsistency::SymbolCut => "SYMBOL-CUT",
+            Self::DirectoryTooLarge => "DIRECTORY-TOO-LARGE",
+            Self::StreamsTooLarge => "STREAMS-TOO-LARGE",
+            Self::OutOfOrder => "OUT-OF-ORDER",
+            Self::PageShared(_) => "PAGE-SHARED",
+            Self::PageFree(_) => "PAGE-FREE",
+            Self::StreamMissing(_) => "STREAM-MISSING",
+            Self::DebugSizes => "DEBUG-SIZES",
+            Self::ReferenceNotBelow(_) => "REFERENCE-NOT-BELOW",
+            Self::RecordUnaligned => "RECORD-UNALIGNED",
+            Self::KindNotRead(_) => "KIND-NOT-READ",
+            Self::HashCount(_) => "HASH-COUNT",
+            Self::HashTooLarge(_) => "HASH-TOO-LARGE",
+            Self::IndexOffset(_) => "INDEX-OFFSET",
+            Self::BucketsCut => "BUCKETS-CUT",
+            Self::NameOffset(_) => "NAME-OFFSET",
+            Self::NameCount(_) => "NAME-COUNT",
+            Self::SectionsOverlap => "SECTIONS-OVERLAP",
+            Self::FreePageMap(_) => "FREE-PAGE-MAP",
+            Self::PageCount(_) => "PAGE-COUNT",
+            Self::UnknownVersion(_) => "UNKNOWN-VERSION",
+            Self::UnknownMachine(_) => "UNKNOWN-MACHINE",
+            Self::NamedStreamCount(_) => "NAMED-STREAM-COUNT",
+            Self::RecordBytes(_) => "RECORD-BYTES",
+            Self::HashSize(_) => "HASH-SIZE",
+            Self::NoHashStream => "NO-HASH-STREAM",
+            Self::HashPart(_) => "HASH-PART",
+            Self::NameUnreached(_) => "NAME-UNREACHED",
+            Self::ModuleCut => "MODULE-CUT",
+            Self::ModuleSizes(_) => "MODULE-SIZES",
+            Self::SymbolHashVersion(_) => "SYMBOL-HASH-VERSION",
+            Self::SymbolHashSizes => "SYMBOL-HASH-SIZES",
+            Self::PublicSizes => "PUBLIC-SIZES",
+            Self::SymbolCut => "SYMBOL-CUT",
         }
     }
 
@@ -162,13 +162,102 @@ impl Inconsistency {
     pub fn is_warning(self) -> bool
         ensures { result ≡ is_warning self }
     {
+        matches!(
+            self,
+            Self::PageFree(_)
+                | Self::RecordUnaligned
+                | Self::KindNotRead(_)
+                | Self::UnknownMachine(_)
+                | Self::NoHashStream
+        )
+    }
+}
+
+impl fmt::Display for Inconsistency {
+    fn fmt<W: fmt::Write>(&self, f: &mut fmt::Formatter<W>) -> fmt::Result {
         match self {
-            Inconsistency::PageFree(_) => true,
-            Inconsistency::RecordUnaligned => true,
-            Inconsistency::KindNotRead(_) => true,
-            Inconsistency::UnknownMachine(_) => true,
-            Inconsistency::NoHashStream => true,
-            _ => false,
+            Self::DirectoryTooLarge => f.write_str("the directory is larger than the file"),
+            Self::StreamsTooLarge => f.write_str("the streams together are larger than the file"),
+            Self::OutOfOrder => f.write_str("the records are out of order"),
+            Self::PageShared(page) => write!(f, "page {page} is used twice"),
+            Self::PageFree(page) => write!(f, "page {page} is in use and marked as free"),
+            Self::StreamMissing(number) => write!(
+                f,
+                "stream {number} has a name or a role and is missing"
+            ),
+            Self::DebugSizes => f.write_str("the parts of stream 3 do not add up to its size"),
+            Self::ReferenceNotBelow(index) => write!(
+                f,
+                "a reference to index 0x{index:x} is not below the record's own"
+            ),
+            Self::RecordUnaligned => f.write_str(
+                "the record does not end at a multiple of four bytes",
+            ),
+            Self::KindNotRead(kind) => write!(f, "records of kind 0x{kind:x} are not read"),
+            Self::HashCount(count) => write!(f, "there are {count} hash values for other records"),
+            Self::HashTooLarge(value) => write!(
+                f,
+                "hash value {value} is not below the number of buckets"
+            ),
+            Self::IndexOffset(index) => write!(
+                f,
+                "the place of index 0x{index:x} is not that of its record"
+            ),
+            Self::BucketsCut => f.write_str("the string table ends before its buckets do"),
+            Self::NameOffset(offset) => write!(f, "no name begins at offset {offset}"),
+            Self::NameCount(count) => write!(f, "the buckets do not hold {count} names"),
+            Self::SectionsOverlap => f.write_str(
+                "the section begins below the end of the one before it",
+            ),
+            Self::FreePageMap(number) => write!(
+                f,
+                "the number of the free page map is {number}, and neither 1 nor 2"
+            ),
+            Self::PageCount(count) => write!(
+                f,
+                "the file has fewer than the {count} pages that are in use"
+            ),
+            Self::UnknownVersion(version) => write!(f, "version {version} is not known"),
+            Self::UnknownMachine(machine) => write!(f, "machine 0x{machine:x} is not known"),
+            Self::NamedStreamCount(count) => write!(
+                f,
+                "the table of names does not have {count} streams"
+            ),
+            Self::RecordBytes(number) => write!(
+                f,
+                "the records do not end where the number {number} in the header says"
+            ),
+            Self::HashSize(size) => write!(
+                f,
+                "no table has hashes of this size or as many buckets: {size}"
+            ),
+            Self::NoHashStream => f.write_str("the records have no hash stream"),
+            Self::HashPart(size) => write!(
+                f,
+                "a part of {size} bytes does not fit the hash stream"
+            ),
+            Self::NameUnreached(offset) => write!(
+                f,
+                "the hash of the name at offset {offset} does not lead to its bucket"
+            ),
+            Self::ModuleCut => f.write_str(
+                "the entry of the module ends behind the list of modules",
+            ),
+            Self::ModuleSizes(stream) => write!(
+                f,
+                "a module takes more bytes than there are in stream {stream}"
+            ),
+            Self::SymbolHashVersion(version) => write!(
+                f,
+                "no hash table of symbols has signature or version 0x{version:x}"
+            ),
+            Self::SymbolHashSizes => f.write_str(
+                "the hash table of symbols does not have the size it says",
+            ),
+            Self::PublicSizes => f.write_str(
+                "the parts of the publics do not add up to their stream",
+            ),
+            Self::SymbolCut => f.write_str("the record of the symbol ends behind its stream"),
         }
     }
 }
