@@ -6,8 +6,7 @@
 // An input, which is below a megabyte, may take 500 ms of a processor, and is asked about no further record after 100 ms: so
 // no call may take long. What the longest input took is told at the end.
 //
-// clang -fsanitize=fuzzer,address,undefined fuzz.c libpdb_container.a
-// clang -fsanitize=fuzzer fuzz.c guard.c, and the library as guard.c says
+// clang -fsanitize=fuzzer,address,undefined fuzz.c guard.c, and the library as guard.c says
 #include <pdb_container.h>
 #include <stdio.h>
 #include <stdlib.h>
