@@ -32,12 +32,18 @@ static uint8_t *end_of(uint8_t *block, size_t most, size_t used) { return used ?
 
 static double spent_ms(void) { return 1000.0 * (double)(clock() - began) / CLOCKS_PER_SEC; }
 
-// That a call left its status in the handle, if it has one, as a fault that has a text.
-static uint32_t told(const pdb_handle *handle, uint32_t status) {
+// That a fault has a text.
+static void has_text(const pdb_fault *fault) {
     char text[256];
     size_t written = 0;
+    if (pdb_fault_text(fault, text, sizeof text, &written) != PDB_OK || strlen(text) != written) abort();
+}
+
+// That a call left its status in the handle, if it has one, as a fault that has a text.
+static uint32_t told(const pdb_handle *handle, uint32_t status) {
     pdb_fault fault = handle ? handle->fault : (pdb_fault){status, 0, 0};
-    if (status != fault.status || pdb_fault_text(&fault, text, sizeof text, &written) != PDB_OK || strlen(text) != written) abort();
+    if (status != fault.status) abort();
+    has_text(&fault);
     return status;
 }
 
@@ -72,7 +78,7 @@ static void ask_types(pdb_file *file, uint32_t number, uint32_t index) {
         told(it, pdb_types_find(&types, some, 5, ITEMS(pdb_found_record, 5), &length));
         told(it, pdb_types_named(&types, "Point", 5, ITEMS(uint32_t, ROWS), &length));
         for (size_t n = 0; n < RECORDS && spent_ms() < ENOUGH_MS && told(it, pdb_types_read(&types, &row, 1, &length)) == PDB_OK; n++) {
-            told(NULL, row.fault.status);
+            has_text(&row.fault);
             ask_index(&types, row.position.index);
         }
         ask_index(&types, index);
