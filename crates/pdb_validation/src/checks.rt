@@ -23,6 +23,7 @@ use crate::problem::Problem;
 use crate::read::read;
 use crate::relations::add_relations;
 use crate::roles::{check_role, check_roles, known_roles};
+use crate::scope::Scope;
 use crate::sizes::{nameable, streams_size};
 use crate::streams::add_streams;
 use crate::tables::add_table;
@@ -34,21 +35,18 @@ use std::alloc::Global;
 /// Adds the findings of the table of types or of ids, if its stream can be read.
 #[tactic(auto, unfolding(crate::specs::Whole::table_faults_by))]
 fn add_table_stream<I: CheckedIndex, S: Source>(
-    alloc: Global,
-    layout: &Layout,
+    scope: &Scope<'_>,
     source: &mut CountedSource<S>,
-    extent: Extent,
     findings: &mut Vec<Finding>,
 ) -> Result<()>
-    requires { 0 < layout.now.head.geometry.page_size }
     ensures { ReadsSource (S.state source.old.source) (S.state source.new.source)
         (λ done. map finding_view findings.new.items) result (λ file. Ok (map finding_view findings.old.items
-        ++ by_extent extent (table_faults_by I.PART I.STREAM I.checked layout.now file))) }
+        ++ by_extent scope.now.extent (table_faults_by I.PART I.STREAM I.checked scope.now.layout.now file))) }
 {
-    match read(alloc, layout, source, I::STREAM)? {
+    match read(scope, source, I::STREAM)? {
         Ok(stream) => {
-            let pages = StreamPages::of(alloc, layout, I::STREAM)?;
-            add_table::<I>(alloc, stream, &pages, extent, findings)
+            let pages = StreamPages::of(scope, I::STREAM)?;
+            add_table::<I>(scope.alloc, stream, &pages, scope.extent, findings)
         }
         Err(_) => Ok(()),
     }
@@ -56,36 +54,23 @@ fn add_table_stream<I: CheckedIndex, S: Source>(
 
 /// Returns the findings of the bytes of streams, and of the parts whose streams have fixed numbers.
 #[tactic(auto, unfolding(crate::specs::Whole::fixed_faults))]
-fn check_fixed<S: Source>(
-    alloc: Global,
-    layout: &Layout,
-    source: &mut CountedSource<S>,
-    extent: Extent,
-) -> Result<Vec<Finding>>
-    requires { 0 < layout.now.head.geometry.page_size }
+fn check_fixed<S: Source>(scope: &Scope<'_>, source: &mut CountedSource<S>) -> Result<Vec<Finding>>
     ensures { ReadsSource (S.state source.old.source) (S.state source.new.source)
-        (λ findings. map finding_view findings.items) result (λ file. Ok (fixed_faults extent layout.now file)) }
+        (λ findings. map finding_view findings.items) result (λ file. Ok (fixed_faults scope.now.extent
+        scope.now.layout.now file)) }
 {
-    let mut findings = Vec::new(alloc);
-    add_streams(
-        alloc,
-        layout,
-        source,
-        nameable(layout),
-        extent,
-        &mut findings,
-    )?;
-    add(&mut findings, check_names(alloc, layout, source)?)?;
-    add(&mut findings, check_roles(alloc, layout, source)?)?;
-    add_table_stream::<TypeIndex, S>(alloc, layout, source, extent, &mut findings)?;
-    add_table_stream::<IdIndex, S>(alloc, layout, source, extent, &mut findings)?;
+    let mut findings = Vec::new(scope.alloc);
+    add_streams(scope, source, nameable(scope.layout), &mut findings)?;
+    add(&mut findings, check_names(scope, source)?)?;
+    add(&mut findings, check_roles(scope, source)?)?;
+    add_table_stream::<TypeIndex, S>(scope, source, &mut findings)?;
+    add_table_stream::<IdIndex, S>(scope, source, &mut findings)?;
     Ok(findings)
 }
 
 /// Adds the finding of the stream of a role, if it has an error.
 fn add_role<S: Source>(
-    alloc: Global,
-    layout: &Layout,
+    scope: &Scope<'_>,
     source: &mut CountedSource<S>,
     roles: &Option<DBIExtraStreams>,
     part: Part,
@@ -93,75 +78,57 @@ fn add_role<S: Source>(
 ) -> Result<()>
     ensures { ReadsSource (S.state source.old.source) (S.state source.new.source)
         (λ done. map finding_view findings.new.items) result (λ file. Ok (map finding_view findings.old.items
-        ++ option_to_list (role_fault layout.now file part roles.now))) }
+        ++ option_to_list (role_fault scope.now.layout.now file part roles.now))) }
 {
-    let found = check_role(alloc, layout, source, roles, part)?;
+    let found = check_role(scope, source, roles, part)?;
     add(findings, found)
 }
 
 /// Adds the findings of the streams of all roles that are read.
 #[tactic(auto, unfolding(crate::specs::Whole::with_roles))]
 fn add_roles<S: Source>(
-    alloc: Global,
-    layout: &Layout,
+    scope: &Scope<'_>,
     source: &mut CountedSource<S>,
     roles: &Option<DBIExtraStreams>,
     findings: &mut Vec<Finding>,
 ) -> Result<()>
     ensures { ReadsSource (S.state source.old.source) (S.state source.new.source)
-        (λ done. map finding_view findings.new.items) result (λ file. Ok (with_roles layout.now file roles.now
+        (λ done. map finding_view findings.new.items) result (λ file. Ok (with_roles scope.now.layout.now file roles.now
         (map finding_view findings.old.items))) }
 {
-    add_role(alloc, layout, source, roles, Part::SectionHeaders, findings)?;
-    add_role(
-        alloc,
-        layout,
-        source,
-        roles,
-        Part::OriginalSectionHeaders,
-        findings,
-    )?;
-    add_role(alloc, layout, source, roles, Part::OmapToSource, findings)?;
-    add_role(alloc, layout, source, roles, Part::OmapFromSource, findings)?;
-    add_role(alloc, layout, source, roles, Part::OldFrames, findings)?;
-    add_role(alloc, layout, source, roles, Part::NewFrames, findings)
+    add_role(scope, source, roles, Part::SectionHeaders, findings)?;
+    add_role(scope, source, roles, Part::OriginalSectionHeaders, findings)?;
+    add_role(scope, source, roles, Part::OmapToSource, findings)?;
+    add_role(scope, source, roles, Part::OmapFromSource, findings)?;
+    add_role(scope, source, roles, Part::OldFrames, findings)?;
+    add_role(scope, source, roles, Part::NewFrames, findings)
 }
 
 /// Returns the findings of each part of a file whose directory can be read, by itself.
 #[tactic(auto, unfolding(crate::specs::Whole::refused_faults))]
-fn check_each<S: Source>(
-    alloc: Global,
-    layout: &Layout,
-    source: &mut CountedSource<S>,
-    extent: Extent,
-) -> Result<Vec<Finding>>
-    requires { 0 < layout.now.head.geometry.page_size }
+fn check_each<S: Source>(scope: &Scope<'_>, source: &mut CountedSource<S>) -> Result<Vec<Finding>>
     ensures { ReadsSource (S.state source.old.source) (S.state source.new.source)
-        (λ findings. map finding_view findings.items) result (λ file. Ok (refused_faults extent layout.now file)) }
+        (λ findings. map finding_view findings.items) result (λ file. Ok (refused_faults scope.now.extent
+        scope.now.layout.now file)) }
 {
-    let mut findings = check_fixed(alloc, layout, source, extent)?;
-    let roles = known_roles(alloc, layout, source)?;
-    add_roles(alloc, layout, source, &roles, &mut findings)?;
+    let mut findings = check_fixed(scope, source)?;
+    let roles = known_roles(scope, source)?;
+    add_roles(scope, source, &roles, &mut findings)?;
     Ok(findings)
 }
 
 /// Returns the findings of all parts of a file whose directory can be read, and then what is
 /// inconsistent between them.
 #[tactic(auto, unfolding(crate::specs::Whole::part_faults))]
-fn check_parts<S: Source>(
-    alloc: Global,
-    layout: &Layout,
-    source: &mut CountedSource<S>,
-    extent: Extent,
-) -> Result<Vec<Finding>>
-    requires sized { 0 < layout.now.head.geometry.page_size }
+fn check_parts<S: Source>(scope: &Scope<'_>, source: &mut CountedSource<S>) -> Result<Vec<Finding>>
     requires layout { IsFixed (S.state source.old.source) →
-        layout_of (S.state source.old.source).bytes ≡ Ok layout.now }
+        layout_of (S.state source.old.source).bytes ≡ Ok scope.now.layout.now }
     ensures { ReadsSource (S.state source.old.source) (S.state source.new.source)
-        (λ findings. map finding_view findings.items) result (λ file. Ok (part_faults extent layout.now file)) }
+        (λ findings. map finding_view findings.items) result (λ file. Ok (part_faults scope.now.extent
+        scope.now.layout.now file)) }
 {
-    let mut findings = check_each(alloc, layout, source, extent)?;
-    add_relations(alloc, layout, source, extent, &mut findings)?;
+    let mut findings = check_each(scope, source)?;
+    add_relations(scope, source, &mut findings)?;
     Ok(findings)
 }
 
@@ -193,7 +160,12 @@ fn check_sized<S: Source>(
         let problem = Problem::Inconsistent(Inconsistency::StreamsTooLarge);
         return only(alloc, Part::Sizes, problem);
     }
-    check_parts(alloc, layout, source, extent)
+    let scope = Scope {
+        alloc,
+        layout,
+        extent,
+    };
+    check_parts(&scope, source)
 }
 
 /// Returns the findings of a file whose directory is no larger than it: that the directory can't be

@@ -17,10 +17,11 @@ use crate::modules::check_modules;
 use crate::read::read;
 use crate::relations::add_mismatches;
 use crate::roles::DEBUG_STREAM;
+use crate::scope::Scope;
 use crate::symbols::{check_globals, check_publics, check_symbols};
 use pdb_base::{Result, Stream, StreamIndex};
 use pdb_file::{DBIExtraStreams, DBIHeader};
-use pdb_msf::{CountedSource, Layout, Source};
+use pdb_msf::{CountedSource, Source};
 use std::alloc::Global;
 
 /// A stream of symbols.
@@ -68,112 +69,99 @@ impl SymbolStream {
 /// Returns what is inconsistent in a stream of symbols, if it is there.
 #[tactic(auto, using(crate::proofs::RelationLemmas::nothing_asked))]
 fn symbols_in<S: Source>(
-    alloc: Global,
-    layout: &Layout,
+    scope: &Scope<'_>,
     source: &mut CountedSource<S>,
     symbols: SymbolStream,
     header: &DBIHeader,
-    extent: Extent,
 ) -> Result<Vec<Mismatch>>
     ensures { ReadsSource (S.state source.old.source) (S.state source.new.source)
-        (λ mismatches. mismatches.items) result (λ file. Ok (asked_of extent
-        (symbols_in layout.now file symbols header.now))) }
+        (λ mismatches. mismatches.items) result (λ file. Ok (asked_of scope.now.extent
+        (symbols_in scope.now.layout.now file symbols header.now))) }
 {
     let Some(number) = symbols.index(header).msf_number() else {
-        return Ok(Vec::new(alloc));
+        return Ok(Vec::new(scope.alloc));
     };
-    match read(alloc, layout, source, number)? {
-        Ok(stream) => symbols.check(alloc, number, &stream, extent),
-        Err(_) => Ok(Vec::new(alloc)),
+    match read(scope, source, number)? {
+        Ok(stream) => symbols.check(scope.alloc, number, &stream, scope.extent),
+        Err(_) => Ok(Vec::new(scope.alloc)),
     }
 }
 
 /// Returns which of the streams that have roles in these bytes of stream 3 are missing.
 #[tactic(auto, unfolding(crate::specs::Relations::roles_in_stream), using(crate::proofs::RelationLemmas::nothing_asked))]
-fn roles_in_stream(
-    alloc: Global,
-    layout: &Layout,
-    stream: &Stream,
-    extent: Extent,
-) -> Result<Vec<Mismatch>>
+fn roles_in_stream(scope: &Scope<'_>, stream: &Stream) -> Result<Vec<Mismatch>>
     ensures { Answers (λ mismatches. mismatches.items) result
-        (Ok (asked_of extent (roles_in_stream layout.now stream.now))) }
+        (Ok (asked_of scope.now.extent (roles_in_stream scope.now.layout.now stream.now))) }
 {
     let Ok(header) = DBIHeader::parse(stream) else {
-        return Ok(Vec::new(alloc));
+        return Ok(Vec::new(scope.alloc));
     };
     match DBIExtraStreams::new(stream) {
-        Ok(roles) => check_roles(alloc, layout, &header, &roles, extent),
-        Err(_) => Ok(Vec::new(alloc)),
+        Ok(roles) => check_roles(scope, &header, &roles),
+        Err(_) => Ok(Vec::new(scope.alloc)),
     }
 }
 
 /// Adds what is inconsistent in these bytes of stream 3: in the header, the roles and the modules.
 #[tactic(auto, unfolding(crate::specs::Relations::in_debug_stream))]
 fn add_in_debug_stream(
-    alloc: Global,
-    layout: &Layout,
+    scope: &Scope<'_>,
     stream: &Stream,
-    extent: Extent,
     findings: &mut Vec<Finding>,
 ) -> Result<()>
-    requires { 0 < layout.now.head.geometry.page_size }
     ensures { Answers (λ done. map finding_view findings.new.items) result
-        (Ok (with_relations extent layout.now (in_debug_stream layout.now (Ok stream.now))
+        (Ok (with_relations scope.now.extent scope.now.layout.now (in_debug_stream scope.now.layout.now (Ok stream.now))
         (map finding_view findings.old.items))) }
 {
-    let header = check_debug_header(alloc, stream, extent)?;
-    add_mismatches(alloc, layout, Part::Roles, &header, findings)?;
-    let roles = roles_in_stream(alloc, layout, stream, extent)?;
-    add_mismatches(alloc, layout, Part::Roles, &roles, findings)?;
-    let modules = check_modules(alloc, layout, stream, extent)?;
-    add_mismatches(alloc, layout, Part::Roles, &modules, findings)
+    let header = check_debug_header(scope.alloc, stream, scope.extent)?;
+    add_mismatches(scope, Part::Roles, &header, findings)?;
+    let roles = roles_in_stream(scope, stream)?;
+    add_mismatches(scope, Part::Roles, &roles, findings)?;
+    let modules = check_modules(scope.alloc, scope.layout, stream, scope.extent)?;
+    add_mismatches(scope, Part::Roles, &modules, findings)
 }
 
 /// Adds what is inconsistent in the streams of symbols that a header of stream 3 gives.
 #[tactic(auto, unfolding(crate::specs::Relations::in_symbol_streams))]
 fn add_in_symbol_streams<S: Source>(
-    alloc: Global,
-    layout: &Layout,
+    scope: &Scope<'_>,
     source: &mut CountedSource<S>,
     header: &DBIHeader,
-    extent: Extent,
     findings: &mut Vec<Finding>,
 ) -> Result<()>
-    requires { 0 < layout.now.head.geometry.page_size }
     ensures { ReadsSource (S.state source.old.source) (S.state source.new.source)
-        (λ done. map finding_view findings.new.items) result (λ file. Ok (with_relations extent layout.now
-        (in_symbol_streams layout.now file (Ok header.now)) (map finding_view findings.old.items))) }
+        (λ done. map finding_view findings.new.items) result (λ file. Ok (with_relations scope.now.extent
+        scope.now.layout.now
+        (in_symbol_streams scope.now.layout.now file (Ok header.now)) (map finding_view findings.old.items))) }
 {
-    let globals = symbols_in(alloc, layout, source, SymbolStream::Globals, header, extent)?;
-    add_mismatches(alloc, layout, Part::Roles, &globals, findings)?;
-    let publics = symbols_in(alloc, layout, source, SymbolStream::Publics, header, extent)?;
-    add_mismatches(alloc, layout, Part::Roles, &publics, findings)?;
-    let records = symbols_in(alloc, layout, source, SymbolStream::Records, header, extent)?;
-    add_mismatches(alloc, layout, Part::Roles, &records, findings)
+    let globals = symbols_in(scope, source, SymbolStream::Globals, header)?;
+    add_mismatches(scope, Part::Roles, &globals, findings)?;
+    let publics = symbols_in(scope, source, SymbolStream::Publics, header)?;
+    add_mismatches(scope, Part::Roles, &publics, findings)?;
+    let records = symbols_in(scope, source, SymbolStream::Records, header)?;
+    add_mismatches(scope, Part::Roles, &records, findings)
 }
 
 /// Adds what is inconsistent in stream 3, which is read once, and in the streams of symbols.
 #[tactic(auto, unfolding(crate::specs::Relations::in_debug_stream, crate::specs::Relations::in_symbol_streams), using(crate::proofs::RelationLemmas::nothing_related))]
 pub(crate) fn add_debug_relations<S: Source>(
-    alloc: Global,
-    layout: &Layout,
+    scope: &Scope<'_>,
     source: &mut CountedSource<S>,
-    extent: Extent,
     findings: &mut Vec<Finding>,
 ) -> Result<()>
-    requires { 0 < layout.now.head.geometry.page_size }
     ensures { ReadsSource (S.state source.old.source) (S.state source.new.source)
-        (λ done. map finding_view findings.new.items) result (λ file. Ok (with_relations extent layout.now
-        (symbol_relations layout.now file) (with_relations extent layout.now (debug_relations layout.now file)
+        (λ done. map finding_view findings.new.items) result (λ file. Ok (with_relations scope.now.extent
+        scope.now.layout.now
+        (symbol_relations scope.now.layout.now file) (with_relations scope.now.extent scope.now.layout.now
+        (debug_relations scope.now.layout.now file)
         (map finding_view findings.old.items)))) }
 {
-    let Ok(stream) = read(alloc, layout, source, DEBUG_STREAM)? else {
+    let Ok(stream) = read(scope, source, DEBUG_STREAM)? else {
         return Ok(());
     };
-    add_in_debug_stream(alloc, layout, &stream, extent, findings)?;
+    add_in_debug_stream(scope, &stream, findings)?;
     match DBIHeader::parse(&stream) {
-        Ok(header) => add_in_symbol_streams(alloc, layout, source, &header, extent, findings),
+        Ok(header) => add_in_symbol_streams(scope, source, &header, findings),
         Err(_) => Ok(()),
     }
 }

@@ -9,10 +9,10 @@ ghost use Rattle.pdb_validation.specs.Mismatch.{asked_of};
 use crate::free_map::{MAP_BYTE, header_word};
 use crate::header_fields::{FieldCheck, check_fields};
 use crate::inconsistency::Inconsistency;
-use crate::mismatch::{Extent, Mismatch};
+use crate::mismatch::Mismatch;
+use crate::scope::Scope;
 use pdb_base::Result;
-use pdb_msf::{CountedSource, Layout, Source};
-use std::alloc::Global;
+use pdb_msf::{CountedSource, Source};
 
 /// The byte of a file at which its header has the number of the pages in use.
 const PAGES_BYTE: u64 = 40;
@@ -44,20 +44,18 @@ fn page_fields(size: u64, page_size: u32, map: u32, pages: u32) -> [FieldCheck; 
 /// Fails with `IoError` if the source fails, and with `OutOfMemory` if an allocation fails.
 #[tactic(auto, using(crate::proofs::HeaderLemmas::layout_long))]
 pub(crate) fn check_header<S: Source>(
-    alloc: Global,
-    layout: &Layout,
+    scope: &Scope<'_>,
     source: &mut CountedSource<S>,
-    extent: Extent,
 ) -> Result<Vec<Mismatch>>
-    requires sized { 0 < layout.now.head.geometry.page_size }
     requires layout { IsFixed (S.state source.old.source) →
-        layout_of (S.state source.old.source).bytes ≡ Ok layout.now }
+        layout_of (S.state source.old.source).bytes ≡ Ok scope.now.layout.now }
     ensures { ReadsSource (S.state source.old.source) (S.state source.new.source) (λ mismatches. mismatches.items)
-        result (λ file. Ok (asked_of extent (file_header_mismatches layout.now.head.geometry.page_size file))) }
+        result (λ file. Ok (asked_of scope.now.extent (file_header_mismatches
+        scope.now.layout.now.head.geometry.page_size file))) }
 {
-    let size = source.size(alloc)?;
-    let map = header_word(alloc, source, MAP_BYTE)?;
-    let pages = header_word(alloc, source, PAGES_BYTE)?;
-    let fields = page_fields(size, layout.page_size(), map, pages);
-    check_fields(alloc, None, &fields, extent)
+    let size = source.size(scope.alloc)?;
+    let map = header_word(scope.alloc, source, MAP_BYTE)?;
+    let pages = header_word(scope.alloc, source, PAGES_BYTE)?;
+    let fields = page_fields(size, scope.layout.page_size(), map, pages);
+    check_fields(scope.alloc, None, &fields, scope.extent)
 }

@@ -29,6 +29,7 @@ mod records;
 mod references;
 mod relations;
 mod roles;
+mod scope;
 mod sections;
 mod sizes;
 mod streams;

@@ -12,10 +12,10 @@ use crate::inconsistency::Inconsistency;
 use crate::mismatch::{Extent, Mismatch, add};
 use crate::names::INFORMATION_STREAM;
 use crate::roles::DEBUG_STREAM;
+use crate::scope::Scope;
 use pdb_base::{Error, Result, StreamIndex};
 use pdb_file::{DBIExtraStreams, DBIHeader, StreamNames};
 use pdb_msf::Layout;
-use std::alloc::Global;
 
 /// Returns whether a layout has no stream of a number.
 pub(crate) fn is_missing(layout: &Layout, number: u32) -> bool
@@ -65,21 +65,19 @@ fn add_missing(
 /// # Errors
 /// Fails with `OutOfMemory` if an allocation fails.
 pub(crate) fn check_named_streams(
-    alloc: Global,
-    layout: &Layout,
+    scope: &Scope<'_>,
     names: &StreamNames<'_>,
-    extent: Extent,
 ) -> Result<Vec<Mismatch>>
     ensures { Answers (λ mismatches. mismatches.items) result
-        (Ok (asked_of extent (names_mismatches layout.now names.now))) }
+        (Ok (asked_of scope.now.extent (names_mismatches scope.now.layout.now names.now))) }
 {
-    let mut mismatches = Vec::new(alloc);
+    let mut mismatches = Vec::new(scope.alloc);
     let entries = names.as_slice();
     for name in entries {
         add(
             &mut mismatches,
-            extent,
-            index_mismatch(layout, INFORMATION_STREAM, name.stream_id),
+            scope.extent,
+            index_mismatch(scope.layout, INFORMATION_STREAM, name.stream_id),
         )?;
     }
     Ok(mismatches)
@@ -92,23 +90,27 @@ pub(crate) fn check_named_streams(
 /// # Errors
 /// Fails with `OutOfMemory` if an allocation fails.
 pub(crate) fn check_roles(
-    alloc: Global,
-    layout: &Layout,
+    scope: &Scope<'_>,
     header: &DBIHeader,
     roles: &DBIExtraStreams,
-    extent: Extent,
 ) -> Result<Vec<Mismatch>>
     ensures { Answers (λ mismatches. mismatches.items) result
-        (Ok (asked_of extent (indexes_mismatches layout.now 3 (symbol_indexes header.now)
-        ++ indexes_mismatches layout.now 3 (role_indexes roles.now)))) }
+        (Ok (asked_of scope.now.extent (indexes_mismatches scope.now.layout.now 3 (symbol_indexes header.now)
+        ++ indexes_mismatches scope.now.layout.now 3 (role_indexes roles.now)))) }
 {
-    let mut mismatches = Vec::new(alloc);
+    let mut mismatches = Vec::new(scope.alloc);
     let symbols = [
         header.gs_symbols_stream,
         header.ps_symbols_stream,
         header.symbol_records_stream,
     ];
-    add_missing(layout, DEBUG_STREAM, &symbols, extent, &mut mismatches)?;
+    add_missing(
+        scope.layout,
+        DEBUG_STREAM,
+        &symbols,
+        scope.extent,
+        &mut mismatches,
+    )?;
     let roles = [
         roles.fpo,
         roles.exception,
@@ -122,6 +124,12 @@ pub(crate) fn check_roles(
         roles.framedata,
         roles.original_section_headers,
     ];
-    add_missing(layout, DEBUG_STREAM, &roles, extent, &mut mismatches)?;
+    add_missing(
+        scope.layout,
+        DEBUG_STREAM,
+        &roles,
+        scope.extent,
+        &mut mismatches,
+    )?;
     Ok(mismatches)
 }

@@ -12,10 +12,11 @@ ghost use Rattle.pdb_validation.specs.Names.{string_table_number, whole_names};
 use crate::finding::{Finding, Part, absence, in_stream};
 use crate::problem::Problem;
 use crate::read::read;
+use crate::scope::Scope;
 use crate::words::word_at;
 use pdb_base::{Error, Result, Stream};
 use pdb_file::PDBInformation;
-use pdb_msf::{CountedSource, Layout, Source};
+use pdb_msf::{CountedSource, Source};
 use pdb_space::{StringRef, StringTable};
 use std::alloc::Global;
 
@@ -73,15 +74,14 @@ fn check_names_in(stream: Stream) -> Result<()>
 /// Returns the finding of the string table in the stream of a number, if it has an error.
 #[tactic(auto, unfolding(crate::specs::Names::string_table_fault))]
 fn check_string_table<S: Source>(
-    alloc: Global,
-    layout: &Layout,
+    scope: &Scope<'_>,
     source: &mut CountedSource<S>,
     number: u32,
 ) -> Result<Option<Finding>>
     ensures { ReadsSource (S.state source.old.source) (S.state source.new.source) (option_map finding_view) result
-        (λ file. Ok (string_table_fault layout.now file number)) }
+        (λ file. Ok (string_table_fault scope.now.layout.now file number)) }
 {
-    match read(alloc, layout, source, number)? {
+    match read(scope, source, number)? {
         Ok(stream) => match check_names_in(stream) {
             Ok(()) => Ok(None),
             Err(error) => Ok(Some(in_stream(Part::StringTable, number, Problem::Error(error)))),
@@ -92,16 +92,15 @@ fn check_string_table<S: Source>(
 
 /// Returns the finding of the string table in the stream that stream 1 names, if it has an error.
 fn check_named<S: Source>(
-    alloc: Global,
-    layout: &Layout,
+    scope: &Scope<'_>,
     source: &mut CountedSource<S>,
     stream: Stream,
 ) -> Result<Option<Finding>>
     ensures { ReadsSource (S.state source.old.source) (S.state source.new.source) (option_map finding_view) result
-        (λ file. Ok (named_fault layout.now file (string_table_number stream))) }
+        (λ file. Ok (named_fault scope.now.layout.now file (string_table_number stream))) }
 {
-    match string_table_number(alloc, stream) {
-        Ok(Some(number)) => check_string_table(alloc, layout, source, number),
+    match string_table_number(scope.alloc, stream) {
+        Ok(Some(number)) => check_string_table(scope, source, number),
         Ok(None) => Ok(None),
         Err(Error::OutOfMemory) => Err(Error::OutOfMemory),
         Err(error) => Ok(Some(in_stream(Part::Names, INFORMATION_STREAM, Problem::Error(error)))),
@@ -111,15 +110,14 @@ fn check_named<S: Source>(
 /// Returns the finding of stream 1, of its names, or of the string table, if one has an error.
 #[tactic(auto, unfolding(crate::specs::Names::names_fault))]
 pub(crate) fn check_names<S: Source>(
-    alloc: Global,
-    layout: &Layout,
+    scope: &Scope<'_>,
     source: &mut CountedSource<S>,
 ) -> Result<Option<Finding>>
     ensures { ReadsSource (S.state source.old.source) (S.state source.new.source) (option_map finding_view) result
-        (λ file. Ok (names_fault layout.now file)) }
+        (λ file. Ok (names_fault scope.now.layout.now file)) }
 {
-    match read(alloc, layout, source, INFORMATION_STREAM)? {
-        Ok(stream) => check_named(alloc, layout, source, stream),
+    match read(scope, source, INFORMATION_STREAM)? {
+        Ok(stream) => check_named(scope, source, stream),
         Err(error) => Ok(absence(Part::Names, INFORMATION_STREAM, error)),
     }
 }

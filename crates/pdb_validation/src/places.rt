@@ -6,10 +6,9 @@ ghost use Rattle.pdb_base.specs.Memory.{FailsOnlyForMemory};
 ghost use Rattle.pdb_validation.specs.Places.{file_byte, stream_pages};
 ghost use Rattle.pdb_validation.specs.Relations.{file_place};
 
+use crate::scope::Scope;
 use crate::sizes::size_or_none;
 use pdb_base::{Error, Result};
-use pdb_msf::Layout;
-use std::alloc::Global;
 use std::marker::Model;
 
 /// The pages over which a stream is scattered.
@@ -34,13 +33,12 @@ impl Model for StreamPages {
 impl StreamPages {
     /// Returns the pages of a stream, which are none if there is no such stream.
     #[tactic(auto, unfolding(crate::specs::Places::stream_pages))]
-    pub(crate) fn of(alloc: Global, layout: &Layout, number: u32) -> Result<StreamPages>
-        requires { 0 < layout.now.head.geometry.page_size }
-        ensures { Answers (λ pages. pages) result (Ok (stream_pages layout.now number)) }
+    pub(crate) fn of(scope: &Scope<'_>, number: u32) -> Result<StreamPages>
+        ensures { Answers (λ pages. pages) result (Ok (stream_pages scope.now.layout.now number)) }
     {
-        let page_size = layout.page_size();
-        let size = size_or_none(layout, number);
-        match layout.stream_pages(alloc, number) {
+        let page_size = scope.layout.page_size();
+        let size = size_or_none(scope.layout, number);
+        match scope.layout.stream_pages(scope.alloc, number) {
             Ok(numbers) => Ok(StreamPages {
                 page_size,
                 size,
@@ -50,7 +48,7 @@ impl StreamPages {
             Err(_) => Ok(StreamPages {
                 page_size,
                 size,
-                numbers: Vec::new(alloc),
+                numbers: Vec::new(scope.alloc),
             }),
         }
     }
@@ -79,29 +77,27 @@ pub(crate) struct LastPages {
 
 impl LastPages {
     /// Returns the pages of stream 0.
-    pub(crate) fn first(alloc: Global, layout: &Layout) -> Result<LastPages>
-        requires { 0 < layout.now.head.geometry.page_size }
-        ensures last { IfOk result (λ last. last.pages ≡ stream_pages layout.now last.number) }
+    pub(crate) fn first(scope: &Scope<'_>) -> Result<LastPages>
+        ensures last { IfOk result (λ last. last.pages ≡ stream_pages scope.now.layout.now last.number) }
         ensures memory { FailsOnlyForMemory result }
     {
         Ok(LastPages {
             number: 0,
-            pages: StreamPages::of(alloc, layout, 0)?,
+            pages: StreamPages::of(scope, 0)?,
         })
     }
 
     /// Looks the pages of a stream up, unless they are those of the last one.
-    fn turn_to(&mut self, alloc: Global, layout: &Layout, number: u32) -> Result<()>
-        requires sized { 0 < layout.now.head.geometry.page_size }
-        requires last { self.old.pages ≡ stream_pages layout.now self.old.number }
-        ensures last { OnOk result (self.new.pages ≡ stream_pages layout.now number) }
+    fn turn_to(&mut self, scope: &Scope<'_>, number: u32) -> Result<()>
+        requires last { self.old.pages ≡ stream_pages scope.now.layout.now self.old.number }
+        ensures last { OnOk result (self.new.pages ≡ stream_pages scope.now.layout.now number) }
         ensures number { OnOk result (self.new.number ≡ number) }
         ensures memory { FailsOnlyForMemory result }
     {
         if self.number == number {
             return Ok(());
         }
-        self.pages = StreamPages::of(alloc, layout, number)?;
+        self.pages = StreamPages::of(scope, number)?;
         self.number = number;
         Ok(())
     }
@@ -109,15 +105,13 @@ impl LastPages {
     /// Returns the byte of the file that is a byte of a stream, if there are such.
     pub(crate) fn place_of(
         &mut self,
-        alloc: Global,
-        layout: &Layout,
+        scope: &Scope<'_>,
         stream: Option<u32>,
         byte: Option<u64>,
     ) -> Result<Option<u64>>
-        requires sized { 0 < layout.now.head.geometry.page_size }
-        requires last { self.old.pages ≡ stream_pages layout.now self.old.number }
-        ensures place { IfOk result (λ place. place ≡ file_place layout.now stream byte) }
-        ensures last { OnOk result (self.new.pages ≡ stream_pages layout.now self.new.number) }
+        requires last { self.old.pages ≡ stream_pages scope.now.layout.now self.old.number }
+        ensures place { IfOk result (λ place. place ≡ file_place scope.now.layout.now stream byte) }
+        ensures last { OnOk result (self.new.pages ≡ stream_pages scope.now.layout.now self.new.number) }
         ensures memory { FailsOnlyForMemory result }
     {
         let Some(number) = stream else {
@@ -126,7 +120,7 @@ impl LastPages {
         let Some(byte) = byte else {
             return Ok(None);
         };
-        self.turn_to(alloc, layout, number)?;
+        self.turn_to(scope, number)?;
         Ok(self.pages.file_byte(byte))
     }
 }

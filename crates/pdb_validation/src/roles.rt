@@ -17,11 +17,12 @@ use crate::finding::{Finding, Part, absence, in_stream};
 use crate::inconsistency::Inconsistency;
 use crate::problem::Problem;
 use crate::read::read;
+use crate::scope::Scope;
 use pdb_base::{Error, FallibleIterator, Result, Stream, StreamIndex};
 use pdb_file::DBIExtraStreams;
 use pdb_file::section_headers::section_headers;
 use pdb_frames::{FrameDataIter, FrameTable};
-use pdb_msf::{CountedSource, Layout, Source};
+use pdb_msf::{CountedSource, Source};
 use pdb_space::OMAPTable;
 use std::alloc::Global;
 
@@ -151,37 +152,35 @@ fn check_bytes_of(alloc: Global, part: Part, number: u32, stream: Stream) -> Res
 
 /// Returns the finding of the stream with a number, if it has an error.
 fn check_numbered<S: Source>(
-    alloc: Global,
-    layout: &Layout,
+    scope: &Scope<'_>,
     source: &mut CountedSource<S>,
     part: Part,
     number: u32,
 ) -> Result<Option<Finding>>
     ensures { ReadsSource (S.state source.old.source) (S.state source.new.source) (option_map finding_view) result
-        (λ file. Ok (numbered_fault layout.now file part (Some number))) }
+        (λ file. Ok (numbered_fault scope.now.layout.now file part (Some number))) }
 {
-    match read(alloc, layout, source, number)? {
-        Ok(stream) => check_bytes_of(alloc, part, number, stream),
+    match read(scope, source, number)? {
+        Ok(stream) => check_bytes_of(scope.alloc, part, number, stream),
         Err(error) => Ok(absence(part, number, error)),
     }
 }
 
 /// Returns the finding of the stream of a role, if it has an error.
 pub(crate) fn check_role<S: Source>(
-    alloc: Global,
-    layout: &Layout,
+    scope: &Scope<'_>,
     source: &mut CountedSource<S>,
     roles: &Option<DBIExtraStreams>,
     part: Part,
 ) -> Result<Option<Finding>>
     ensures { ReadsSource (S.state source.old.source) (S.state source.new.source) (option_map finding_view) result
-        (λ file. Ok (role_fault layout.now file part roles.now)) }
+        (λ file. Ok (role_fault scope.now.layout.now file part roles.now)) }
 {
     let Some(roles) = roles else {
         return Ok(None);
     };
     match role_index(part, roles).msf_number() {
-        Some(number) => check_numbered(alloc, layout, source, part, number),
+        Some(number) => check_numbered(scope, source, part, number),
         None => Ok(None),
     }
 }
@@ -189,14 +188,13 @@ pub(crate) fn check_role<S: Source>(
 /// Returns the roles that stream 3 gives, if its bytes can be read and give roles.
 #[tactic(auto, unfolding(crate::specs::Roles::known_roles))]
 pub(crate) fn known_roles<S: Source>(
-    alloc: Global,
-    layout: &Layout,
+    scope: &Scope<'_>,
     source: &mut CountedSource<S>,
 ) -> Result<Option<DBIExtraStreams>>
     ensures { ReadsSource (S.state source.old.source) (S.state source.new.source) (λ roles. roles) result
-        (λ file. Ok (known_roles layout.now file)) }
+        (λ file. Ok (known_roles scope.now.layout.now file)) }
 {
-    match read(alloc, layout, source, DEBUG_STREAM)? {
+    match read(scope, source, DEBUG_STREAM)? {
         Ok(stream) => Ok(DBIExtraStreams::new(&stream).ok()),
         Err(_) => Ok(None),
     }
@@ -215,14 +213,13 @@ fn check_debug_stream(stream: &Stream) -> Option<Finding>
 /// Returns the finding of stream 3, if its header or its roles have an error.
 #[tactic(auto, unfolding(crate::specs::Roles::roles_fault))]
 pub(crate) fn check_roles<S: Source>(
-    alloc: Global,
-    layout: &Layout,
+    scope: &Scope<'_>,
     source: &mut CountedSource<S>,
 ) -> Result<Option<Finding>>
     ensures { ReadsSource (S.state source.old.source) (S.state source.new.source) (option_map finding_view) result
-        (λ file. Ok (roles_fault layout.now file)) }
+        (λ file. Ok (roles_fault scope.now.layout.now file)) }
 {
-    match read(alloc, layout, source, DEBUG_STREAM)? {
+    match read(scope, source, DEBUG_STREAM)? {
         Ok(stream) => Ok(check_debug_stream(&stream)),
         Err(_) => Ok(None),
     }

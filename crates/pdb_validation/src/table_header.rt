@@ -10,12 +10,12 @@ ghost use Rattle.pdb_validation.specs.TableHeader.{lacks_places, lacks_stream, r
 
 use crate::header_fields::{FieldCheck, add_fields};
 use crate::inconsistency::Inconsistency;
-use crate::mismatch::{Extent, Mismatch};
+use crate::mismatch::Mismatch;
 use crate::missing_streams::is_missing;
+use crate::scope::Scope;
 use pdb_base::{ItemIndex, Result, StreamIndex};
 use pdb_msf::Layout;
 use pdb_tpi::{OpenTable, RecordPlace, Slice};
-use std::alloc::Global;
 
 /// The versions of the format.
 const VERSIONS: [u32; 5] = [19950410, 19951122, 19961031, 19990903, 20040203];
@@ -173,24 +173,27 @@ fn hash_fields<I: ItemIndex>(layout: &Layout, table: &OpenTable<I>) -> [FieldChe
 /// Fails with `OutOfMemory` if an allocation fails.
 #[tactic(auto, unfolding(crate::specs::TableHeader::table_header_mismatches))]
 pub(crate) fn check_table_header<I: ItemIndex>(
-    alloc: Global,
-    layout: &Layout,
+    scope: &Scope<'_>,
     number: u32,
     table: &OpenTable<I>,
-    extent: Extent,
 ) -> Result<Vec<Mismatch>>
     ensures { Answers (λ mismatches. mismatches.items) result
-        (Ok (asked_of extent (table_header_mismatches layout.now number table.now.table))) }
+        (Ok (asked_of scope.now.extent (table_header_mismatches scope.now.layout.now number table.now.table))) }
 {
-    let mut mismatches = Vec::new(alloc);
+    let mut mismatches = Vec::new(scope.alloc);
     if table.items().header().header_size == 0 {
         return Ok(mismatches);
     }
-    add_fields(Some(number), &record_fields(table), extent, &mut mismatches)?;
     add_fields(
         Some(number),
-        &hash_fields(layout, table),
-        extent,
+        &record_fields(table),
+        scope.extent,
+        &mut mismatches,
+    )?;
+    add_fields(
+        Some(number),
+        &hash_fields(scope.layout, table),
+        scope.extent,
         &mut mismatches,
     )?;
     Ok(mismatches)

@@ -64,18 +64,12 @@ fn union_groups(alloc: Global, pieces: &[Piece]) -> AllocResult<Vec<Group>> {
 }
 
 /// Returns how a class of a size is laid out.
-fn plan_of(
-    alloc: Global,
-    context: &Context<'_, '_>,
-    word: Word,
-    sketch: &Sketch,
-    size: u64,
-) -> AllocResult<Plan> {
+fn plan_of(context: &Context<'_, '_>, word: Word, sketch: &Sketch, size: u64) -> AllocResult<Plan> {
     let pieces = &sketch.pieces;
     let groups = if word == Word::Union {
-        union_groups(alloc, pieces)?
+        union_groups(context.table.alloc, pieces)?
     } else {
-        groups_of(alloc, pieces)?
+        groups_of(context.table.alloc, pieces)?
     };
     let is_natural = is_natural(pieces, &groups, size);
     let alignment = if is_natural {
@@ -193,7 +187,6 @@ fn push_definition(
 /// # Errors
 /// Fails as `Definitions::marked_text` and `Definitions::size_of` do for its fields.
 pub(crate) fn push_class<'t>(
-    alloc: Global,
     context: &Context<'_, 't>,
     target: &Target<'t>,
     layout: &Layout<'t>,
@@ -205,27 +198,27 @@ pub(crate) fn push_class<'t>(
         known,
         target,
         sketch: Sketch {
-            before: TextBuffer::new(alloc),
-            notes: TextBuffer::new(alloc),
-            pieces: Vec::new(alloc),
-            empty_bases: Vec::new(alloc),
-            assertions: TextBuffer::new(alloc),
+            before: TextBuffer::new(context.table.alloc),
+            notes: TextBuffer::new(context.table.alloc),
+            pieces: Vec::new(context.table.alloc),
+            empty_bases: Vec::new(context.table.alloc),
+            assertions: TextBuffer::new(context.table.alloc),
         },
     };
-    sketcher.add_fields(alloc, layout)?;
+    sketcher.add_fields(context.table.alloc, layout)?;
     let Sketcher { known, sketch, .. } = sketcher;
     let (word, size) = (target.named.word, layout.size);
     text.push_text(&sketch.before);
     push_origin(target, text);
     if size == 0 || !target.name.scope.is_empty() {
-        push_declaration(alloc, context, target, known, text)?;
+        push_declaration(context, target, known, text)?;
     }
     known.declare(target.index);
     if size == 0 {
         text.push(b"// It has no bytes, so there is no definition.\n\n");
         return Ok(());
     }
-    let plan = plan_of(alloc, context, word, &sketch, size)?;
+    let plan = plan_of(context, word, &sketch, size)?;
     push_definition(context, target, &sketch, &plan, size, text);
     push_assertion(context, target, None, size, text);
     text.push_text(&sketch.assertions);

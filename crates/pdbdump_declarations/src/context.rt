@@ -4,15 +4,13 @@ use crate::naming::{Name, Naming};
 use crate::options::Language;
 use crate::table_walk::{Named, named_of};
 use pdb_base::{Result, TypeIndex};
-use pdb_types::Definitions;
-use pdbdump_types::type_at;
-use std::alloc::Global;
+use pdbdump_types::{Table, type_at};
 
 /// What all parts of a header are written by.
 #[derive(Clone, Copy)]
 pub(crate) struct Context<'d, 't> {
     /// The types.
-    pub(crate) definitions: &'d Definitions<'t>,
+    pub(crate) table: Table<'d, 't>,
 
     /// How they are called.
     pub(crate) naming: &'d Naming,
@@ -48,13 +46,16 @@ impl<'d, 't> Context<'d, 't> {
     ///
     /// # Errors
     /// Fails as `Definitions::definition_of` does.
-    pub(crate) fn target(&self, alloc: Global, index: TypeIndex) -> Result<Option<Target<'t>>> {
-        let definition = self.definitions.definition_of(alloc, index)?;
+    pub(crate) fn target(&self, index: TypeIndex) -> Result<Option<Target<'t>>> {
+        let definition = self
+            .table
+            .definitions
+            .definition_of(self.table.alloc, index)?;
         let index = definition.unwrap_or(index);
-        let Some(named) = named_of(&type_at(alloc, self.definitions.types(), index)?) else {
+        let Some(named) = named_of(&self.table.type_at(index)?) else {
             return Ok(None);
         };
-        let name = self.naming.name_of(alloc, index, &named)?;
+        let name = self.naming.name_of(self.table.alloc, index, &named)?;
         Ok(Some(Target { index, named, name }))
     }
 }

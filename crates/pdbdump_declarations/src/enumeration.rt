@@ -69,29 +69,31 @@ fn push_c(target: &Target<'_>, all: &[Enumerator<'_>], names: &[Vec<u8>], out: &
 /// # Errors
 /// Fails as `OpenTable::fields` and `Definitions::marked_text` do.
 pub(crate) fn push_enumeration<'t>(
-    alloc: Global,
     context: &Context<'_, 't>,
     target: &Target<'t>,
     enumeration: &EnumerationType<'t>,
     known: &mut Known,
     text: &mut TextBuffer,
 ) -> Result<()> {
-    let definitions = context.definitions;
     let underlying = enumeration.underlying_type;
-    let all = enumerators_of(alloc, definitions, enumeration.fields, underlying)?;
-    let names = names_of(alloc, &all)?;
+    let all = enumerators_of(context.table, enumeration.fields, underlying)?;
+    let names = names_of(context.table.alloc, &all)?;
     push_origin(target, text);
     if context.is_c() || !target.name.scope.is_empty() {
-        push_declaration(alloc, context, target, known, text)?;
+        push_declaration(context, target, known, text)?;
     }
     known.declare(target.index);
     if context.is_c() {
         push_c(target, &all, &names, text);
     } else {
-        let underlying = underlying_text(alloc, context, target.named.underlying)?;
+        let underlying = underlying_text(context, target.named.underlying)?;
         push_cpp(target, &all, &names, &underlying, text);
     }
-    let size = definitions.size_of(alloc, target.index)?.unwrap_or(0);
+    let size = context
+        .table
+        .definitions
+        .size_of(context.table.alloc, target.index)?
+        .unwrap_or(0);
     push_assertion(context, target, None, size, text);
     text.push(b"\n");
     known.define(target.index, size, false);

@@ -167,7 +167,7 @@ impl<'s, 'd, 't> Sketcher<'s, 'd, 't> {
         name: &[u8],
     ) -> Result<()> {
         let index = field.place.field_type;
-        let target = self.context.target(alloc, index)?;
+        let target = self.context.target(index)?;
         let mut base = TextBuffer::new(alloc);
         let mut is_empty = false;
         if let Some(target) = &target {
@@ -194,7 +194,8 @@ impl<'s, 'd, 't> Sketcher<'s, 'd, 't> {
     ) -> Result<()> {
         let index = field.place.field_type;
         let start = field.place.offset;
-        let size = self.context.definitions.size_of(alloc, index)?;
+        let table = self.context.table;
+        let size = table.definitions.size_of(alloc, index)?;
         let Some(width) = end.checked_sub(start) else {
             self.push_note(BEYOND, name);
             return Ok(());
@@ -256,11 +257,8 @@ impl<'s, 'd, 't> Sketcher<'s, 'd, 't> {
             self.push_note(BEYOND, name);
             return Ok(());
         }
-        let definitions = self.context.definitions;
-        let own = self
-            .known
-            .texts
-            .bytes(alloc, definitions, field.place.field_type, b"")?;
+        let table = self.context.table;
+        let own = self.known.texts.bytes(table, field.place.field_type, b"")?;
         let mut text = TextBuffer::new(alloc);
         text.push(b"unsigned char ");
         text.push(name);

@@ -19,7 +19,9 @@ use pdb_base::{Error, Stream, TypeIndex};
 use pdb_output::Output;
 use pdb_types::{DeclarationOrder, Definitions};
 use pdb_values::TypeData;
-use pdbdump_types::{Progress, TextBuffer, learn_table, tell, tell_fault, tell_index, type_at};
+use pdbdump_types::{
+    Progress, Table, TextBuffer, learn_table, tell, tell_fault, tell_index, type_at,
+};
 use std::alloc::Global;
 use std::io::Write;
 
@@ -46,27 +48,25 @@ fn head_text(alloc: Global, language: Language, pointer_size: u64) -> AllocResul
 
 /// Returns the definition of a type, with what it needs.
 fn type_text<'t>(
-    alloc: Global,
     context: &Context<'_, 't>,
     index: TypeIndex,
     known: &mut Known,
 ) -> Result<Vec<u8>, Error> {
-    let Some(target) = context.target(alloc, index)? else {
-        return Ok(Vec::new(alloc));
+    let Some(target) = context.target(index)? else {
+        return Ok(Vec::new(context.table.alloc));
     };
-    let definitions = context.definitions;
-    let mut text = TextBuffer::new(alloc);
-    if let TypeData::Enumeration(enumeration) = type_at(alloc, definitions.types(), index)? {
-        push_enumeration(alloc, context, &target, &enumeration, known, &mut text)?;
-    } else if let Some(layout) = definitions.layout_of(alloc, index)? {
-        push_class(alloc, context, &target, &layout, known, &mut text)?;
+    let table = context.table;
+    let mut text = TextBuffer::new(context.table.alloc);
+    if let TypeData::Enumeration(enumeration) = table.type_at(index)? {
+        push_enumeration(context, &target, &enumeration, known, &mut text)?;
+    } else if let Some(layout) = table.definitions.layout_of(context.table.alloc, index)? {
+        push_class(context, &target, &layout, known, &mut text)?;
     }
     Ok(text.finish()?)
 }
 
 /// Writes the definition of a type, or tells why it can't be written.
 fn declare_type<O: Write, E: Write>(
-    alloc: Global,
     context: &Context<'_, '_>,
     index: TypeIndex,
     known: &mut Known,
@@ -77,15 +77,14 @@ fn declare_type<O: Write, E: Write>(
     ensures accounted { OnOk result (StaysAccounted progress.old progress.new err.old err.new) }
     ensures stopped { IsStopped out.new result }
 {
-    match type_text(alloc, context, index, known) {
+    match type_text(context, index, known) {
         Ok(text) => out.write(&text),
-        Err(fault) => tell_fault(alloc, index, &fault, progress, err),
+        Err(fault) => tell_fault(context.table.alloc, index, &fault, progress, err),
     }
 }
 
 /// Writes the definitions of types.
 fn declare_types<O: Write, E: Write>(
-    alloc: Global,
     context: &Context<'_, '_>,
     types: &[TypeIndex],
     known: &mut Known,
@@ -97,14 +96,13 @@ fn declare_types<O: Write, E: Write>(
     ensures stopped { IsStopped out.new result }
 {
     for index in types {
-        declare_type(alloc, context, *index, known, progress, out, err)?;
+        declare_type(context, *index, known, progress, out, err)?;
     }
     Ok(())
 }
 
 /// Writes a header with the definitions of types, which are in an order in which they can be declared.
 fn declare_ordered<O: Write, E: Write>(
-    alloc: Global,
     context: &Context<'_, '_>,
     types: &[TypeIndex],
     behind: u32,
@@ -115,11 +113,16 @@ fn declare_ordered<O: Write, E: Write>(
     ensures accounted { OnOk result (StaysAccounted progress.old progress.new err.old err.new) }
     ensures stopped { IsStopped out.new result }
 {
-    let header = context.definitions.types().items().header();
-    let mut known = Known::new(alloc, header.minimum_index, behind, progress.texts())?;
-    let head = head_text(alloc, context.language, context.pointer_size)?;
+    let header = context.table.definitions.types().items().header();
+    let mut known = Known::new(
+        context.table.alloc,
+        header.minimum_index,
+        behind,
+        progress.texts(),
+    )?;
+    let head = head_text(context.table.alloc, context.language, context.pointer_size)?;
     out.write(&head)?;
-    declare_types(alloc, context, types, &mut known, progress, out, err)
+    declare_types(context, types, &mut known, progress, out, err)
 }
 
 /// Tells of the types of a cycle, each of which holds the next one, and the last one the first.
@@ -140,8 +143,7 @@ fn tell_cycle<E: Write>(
 
 /// Adds the types that a name means to some, or tells that it means none.
 fn find_name<E: Write>(
-    alloc: Global,
-    definitions: &Definitions<'_>,
+    table: Table<'_, '_>,
     walked: &Walked<'_>,
     name: &str,
     found: &mut Vec<TypeIndex>,
@@ -151,9 +153,9 @@ fn find_name<E: Write>(
     ensures accounted { OnOk result (StaysAccounted progress.old progress.new err.old err.new) }
     ensures memory { FailsOnlyForMemory result }
 {
-    let types = types_named(alloc, definitions, walked, name)?;
+    let types = types_named(table, walked, name)?;
     if types.is_empty() {
-        return tell(alloc, name.as_bytes(), NO_NAME, progress, err);
+        return tell(table.alloc, name.as_bytes(), NO_NAME, progress, err);
     }
     found.extend_from_slice(&types)?;
     Ok(())
@@ -161,8 +163,7 @@ fn find_name<E: Write>(
 
 /// Does the same for each of some names.
 fn find_names<E: Write>(
-    alloc: Global,
-    definitions: &Definitions<'_>,
+    table: Table<'_, '_>,
     walked: &Walked<'_>,
     names: &[&str],
     found: &mut Vec<TypeIndex>,
@@ -173,15 +174,14 @@ fn find_names<E: Write>(
     ensures memory { FailsOnlyForMemory result }
 {
     for name in names {
-        find_name(alloc, definitions, walked, name, found, progress, err)?;
+        find_name(table, walked, name, found, progress, err)?;
     }
     Ok(())
 }
 
 /// Writes the header of the types of a table that are wanted.
 fn declare_asked<O: Write, E: Write>(
-    alloc: Global,
-    definitions: &Definitions<'_>,
+    table: Table<'_, '_>,
     names: &[&str],
     options: &Options,
     progress: &mut Progress,
@@ -191,30 +191,22 @@ fn declare_asked<O: Write, E: Write>(
     ensures accounted { OnOk result (StaysAccounted progress.old progress.new err.old err.new) }
     ensures stopped { IsStopped out.new result }
 {
-    let walked = walk(alloc, definitions)?;
-    let naming = Naming::new(alloc, &walked, options.language)?;
-    let mut roots = first_types(alloc, &walked, options.all)?;
-    find_names(
-        alloc,
-        definitions,
-        &walked,
-        names,
-        &mut roots,
-        progress,
-        err,
-    )?;
-    limit_types(alloc, definitions, walked.behind, &mut roots, progress, err)?;
+    let walked = walk(table)?;
+    let naming = Naming::new(table.alloc, &walked, options.language)?;
+    let mut roots = first_types(table.alloc, &walked, options.all)?;
+    find_names(table, &walked, names, &mut roots, progress, err)?;
+    limit_types(table, walked.behind, &mut roots, progress, err)?;
     let context = Context {
-        definitions,
+        table,
         naming: &naming,
         language: options.language,
         pointer_size: walked.pointer_size,
     };
-    match definitions.declaration_order(alloc, &roots)? {
+    match table.definitions.declaration_order(table.alloc, &roots)? {
         DeclarationOrder::Ordered(types) => {
-            declare_ordered(alloc, &context, &types, walked.behind, progress, out, err)
+            declare_ordered(&context, &types, walked.behind, progress, out, err)
         }
-        DeclarationOrder::Cycle(cycle) => tell_cycle(alloc, &cycle, progress, err),
+        DeclarationOrder::Cycle(cycle) => tell_cycle(table.alloc, &cycle, progress, err),
     }
 }
 
@@ -245,6 +237,10 @@ pub fn declare<O: Write, E: Write>(
     let mut progress = Progress::new(stream.as_slice().len());
     let types = learn_table(alloc, stream)?;
     let definitions = Definitions::new(alloc, &types)?;
-    declare_asked(alloc, &definitions, names, options, &mut progress, out, err)?;
+    let table = Table {
+        alloc,
+        definitions: &definitions,
+    };
+    declare_asked(table, names, options, &mut progress, out, err)?;
     Ok(progress.is_whole)
 }

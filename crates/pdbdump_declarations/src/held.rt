@@ -6,7 +6,6 @@ use pdb_base::{Result, TypeIndex};
 use pdb_flags::PointerMode;
 use pdb_values::{ArrayType, Indirection, PointerType, TypeData};
 use pdbdump_types::type_at;
-use std::alloc::Global;
 
 /// How many types are gone through at most of which each is within the one before.
 const MOST_WITHIN: u32 = 32;
@@ -68,18 +67,17 @@ impl<'d, 't> Context<'d, 't> {
 
     /// Returns to how many bytes a pointer is aligned, or None if C can't say it. What it points to
     /// may be defined later, but not if that is an array.
-    fn pointer_alignment(
-        &self,
-        alloc: Global,
-        pointer: &PointerType,
-        known: &Known,
-    ) -> Result<Option<u64>> {
+    fn pointer_alignment(&self, pointer: &PointerType, known: &Known) -> Result<Option<u64>> {
         if !self.is_plain(pointer) {
             return Ok(None);
         }
-        let value = type_at(alloc, self.definitions.types(), pointer.underlying_type)?;
+        let value = self.table.type_at(pointer.underlying_type)?;
         if let TypeData::Array(array) = &value {
-            if let Some(needed) = self.definitions.held_definition(alloc, array.element_type)? {
+            if let Some(needed) = self
+                .table
+                .definitions
+                .held_definition(self.table.alloc, array.element_type)?
+            {
                 if known.alignment(needed).is_none() {
                     return Ok(None);
                 }
@@ -92,7 +90,6 @@ impl<'d, 't> Context<'d, 't> {
     /// member of it.
     fn last_alignment(
         &self,
-        alloc: Global,
         index: TypeIndex,
         value: &TypeData<'t>,
         known: &Known,
@@ -100,10 +97,14 @@ impl<'d, 't> Context<'d, 't> {
         match value {
             TypeData::Primitive(primitive) => match primitive.indirection {
                 Some(indirection) => Ok(self.indirection_alignment(indirection)),
-                None => self.definitions.size_of(alloc, index),
+                None => self.table.definitions.size_of(self.table.alloc, index),
             },
-            TypeData::Pointer(pointer) => self.pointer_alignment(alloc, pointer, known),
-            _ => match self.definitions.definition_of(alloc, index)? {
+            TypeData::Pointer(pointer) => self.pointer_alignment(pointer, known),
+            _ => match self
+                .table
+                .definitions
+                .definition_of(self.table.alloc, index)?
+            {
                 Some(definition) => Ok(known.alignment(definition)),
                 None => Ok(None),
             },
@@ -116,24 +117,22 @@ impl<'d, 't> Context<'d, 't> {
     ///
     /// # Errors
     /// Fails as `Definitions::size_of` does.
-    pub(crate) fn alignment(
-        &self,
-        alloc: Global,
-        index: TypeIndex,
-        known: &Known,
-    ) -> Result<Option<u64>> {
+    pub(crate) fn alignment(&self, index: TypeIndex, known: &Known) -> Result<Option<u64>> {
         let mut index = index;
         for _ in 0..MOST_WITHIN {
-            let value = type_at(alloc, self.definitions.types(), index)?;
+            let value = self.table.type_at(index)?;
             if let TypeData::Array(array) = &value {
-                let element = self.definitions.size_of(alloc, array.element_type)?;
+                let element = self
+                    .table
+                    .definitions
+                    .size_of(self.table.alloc, array.element_type)?;
                 if !has_whole_dimensions(array, element.unwrap_or(0)) {
                     return Ok(None);
                 }
             }
             match inner_type(&value) {
                 Some(inner) => index = inner,
-                None => return self.last_alignment(alloc, index, &value, known),
+                None => return self.last_alignment(index, &value, known),
             }
         }
         Ok(None)

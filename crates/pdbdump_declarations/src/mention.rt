@@ -6,7 +6,6 @@ use crate::naming::Name;
 use crate::table_walk::Word;
 use pdb_base::{Result, TypeIndex};
 use pdbdump_types::TextBuffer;
-use std::alloc::Global;
 
 /// How many bytes the declaration of a member has at most.
 const MOST_BYTES: usize = 65_536;
@@ -15,17 +14,17 @@ const MOST_BYTES: usize = 65_536;
 ///
 /// # Errors
 /// Fails as `Definitions::marked_text` does.
-pub(crate) fn underlying_text(
-    alloc: Global,
-    context: &Context<'_, '_>,
-    underlying: TypeIndex,
-) -> Result<Vec<u8>> {
+pub(crate) fn underlying_text(context: &Context<'_, '_>, underlying: TypeIndex) -> Result<Vec<u8>> {
     if underlying.0 < 0x100 {
-        if let Some(text) = context.definitions.marked_text(alloc, underlying, b"")? {
+        if let Some(text) = context
+            .table
+            .definitions
+            .marked_text(context.table.alloc, underlying, b"")?
+        {
             return Ok(text);
         }
     }
-    Ok(Vec::from_slice(alloc, b"int")?)
+    Ok(Vec::from_slice(context.table.alloc, b"int")?)
 }
 
 /// Appends the name of a type as a declaration of C or C++ mentions it, with the word for what it is.
@@ -94,7 +93,6 @@ fn push_forward(target: &Target<'_>, underlying: Option<&[u8]>, out: &mut TextBu
 /// # Errors
 /// Fails as `Definitions::marked_text` does.
 pub(crate) fn push_declaration(
-    alloc: Global,
     context: &Context<'_, '_>,
     target: &Target<'_>,
     known: &mut Known,
@@ -107,7 +105,7 @@ pub(crate) fn push_declaration(
         push_forward(target, None, out);
         return Ok(());
     }
-    let underlying = underlying_text(alloc, context, target.named.underlying)?;
+    let underlying = underlying_text(context, target.named.underlying)?;
     if context.is_c() {
         push_alias(target, &underlying, out);
     } else {
@@ -133,7 +131,6 @@ fn index_of(digits: &[u8]) -> TypeIndex {
 /// # Errors
 /// Fails as `Definitions::marked_text` and `Definitions::definition_of` do.
 pub(crate) fn declared_text(
-    alloc: Global,
     context: &Context<'_, '_>,
     index: TypeIndex,
     name: &[u8],
@@ -144,11 +141,15 @@ pub(crate) fn declared_text(
     if known.texts.is_spent() {
         return Ok(None);
     }
-    let Some(marked) = context.definitions.marked_text(alloc, index, name)? else {
+    let Some(marked) = context
+        .table
+        .definitions
+        .marked_text(context.table.alloc, index, name)?
+    else {
         return Ok(None);
     };
     known.texts.take(marked.len());
-    let mut text = TextBuffer::new(alloc);
+    let mut text = TextBuffer::new(context.table.alloc);
     let mut is_first = true;
     for part in marked.split(|byte| *byte == b'@') {
         if is_first {
@@ -158,9 +159,9 @@ pub(crate) fn declared_text(
         }
         let digits = part.get(..8).unwrap_or(part);
         let behind = part.get(8..).unwrap_or(b"");
-        if let Some(target) = context.target(alloc, index_of(digits))? {
+        if let Some(target) = context.target(index_of(digits))? {
             known.texts.take(target.named.name.len());
-            push_declaration(alloc, context, &target, known, before)?;
+            push_declaration(context, &target, known, before)?;
             push_mention(context, &target, is_scoped, &mut text);
         }
         text.push(behind);

@@ -7,8 +7,7 @@ ghost use Rattle.pdbdump_types.specs.Shown.{StaysAccounted};
 use crate::memory::AllocResult;
 use pdb_base::{Error, TypeIndex};
 use pdb_output::Output;
-use pdb_types::Definitions;
-use pdbdump_types::{Progress, TOO_MANY, tell_index};
+use pdbdump_types::{Progress, TOO_MANY, Table, tell_index};
 use std::alloc::{AllocError, Global};
 use std::io::Write;
 
@@ -55,13 +54,8 @@ impl Needed {
     }
 
     /// Adds the types that one needs by value. One that can't be read needs none.
-    fn push_needs(
-        &mut self,
-        alloc: Global,
-        definitions: &Definitions<'_>,
-        index: TypeIndex,
-    ) -> AllocResult<()> {
-        let needs = match definitions.needs_of(alloc, index) {
+    fn push_needs(&mut self, table: Table<'_, '_>, index: TypeIndex) -> AllocResult<()> {
+        let needs = match table.definitions.needs_of(table.alloc, index) {
             Ok(needs) => needs,
             Err(Error::OutOfMemory) => return Err(AllocError),
             Err(_) => return Ok(()),
@@ -76,8 +70,7 @@ impl Needed {
     /// whether they may be.
     fn take_fields(
         &mut self,
-        alloc: Global,
-        definitions: &Definitions<'_>,
+        table: Table<'_, '_>,
         index: TypeIndex,
         progress: &mut Progress,
     ) -> AllocResult<bool>
@@ -89,10 +82,10 @@ impl Needed {
             let Some(next) = self.unread.pop() else {
                 return Ok(true);
             };
-            if !progress.take_fields(alloc, definitions, next)? {
+            if !progress.take_fields(table, next)? {
                 return Ok(false);
             }
-            self.push_needs(alloc, definitions, next)?;
+            self.push_needs(table, next)?;
         }
         Ok(true)
     }
@@ -100,8 +93,7 @@ impl Needed {
 
 /// Returns how many of the first of some types can be declared.
 fn allowed_count(
-    alloc: Global,
-    definitions: &Definitions<'_>,
+    table: Table<'_, '_>,
     types: &[TypeIndex],
     end: u32,
     progress: &mut Progress,
@@ -109,10 +101,10 @@ fn allowed_count(
     ensures shown { progress.new.has_shown ≡ progress.old.has_shown }
     ensures whole { progress.new.is_whole ≡ progress.old.is_whole }
 {
-    let first = definitions.types().items().header().minimum_index;
-    let mut needed = Needed::none(alloc, first, end)?;
+    let first = table.definitions.types().items().header().minimum_index;
+    let mut needed = Needed::none(table.alloc, first, end)?;
     for (place, index) in types.iter().enumerate() {
-        if !needed.take_fields(alloc, definitions, *index, progress)? {
+        if !needed.take_fields(table, *index, progress)? {
             return Ok(place);
         }
     }
@@ -125,8 +117,7 @@ fn allowed_count(
 /// # Errors
 /// Fails with `OutOfMemory` if an allocation fails.
 pub(crate) fn limit_types<E: Write>(
-    alloc: Global,
-    definitions: &Definitions<'_>,
+    table: Table<'_, '_>,
     end: u32,
     types: &mut Vec<TypeIndex>,
     progress: &mut Progress,
@@ -136,10 +127,10 @@ pub(crate) fn limit_types<E: Write>(
     ensures told { OnOk result ((types.new ≡ types.old) ⊎ (progress.new.is_whole ≡ false)) }
     ensures memory { FailsOnlyForMemory result }
 {
-    let most = allowed_count(alloc, definitions, types, end, progress)?;
+    let most = allowed_count(table, types, end, progress)?;
     let Some(index) = types.get(most).copied() else {
         return Ok(());
     };
     types.truncate(most);
-    tell_index(alloc, index, TOO_MANY, progress, err)
+    tell_index(table.alloc, index, TOO_MANY, progress, err)
 }

@@ -5,8 +5,7 @@ ghost use Rattle.pdb_base.specs.Memory.{FailsOnlyForMemory};
 use crate::memory::AllocResult;
 use crate::table_walk::{Found, Walked};
 use pdb_base::{Error, TypeIndex};
-use pdb_types::Definitions;
-use pdbdump_types::{index_named, matches};
+use pdbdump_types::{Table, index_named, matches};
 use std::alloc::{AllocError, Global};
 
 /// Returns whether the name of a type matches a pattern, if there is one.
@@ -52,13 +51,9 @@ pub(crate) fn first_types(
 }
 
 /// Returns the definition of the type of an index, or none.
-fn definition_at(
-    alloc: Global,
-    definitions: &Definitions<'_>,
-    index: TypeIndex,
-) -> AllocResult<Vec<TypeIndex>> {
-    let mut types = Vec::new(alloc);
-    match definitions.definition_of(alloc, index) {
+fn definition_at(table: Table<'_, '_>, index: TypeIndex) -> AllocResult<Vec<TypeIndex>> {
+    let mut types = Vec::new(table.alloc);
+    match table.definitions.definition_of(table.alloc, index) {
         Ok(Some(definition)) => types.push(definition)?,
         Err(Error::OutOfMemory) => return Err(AllocError),
         Ok(None) | Err(_) => {}
@@ -72,15 +67,14 @@ fn definition_at(
 /// # Errors
 /// Fails with `OutOfMemory` if an allocation fails.
 pub(crate) fn types_named(
-    alloc: Global,
-    definitions: &Definitions<'_>,
+    table: Table<'_, '_>,
     walked: &Walked<'_>,
     name: &str,
 ) -> Result<Vec<TypeIndex>, Error>
     ensures { FailsOnlyForMemory result }
 {
     if let Some(index) = index_named(name) {
-        return Ok(definition_at(alloc, definitions, index)?);
+        return Ok(definition_at(table, index)?);
     }
-    Ok(matching(alloc, walked, Some(name.as_bytes()))?)
+    Ok(matching(table.alloc, walked, Some(name.as_bytes()))?)
 }

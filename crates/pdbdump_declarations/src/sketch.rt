@@ -67,20 +67,12 @@ impl<'s, 'd, 't> Sketcher<'s, 'd, 't> {
         index: TypeIndex,
         name: &[u8],
     ) -> Result<Option<Declared>> {
-        let Some(alignment) = self.context.alignment(alloc, index, self.known)? else {
+        let Some(alignment) = self.context.alignment(index, self.known)? else {
             return Ok(None);
         };
         let is_scoped = self.is_scoped();
         let before = &mut self.sketch.before;
-        let text = declared_text(
-            alloc,
-            self.context,
-            index,
-            name,
-            is_scoped,
-            self.known,
-            before,
-        )?;
+        let text = declared_text(self.context, index, name, is_scoped, self.known, before)?;
         match text {
             Some(text) => Ok(Some(Declared { text, alignment })),
             None => Ok(None),

@@ -3,9 +3,9 @@
 use crate::memory::AllocResult;
 use pdb_base::{Error, RawString, TypeIndex};
 use pdb_tpi::constants::{LF_ARGLIST, LF_FIELDLIST, LF_METHODLIST};
-use pdb_types::Definitions;
 use pdb_values::TypeData;
-use std::alloc::{AllocError, Global};
+use pdbdump_types::Table;
+use std::alloc::AllocError;
 
 /// What the word before the name of a type is.
 #[derive(Clone, Copy, PartialEq, Eq)]
@@ -79,19 +79,15 @@ pub(crate) fn named_of<'t>(value: &TypeData<'t>) -> Option<Named<'t>> {
 }
 
 /// Returns the value of a record that is no list, if it can be read.
-fn value_at<'t>(
-    alloc: Global,
-    definitions: &Definitions<'t>,
-    index: TypeIndex,
-) -> AllocResult<Option<TypeData<'t>>> {
-    let Ok(item) = definitions.types().item(index) else {
+fn value_at<'t>(table: Table<'_, 't>, index: TypeIndex) -> AllocResult<Option<TypeData<'t>>> {
+    let Ok(item) = table.definitions.types().item(index) else {
         return Ok(None);
     };
     let kind = item.raw_kind();
     if kind == LF_FIELDLIST || kind == LF_ARGLIST || kind == LF_METHODLIST {
         return Ok(None);
     }
-    match item.parse(alloc) {
+    match item.parse(table.alloc) {
         Ok(value) => Ok(Some(value)),
         Err(Error::OutOfMemory) => Err(AllocError),
         Err(_) => Ok(None),
@@ -137,19 +133,19 @@ fn pointer_size(value: &TypeData<'_>) -> Option<u64> {
 ///
 /// # Errors
 /// Fails if an allocation fails.
-pub(crate) fn walk<'t>(alloc: Global, definitions: &Definitions<'t>) -> AllocResult<Walked<'t>> {
-    let header = definitions.types().items().header();
-    let mut found = Vec::new(alloc);
+pub(crate) fn walk<'t>(table: Table<'_, 't>) -> AllocResult<Walked<'t>> {
+    let header = table.definitions.types().items().header();
+    let mut found = Vec::new(table.alloc);
     let mut size = None;
     let mut behind = header.minimum_index;
     for number in header.minimum_index..header.maximum_index {
         let index = TypeIndex(number);
         // No record follows the first that is missing, whatever the header counts.
-        if definitions.types().item(index).is_err() {
+        if table.definitions.types().item(index).is_err() {
             break;
         }
         behind = number.saturating_add(1);
-        let Some(value) = value_at(alloc, definitions, index)? else {
+        let Some(value) = value_at(table, index)? else {
             continue;
         };
         size = size.or(pointer_size(&value));

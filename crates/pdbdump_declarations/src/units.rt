@@ -99,8 +99,9 @@ impl<'s, 'd, 't> Sketcher<'s, 'd, 't> {
         bits: BitfieldType,
         name: &[u8],
     ) -> Result<Option<Unit>> {
-        let definitions = self.context.definitions;
-        let size = definitions
+        let table = self.context.table;
+        let size = table
+            .definitions
             .size_of(alloc, bits.underlying_type)?
             .unwrap_or(0);
         let is_unit = unsigned_type(size).is_some() && is_within(bits, size);

@@ -6,7 +6,7 @@ use pdb_base::{Error, FallibleIterator, TypeIndex};
 use pdb_tpi::constants::{LF_ARGLIST, LF_FIELDLIST, LF_METHODLIST};
 use pdb_tpi::{OpenTable, Type};
 use pdb_types::Definitions;
-use pdbdump_types::{Allowance, Defined, defined_by, records_of};
+use pdbdump_types::{Allowance, Defined, Table, defined_by, records_of};
 use std::alloc::{AllocError, Global};
 
 /// Why definitions aren't compared.
@@ -100,6 +100,14 @@ impl<'t> ComparedTable<'t> {
         Ok(false)
     }
 
+    /// Returns the table with its definitions.
+    fn table(&self, alloc: Global) -> Table<'_, 't> {
+        Table {
+            alloc,
+            definitions: &self.definitions,
+        }
+    }
+
     /// Returns the definition with an index.
     ///
     /// # Errors
@@ -109,7 +117,7 @@ impl<'t> ComparedTable<'t> {
         alloc: Global,
         index: TypeIndex,
     ) -> Result<Option<Version<'_, 't>>, Error> {
-        Version::at(alloc, &self.definitions, index)
+        Version::at(self.table(alloc), index)
     }
 
     /// Takes the records of the fields of a definition from those that may yet be read.
@@ -123,7 +131,7 @@ impl<'t> ComparedTable<'t> {
         index: TypeIndex,
         records: &mut Allowance,
     ) -> Result<(), Error> {
-        let count = records_of(alloc, &self.definitions, index, records.left())?;
+        let count = records_of(self.table(alloc), index, records.left())?;
         if records.take(count) {
             Ok(())
         } else {

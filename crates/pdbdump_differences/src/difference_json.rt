@@ -42,12 +42,9 @@ fn push_version(
     object.field(INDEX, Value::Hexadecimal(version.index.0));
     object.field(KIND, Value::Word(defined.word));
     if let Some((_, underlying_type)) = defined.enumeration {
-        object.text(
-            TYPE,
-            &texts.bytes(alloc, version.definitions, underlying_type, b"")?,
-        );
+        object.text(TYPE, &texts.bytes(version.table, underlying_type, b"")?);
     }
-    if let Some(size) = version.definitions.size_of(alloc, version.index)? {
+    if let Some(size) = version.table.definitions.size_of(alloc, version.index)? {
         object.field(SIZE, Value::Number(size));
     }
     push_member(name, object, text);
@@ -64,10 +61,9 @@ fn push_part(
     texts: &mut TextAllowance,
     text: &mut TextBuffer,
 ) -> Result<()> {
-    let definitions = version.definitions;
     object.begin();
     match part {
-        Part::Field(field) => show_declared(alloc, object, definitions, 0, 0, field, texts)?,
+        Part::Field(field) => show_declared(version.table, object, 0, 0, field, texts)?,
         Part::Enumerator(enumerator) => show_enumerator(object, enumerator),
     }
     push_member(name, object, text);

@@ -19,7 +19,7 @@ fn push_part(
 ) -> Result<()> {
     text.push(sign);
     match part {
-        Part::Field(field) => push_field(alloc, version.definitions, 0, field, texts, text)?,
+        Part::Field(field) => push_field(version.table, 0, field, texts, text)?,
         Part::Enumerator(enumerator) => push_enumerator(alloc, enumerator, text),
     }
     Ok(())
@@ -40,9 +40,9 @@ fn push_head(
     text.push_escaped(defined.name.as_bytes());
     if let Some((_, underlying_type)) = defined.enumeration {
         text.push(b" : ");
-        texts.push(alloc, version.definitions, underlying_type, b"", text)?;
+        texts.push(version.table, underlying_type, b"", text)?;
     }
-    let size = version.definitions.size_of(alloc, version.index)?;
+    let size = version.table.definitions.size_of(alloc, version.index)?;
     text.end_head(version.index, size);
     Ok(())
 }

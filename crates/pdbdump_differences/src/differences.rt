@@ -138,7 +138,13 @@ impl<'c, 't> Tables<'c, 't> {
         };
         self.old.take_records(alloc, index, records)?;
         self.new.take_records(alloc, is.index, records)?;
-        let comparison = compare(alloc, was.definitions, index, is.definitions, is.index)?;
+        let comparison = compare(
+            alloc,
+            was.table.definitions,
+            index,
+            is.table.definitions,
+            is.index,
+        )?;
         if !counts(comparison, options.is_layout_only) {
             return Ok(None);
         }

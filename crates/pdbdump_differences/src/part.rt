@@ -3,9 +3,8 @@
 
 use crate::pairing::hash_of;
 use pdb_base::{Result, TypeIndex};
-use pdb_types::{Definitions, FieldKind, LayoutField};
-use pdbdump_types::{Defined, Enumerator, TextAllowance, enumerators_of};
-use std::alloc::Global;
+use pdb_types::{FieldKind, LayoutField};
+use pdbdump_types::{Defined, Enumerator, Table, TextAllowance, enumerators_of};
 
 /// A part of a definition.
 #[derive(Clone, Copy)]
@@ -19,26 +18,21 @@ pub(crate) enum Part<'t> {
 
 /// Returns the enumerators of a list, over a type.
 fn enumerators<'t>(
-    alloc: Global,
-    definitions: &Definitions<'t>,
+    table: Table<'_, 't>,
     list: TypeIndex,
     underlying_type: TypeIndex,
 ) -> Result<Vec<Part<'t>>> {
-    let mut parts = Vec::new(alloc);
-    for enumerator in &enumerators_of(alloc, definitions, list, underlying_type)? {
+    let mut parts = Vec::new(table.alloc);
+    for enumerator in &enumerators_of(table, list, underlying_type)? {
         parts.push(Part::Enumerator(*enumerator))?;
     }
     Ok(parts)
 }
 
 /// Returns the fields of a class or a union.
-fn fields<'t>(
-    alloc: Global,
-    definitions: &Definitions<'t>,
-    index: TypeIndex,
-) -> Result<Vec<Part<'t>>> {
-    let mut parts = Vec::new(alloc);
-    if let Some(layout) = definitions.layout_of(alloc, index)? {
+fn fields<'t>(table: Table<'_, 't>, index: TypeIndex) -> Result<Vec<Part<'t>>> {
+    let mut parts = Vec::new(table.alloc);
+    if let Some(layout) = table.definitions.layout_of(table.alloc, index)? {
         for field in &layout.fields {
             parts.push(Part::Field(*field))?;
         }
@@ -52,14 +46,13 @@ fn fields<'t>(
 /// Fails as `Definitions::layout_of` does for a class or a union, as `OpenTable::fields` does for
 /// an enumeration, and with `OutOfMemory` if an allocation fails.
 pub(crate) fn parts_of<'t>(
-    alloc: Global,
-    definitions: &Definitions<'t>,
+    table: Table<'_, 't>,
     index: TypeIndex,
     defined: &Defined<'t>,
 ) -> Result<Vec<Part<'t>>> {
     match defined.enumeration {
-        Some((list, underlying_type)) => enumerators(alloc, definitions, list, underlying_type),
-        None => fields(alloc, definitions, index),
+        Some((list, underlying_type)) => enumerators(table, list, underlying_type),
+        None => fields(table, index),
     }
 }
 
@@ -69,8 +62,7 @@ pub(crate) fn parts_of<'t>(
 /// # Errors
 /// Fails as `Definitions::type_text` does for the base class.
 pub(crate) fn hash_of_part(
-    alloc: Global,
-    definitions: &Definitions<'_>,
+    table: Table<'_, '_>,
     part: &Part<'_>,
     texts: &mut TextAllowance,
 ) -> Result<u64> {
@@ -84,5 +76,5 @@ pub(crate) fn hash_of_part(
         FieldKind::VirtualBasePointer(base) => (2, base.base_class),
         FieldKind::VirtualFunctionPointer => return Ok(hash_of(3, b"")),
     };
-    Ok(hash_of(kind, &texts.bytes(alloc, definitions, base, b"")?))
+    Ok(hash_of(kind, &texts.bytes(table, base, b"")?))
 }

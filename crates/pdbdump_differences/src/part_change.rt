@@ -4,8 +4,8 @@ use crate::pairing::Pairing;
 use crate::part::{Part, hash_of_part, parts_of};
 use crate::version::Version;
 use pdb_base::{Result, TypeIndex};
-use pdb_types::{Definitions, FieldKind, LayoutField};
-use pdbdump_types::{Enumerator, TextAllowance};
+use pdb_types::{FieldKind, LayoutField};
+use pdbdump_types::{Enumerator, Table, TextAllowance};
 use std::alloc::Global;
 
 /// A part that came, went or changed: as it was, and as it is.
@@ -25,25 +25,23 @@ fn are_same_enumerators(old: &Enumerator<'_>, new: &Enumerator<'_>) -> bool {
 
 /// Returns whether two types have one text, all of which is there.
 fn have_one_text(
-    alloc: Global,
-    old: &Definitions<'_>,
+    old: Table<'_, '_>,
     old_type: TypeIndex,
-    new: &Definitions<'_>,
+    new: Table<'_, '_>,
     new_type: TypeIndex,
     texts: &mut TextAllowance,
 ) -> Result<bool> {
-    let old_text = texts.text(alloc, old, old_type, b"")?;
-    let new_text = texts.text(alloc, new, new_type, b"")?;
+    let old_text = texts.text(old, old_type, b"")?;
+    let new_text = texts.text(new, new_type, b"")?;
     Ok(!old_text.is_cut && old_text.bytes.as_slice() == new_text.bytes.as_slice())
 }
 
 /// Returns whether two fields are of one kind, and have the same name if they are members. Of base
 /// classes and of pointers to tables of virtual bases, the types that they name are compared.
 fn are_namesakes(
-    alloc: Global,
-    old: &Definitions<'_>,
+    old: Table<'_, '_>,
     old_field: &LayoutField<'_>,
-    new: &Definitions<'_>,
+    new: Table<'_, '_>,
     new_field: &LayoutField<'_>,
     texts: &mut TextAllowance,
 ) -> Result<bool> {
@@ -52,14 +50,12 @@ fn are_namesakes(
         (FieldKind::Member(name), FieldKind::Member(other)) => {
             Ok(name.as_bytes() == other.as_bytes())
         }
-        (FieldKind::Base, FieldKind::Base) => {
-            have_one_text(alloc, old, old_type, new, new_type, texts)
-        }
+        (FieldKind::Base, FieldKind::Base) => { have_one_text(old, old_type, new, new_type, texts) }
         (FieldKind::VirtualBasePointer(base), FieldKind::VirtualBasePointer(other)) => {
             Ok(
                 base.direct == other.direct
                     && base.position == other.position
-                    && have_one_text(alloc, old, base.base_class, new, other.base_class, texts)?,
+                    && have_one_text(old, base.base_class, new, other.base_class, texts)?,
             )
         }
         (FieldKind::VirtualFunctionPointer, FieldKind::VirtualFunctionPointer) => Ok(true),
@@ -70,10 +66,9 @@ fn are_namesakes(
 /// Returns whether two fields are the same: in name, place and extent, and unless only layouts count
 /// in the text of their types.
 fn are_same_fields(
-    alloc: Global,
-    old: &Definitions<'_>,
+    old: Table<'_, '_>,
     old_field: &LayoutField<'_>,
-    new: &Definitions<'_>,
+    new: Table<'_, '_>,
     new_field: &LayoutField<'_>,
     is_layout_only: bool,
     texts: &mut TextAllowance,
@@ -81,19 +76,18 @@ fn are_same_fields(
     if old_field.place.offset != new_field.place.offset || old_field.extent != new_field.extent {
         return Ok(false);
     }
-    if !are_namesakes(alloc, old, old_field, new, new_field, texts)? {
+    if !are_namesakes(old, old_field, new, new_field, texts)? {
         return Ok(false);
     }
     if is_layout_only {
         return Ok(true);
     }
     let (old_type, new_type) = (old_field.place.field_type, new_field.place.field_type);
-    have_one_text(alloc, old, old_type, new, new_type, texts)
+    have_one_text(old, old_type, new, new_type, texts)
 }
 
 /// Returns whether two parts are the same.
 fn are_same(
-    alloc: Global,
     old: &Version<'_, '_>,
     old_part: &Part<'_>,
     new: &Version<'_, '_>,
@@ -103,10 +97,9 @@ fn are_same(
 ) -> Result<bool> {
     match (old_part, new_part) {
         (Part::Field(old_field), Part::Field(new_field)) => are_same_fields(
-            alloc,
-            old.definitions,
+            old.table,
             old_field,
-            new.definitions,
+            new.table,
             new_field,
             is_layout_only,
             texts,
@@ -127,7 +120,7 @@ fn hashes_of(
 ) -> Result<Vec<u64>> {
     let mut hashes = Vec::with_capacity(alloc, parts.len())?;
     for part in parts {
-        hashes.push(hash_of_part(alloc, version.definitions, part, texts)?)?;
+        hashes.push(hash_of_part(version.table, part, texts)?)?;
     }
     Ok(hashes)
 }
@@ -144,8 +137,8 @@ pub(crate) fn part_changes<'t>(
     is_layout_only: bool,
     texts: &mut TextAllowance,
 ) -> Result<Vec<PartChange<'t>>> {
-    let old_parts = parts_of(alloc, old.definitions, old.index, &old.defined)?;
-    let new_parts = parts_of(alloc, new.definitions, new.index, &new.defined)?;
+    let old_parts = parts_of(old.table, old.index, &old.defined)?;
+    let new_parts = parts_of(new.table, new.index, &new.defined)?;
     let old_hashes = hashes_of(alloc, old, &old_parts, texts)?;
     let new_hashes = hashes_of(alloc, new, &new_parts, texts)?;
     let pairing = Pairing::of(alloc, &old_hashes, &new_hashes)?;
@@ -155,7 +148,7 @@ pub(crate) fn part_changes<'t>(
             .second(number)
             .and_then(|other| new_parts.get(other));
         let is_same = match other {
-            Some(other) => are_same(alloc, old, part, new, other, is_layout_only, texts)?,
+            Some(other) => are_same(old, part, new, other, is_layout_only, texts)?,
             None => false,
         };
         if !is_same {

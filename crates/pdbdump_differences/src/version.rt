@@ -1,15 +1,13 @@
 //! A definition in one of two tables that are compared.
 
 use pdb_base::{Result, TypeIndex};
-use pdb_types::Definitions;
-use pdbdump_types::{Defined, defined_by, type_at};
-use std::alloc::Global;
+use pdbdump_types::{Defined, Table, defined_by};
 
 /// A definition in one of two tables that are compared.
 #[derive(Clone, Copy)]
 pub(crate) struct Version<'d, 't> {
-    /// The definitions of the table.
-    pub(crate) definitions: &'d Definitions<'t>,
+    /// The table.
+    pub(crate) table: Table<'d, 't>,
 
     /// The index of the definition.
     pub(crate) index: TypeIndex,
@@ -23,17 +21,13 @@ impl<'d, 't> Version<'d, 't> {
     ///
     /// # Errors
     /// Fails as `OpenTable::item` and `Type::parse` do.
-    pub(crate) fn at(
-        alloc: Global,
-        definitions: &'d Definitions<'t>,
-        index: TypeIndex,
-    ) -> Result<Option<Self>> {
-        let value = type_at(alloc, definitions.types(), index)?;
+    pub(crate) fn at(table: Table<'d, 't>, index: TypeIndex) -> Result<Option<Self>> {
+        let value = table.type_at(index)?;
         let Some(defined) = defined_by(&value) else {
             return Ok(None);
         };
         Ok(Some(Version {
-            definitions,
+            table,
             index,
             defined,
         }))

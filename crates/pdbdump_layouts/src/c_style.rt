@@ -9,8 +9,8 @@ use crate::other_member::{OtherMember, other_declaration};
 use crate::shown_class::ShownClass;
 use crate::totals::totals_of;
 use pdb_base::Result;
-use pdb_types::{Definitions, Layout};
-use pdbdump_types::{GapRole, TextAllowance, TextBuffer, gap_place, plural, push_field};
+use pdb_types::Layout;
+use pdbdump_types::{GapRole, Table, TextAllowance, TextBuffer, gap_place, plural, push_field};
 use std::alloc::Global;
 
 /// Appends what a gap is called.
@@ -42,8 +42,7 @@ fn push_gap(alloc: Global, start: u64, named: &NamedGap, text: &mut TextBuffer) 
 
 /// Appends the line of a field or a gap.
 fn push_row<'t>(
-    alloc: Global,
-    definitions: &Definitions<'t>,
+    table: Table<'_, 't>,
     shown_row: &ShownRow<'t>,
     texts: &mut TextAllowance,
     text: &mut TextBuffer,
@@ -51,8 +50,8 @@ fn push_row<'t>(
     let start = shown_row.start;
     text.push_indent(shown_row.depth.saturating_add(1), C_WIDTH);
     match &shown_row.row {
-        LayoutRow::Field(field) => push_field(alloc, definitions, start, field, texts, text)?,
-        LayoutRow::Gap(named) => push_gap(alloc, start, named, text),
+        LayoutRow::Field(field) => push_field(table, start, field, texts, text)?,
+        LayoutRow::Gap(named) => push_gap(table.alloc, start, named, text),
     }
     Ok(())
 }
@@ -67,8 +66,7 @@ fn has_inner(row: &ShownRow<'_>, next: Option<&ShownRow<'_>>) -> bool {
 
 /// Appends the lines of fields and gaps, with the ends of lines of a cache.
 fn push_rows<'t>(
-    alloc: Global,
-    definitions: &Definitions<'t>,
+    table: Table<'_, 't>,
     shown: &ShownClass<'_, 't>,
     texts: &mut TextAllowance,
     text: &mut TextBuffer,
@@ -76,9 +74,9 @@ fn push_rows<'t>(
     let mut lines = CacheLines::new(shown.line_size.unwrap_or(0) as u64);
     let rows = &shown.expansion.rows;
     for (number, row) in rows.iter().enumerate() {
-        push_row(alloc, definitions, row, texts, text)?;
+        push_row(table, row, texts, text)?;
         if !has_inner(row, rows.get(number.saturating_add(1))) {
-            lines.push_behind(alloc, row, text);
+            lines.push_behind(table.alloc, row, text);
         }
     }
     Ok(())
@@ -86,14 +84,13 @@ fn push_rows<'t>(
 
 /// Appends the line of a member that takes no place.
 fn push_other(
-    alloc: Global,
-    definitions: &Definitions<'_>,
+    table: Table<'_, '_>,
     other: &OtherMember<'_>,
     texts: &mut TextAllowance,
     text: &mut TextBuffer,
 ) -> Result<()> {
     text.push_indent(1, C_WIDTH);
-    text.push_escaped(&other_declaration(alloc, definitions, other, texts)?);
+    text.push_escaped(&other_declaration(table, other, texts)?);
     text.push(b";\n");
     Ok(())
 }
@@ -141,24 +138,23 @@ fn push_end(alloc: Global, layout: &Layout<'_>, text: &mut TextBuffer) {
 /// Appends a layout as the declaration of a class in C++, with the places of its fields and gaps in
 /// comments.
 pub(crate) fn push_c<'t>(
-    alloc: Global,
-    definitions: &Definitions<'t>,
+    table: Table<'_, 't>,
     shown: &ShownClass<'_, 't>,
     texts: &mut TextAllowance,
     text: &mut TextBuffer,
 ) -> Result<()> {
     let layout = shown.layout;
     let class = shown.class.as_ref();
-    push_head(alloc, definitions, &layout.fields, class, texts, text)?;
+    push_head(table, &layout.fields, class, texts, text)?;
     text.end_head(layout.index, Some(layout.size));
-    push_rows(alloc, definitions, shown, texts, text)?;
+    push_rows(table, shown, texts, text)?;
     if shown.expansion.is_cut {
         text.push_indent(1, C_WIDTH);
         text.push(b"// more is left out\n");
     }
     for other in &shown.others {
-        push_other(alloc, definitions, other, texts, text)?;
+        push_other(table, other, texts, text)?;
     }
-    push_end(alloc, layout, text);
+    push_end(table.alloc, layout, text);
     Ok(())
 }

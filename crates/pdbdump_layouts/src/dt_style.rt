@@ -7,8 +7,8 @@ use crate::options::DT_WIDTH;
 use crate::other_member::{OtherMember, OtherRole};
 use crate::shown_class::ShownClass;
 use pdb_base::Result;
-use pdb_types::{Definitions, Extent, FieldKind, LayoutField};
-use pdbdump_types::{TextAllowance, TextBuffer, plural};
+use pdb_types::{Extent, FieldKind, LayoutField};
+use pdbdump_types::{Table, TextAllowance, TextBuffer, plural};
 use std::alloc::Global;
 
 /// How wide names are, with the space behind them.
@@ -46,27 +46,25 @@ fn push_bits(alloc: Global, position: u8, length: u8, text: &mut TextBuffer) {
 /// Appends the type of a field: `Pos 3, 5 Bits` for a bit field, and no more than that it is a
 /// pointer for one to a table of virtual functions.
 fn push_type<'t>(
-    alloc: Global,
-    definitions: &Definitions<'t>,
+    table: Table<'_, 't>,
     field: &LayoutField<'t>,
     texts: &mut TextAllowance,
     text: &mut TextBuffer,
 ) -> Result<()> {
     match field.extent {
-        Extent::Bits(bits) => push_bits(alloc, bits.position, bits.length, text),
+        Extent::Bits(bits) => push_bits(table.alloc, bits.position, bits.length, text),
         Extent::Bytes(size) if is_table_pointer(field) => {
             let bits = size.saturating_mul(8);
-            text.push_string(format!(in alloc; "Ptr{bits}"));
+            text.push_string(format!(in table.alloc; "Ptr{bits}"));
         }
-        _ => push_dt_type(alloc, definitions, field.place.field_type, texts, text)?,
+        _ => push_dt_type(table, field.place.field_type, texts, text)?,
     }
     Ok(())
 }
 
 /// Appends the line of a field; a gap has no line. The place of a field is that in its own class.
 fn push_row<'t>(
-    alloc: Global,
-    definitions: &Definitions<'t>,
+    table: Table<'_, 't>,
     shown_row: &ShownRow<'t>,
     texts: &mut TextAllowance,
     text: &mut TextBuffer,
@@ -76,9 +74,9 @@ fn push_row<'t>(
     };
     let offset = field.place.offset;
     text.push_indent(shown_row.depth.saturating_add(1), DT_WIDTH);
-    text.push_string(format!(in alloc; "+0x{offset:03x} "));
+    text.push_string(format!(in table.alloc; "+0x{offset:03x} "));
     push_name(field_name(field), text);
-    push_type(alloc, definitions, field, texts, text)?;
+    push_type(table, field, texts, text)?;
     text.push(b"\n");
     Ok(())
 }
@@ -94,8 +92,7 @@ fn other_mark(role: OtherRole) -> &'static [u8] {
 
 /// Appends the line of a member that takes no place.
 fn push_other(
-    alloc: Global,
-    definitions: &Definitions<'_>,
+    table: Table<'_, '_>,
     other: &OtherMember<'_>,
     texts: &mut TextAllowance,
     text: &mut TextBuffer,
@@ -103,7 +100,7 @@ fn push_other(
     text.push_indent(1, DT_WIDTH);
     text.push(other_mark(other.role));
     push_name(other.name.as_bytes(), text);
-    push_dt_type(alloc, definitions, other.type_index, texts, text)?;
+    push_dt_type(table, other.type_index, texts, text)?;
     text.push(b"\n");
     Ok(())
 }
@@ -111,8 +108,7 @@ fn push_other(
 /// Appends a layout in the style of WinDbg's `dt`: the name of the class, and a line for each
 /// field.
 pub(crate) fn push_dt<'t>(
-    alloc: Global,
-    definitions: &Definitions<'t>,
+    table: Table<'_, 't>,
     shown: &ShownClass<'_, 't>,
     texts: &mut TextAllowance,
     text: &mut TextBuffer,
@@ -122,14 +118,14 @@ pub(crate) fn push_dt<'t>(
         text.push(b"\n");
     }
     for row in &shown.expansion.rows {
-        push_row(alloc, definitions, row, texts, text)?;
+        push_row(table, row, texts, text)?;
     }
     if shown.expansion.is_cut {
         text.push_indent(1, DT_WIDTH);
         text.push(b"..\n");
     }
     for other in &shown.others {
-        push_other(alloc, definitions, other, texts, text)?;
+        push_other(table, other, texts, text)?;
     }
     Ok(())
 }

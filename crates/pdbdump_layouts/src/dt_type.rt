@@ -2,10 +2,8 @@
 
 use pdb_base::{Result, TypeIndex};
 use pdb_flags::PointerMode;
-use pdb_types::Definitions;
 use pdb_values::{ArrayType, Indirection, PointerType, PrimitiveKind, PrimitiveType, TypeData};
-use pdbdump_types::{TextAllowance, TextBuffer, type_at};
-use std::alloc::Global;
+use pdbdump_types::{Table, TextAllowance, TextBuffer, type_at};
 
 /// How many types one text goes through at most.
 const MOST_TYPES: u32 = 32;
@@ -58,19 +56,17 @@ fn is_plain(pointer: &PointerType) -> bool {
 }
 
 /// Appends the dimensions of an array.
-fn push_array<'t>(
-    alloc: Global,
-    definitions: &Definitions<'t>,
-    array: &ArrayType,
-    text: &mut TextBuffer,
-) -> Result<()> {
-    let mut part = definitions.size_of(alloc, array.element_type)?.unwrap_or(0);
-    let mut all = TextBuffer::new(alloc);
+fn push_array<'t>(table: Table<'_, 't>, array: &ArrayType, text: &mut TextBuffer) -> Result<()> {
+    let mut part = table
+        .definitions
+        .size_of(table.alloc, array.element_type)?
+        .unwrap_or(0);
+    let mut all = TextBuffer::new(table.alloc);
     for dimension in &array.dimensions {
         let whole = *dimension as u64;
         let count = if part == 0 { 0 } else { whole / part };
-        let mut brackets = TextBuffer::new(alloc);
-        brackets.push_string(format!(in alloc; "[{count}] "));
+        let mut brackets = TextBuffer::new(table.alloc);
+        brackets.push_string(format!(in table.alloc; "[{count}] "));
         brackets.push_text(&all);
         all = brackets;
         part = whole;
@@ -82,8 +78,7 @@ fn push_array<'t>(
 /// Appends what a type says of the type within it, and returns that type; or returns None for a
 /// type that has none, or that is written as C++ spells it.
 fn push_outer<'t>(
-    alloc: Global,
-    definitions: &Definitions<'t>,
+    table: Table<'_, 't>,
     value: &TypeData<'t>,
     text: &mut TextBuffer,
 ) -> Result<Option<TypeIndex>> {
@@ -91,11 +86,11 @@ fn push_outer<'t>(
         TypeData::Modifier(modifier) => Ok(Some(modifier.underlying_type)),
         TypeData::Pointer(pointer) if is_plain(pointer) => {
             let bits = pointer.attributes.size() as u32 * 8;
-            text.push_string(format!(in alloc; "Ptr{bits} "));
+            text.push_string(format!(in table.alloc; "Ptr{bits} "));
             Ok(Some(pointer.underlying_type))
         }
         TypeData::Array(array) => {
-            push_array(alloc, definitions, array, text)?;
+            push_array(table, array, text)?;
             Ok(Some(array.element_type))
         }
         _ => Ok(None),
@@ -104,8 +99,7 @@ fn push_outer<'t>(
 
 /// Appends a type that no other type is within.
 fn push_last<'t>(
-    alloc: Global,
-    definitions: &Definitions<'t>,
+    table: Table<'_, 't>,
     index: TypeIndex,
     value: &TypeData<'t>,
     texts: &mut TextAllowance,
@@ -116,25 +110,24 @@ fn push_last<'t>(
             return Ok(());
         }
     }
-    texts.push(alloc, definitions, index, b"", text)
+    texts.push(table, index, b"", text)
 }
 
 /// Appends a type as WinDbg's `dt` writes it, such as `Ptr64 Node` or `[4] Uint4B`; one that is no
 /// pointer, no array and no number as C++ spells it. The text is cut with `..` behind 32 types of
 /// which each is within the one before.
 pub(crate) fn push_dt_type<'t>(
-    alloc: Global,
-    definitions: &Definitions<'t>,
+    table: Table<'_, 't>,
     index: TypeIndex,
     texts: &mut TextAllowance,
     text: &mut TextBuffer,
 ) -> Result<()> {
     let mut index = index;
     for _ in 0..MOST_TYPES {
-        let value = type_at(alloc, definitions.types(), index)?;
-        match push_outer(alloc, definitions, &value, text)? {
+        let value = table.type_at(index)?;
+        match push_outer(table, &value, text)? {
             Some(next) => index = next,
-            None => return push_last(alloc, definitions, index, &value, texts, text),
+            None => return push_last(table, index, &value, texts, text),
         }
     }
     text.push(b"..");

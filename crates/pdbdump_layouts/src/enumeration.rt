@@ -3,11 +3,10 @@
 
 use crate::options::{C_WIDTH, DT_WIDTH, Style};
 use pdb_base::{RawString, Result, TypeIndex};
-use pdb_types::Definitions;
 use pdb_values::TypeData;
 use pdbdump_rows::{Form, Value};
 use pdbdump_types::{
-    Enumerator, ObjectBuffer, TextAllowance, TextBuffer, enumerators_of, push_enumerator,
+    Enumerator, ObjectBuffer, Table, TextAllowance, TextBuffer, enumerators_of, push_enumerator,
     show_enumerator, type_at, unmodified,
 };
 use std::alloc::Global;
@@ -55,19 +54,15 @@ fn enumeration_in<'t>(index: TypeIndex, value: &TypeData<'t>) -> Option<Enumerat
 }
 
 /// Returns the enumeration of an index, also of one with modifiers, or None for another type.
-fn enumeration_at<'t>(
-    alloc: Global,
-    definitions: &Definitions<'t>,
-    index: TypeIndex,
-) -> Result<Option<Enumeration<'t>>> {
-    let types = definitions.types();
-    let Some(index) = unmodified(alloc, types, index)? else {
+fn enumeration_at<'t>(table: Table<'_, 't>, index: TypeIndex) -> Result<Option<Enumeration<'t>>> {
+    let types = table.definitions.types();
+    let Some(index) = unmodified(table.alloc, types, index)? else {
         return Ok(None);
     };
-    let Some(index) = definitions.definition_of(alloc, index)? else {
+    let Some(index) = table.definitions.definition_of(table.alloc, index)? else {
         return Ok(None);
     };
-    let value = type_at(alloc, types, index)?;
+    let value = type_at(table.alloc, types, index)?;
     Ok(enumeration_in(index, &value))
 }
 
@@ -130,28 +125,27 @@ fn push_json(alloc: Global, shown: &ShownEnumeration<'_>, text: &mut TextBuffer)
 /// Fails as `Definitions::definition_of`, `OpenTable::fields` and `Definitions::type_text` do, and
 /// with `OutOfMemory` if an allocation fails.
 pub(crate) fn enumeration_text(
-    alloc: Global,
-    definitions: &Definitions<'_>,
+    table: Table<'_, '_>,
     index: TypeIndex,
     style: Style,
     form: Form,
     texts: &mut TextAllowance,
 ) -> Result<Option<Vec<u8>>> {
-    let Some(enumeration) = enumeration_at(alloc, definitions, index)? else {
+    let Some(enumeration) = enumeration_at(table, index)? else {
         return Ok(None);
     };
     let underlying_type = enumeration.underlying_type;
     let shown = ShownEnumeration {
         enumeration,
-        enumerators: enumerators_of(alloc, definitions, enumeration.list, underlying_type)?,
-        type_text: texts.bytes(alloc, definitions, underlying_type, b"")?,
-        size: definitions.size_of(alloc, underlying_type)?,
+        enumerators: enumerators_of(table, enumeration.list, underlying_type)?,
+        type_text: texts.bytes(table, underlying_type, b"")?,
+        size: table.definitions.size_of(table.alloc, underlying_type)?,
     };
-    let mut text = TextBuffer::new(alloc);
+    let mut text = TextBuffer::new(table.alloc);
     match (form, style) {
-        (Form::Json, _) => push_json(alloc, &shown, &mut text),
-        (Form::Text, Style::C) => push_c(alloc, &shown, &mut text),
-        (Form::Text, Style::Dt) => push_dt(alloc, &shown, &mut text),
+        (Form::Json, _) => push_json(table.alloc, &shown, &mut text),
+        (Form::Text, Style::C) => push_c(table.alloc, &shown, &mut text),
+        (Form::Text, Style::Dt) => push_dt(table.alloc, &shown, &mut text),
     }
     Ok(Some(text.finish()?))
 }

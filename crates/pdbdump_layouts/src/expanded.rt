@@ -4,8 +4,8 @@ ghost use Rattle.std.specs.Prelude.{◌<◌, ◌≤◌, IsTrue};
 
 use crate::layout_row::{LayoutRow, rows_of};
 use pdb_base::{Result, TypeIndex};
-use pdb_types::{Definitions, Extent, FieldKind, Layout};
-use pdbdump_types::{Allowance, class_layout};
+use pdb_types::{Extent, FieldKind, Layout};
+use pdbdump_types::{Allowance, Table, class_layout};
 use std::alloc::Global;
 
 /// How deep classes within a class are shown at most.
@@ -134,8 +134,7 @@ fn inner_rows<'t>(
 /// Appends the fields and gaps of the class that is the type of a field, if it is one.
 #[cycle(rows)]
 fn push_inner<'t>(
-    alloc: Global,
-    definitions: &Definitions<'t>,
+    table: Table<'_, 't>,
     outer: ShownRow<'t>,
     budget: &mut Budget,
     shown: &mut Vec<ShownRow<'t>>,
@@ -151,16 +150,15 @@ fn push_inner<'t>(
     let Some(index) = inner_type(&outer.row) else {
         return Ok(());
     };
-    let Some(layout) = class_layout(alloc, definitions, index)? else {
+    let Some(layout) = class_layout(table, index)? else {
         return Ok(());
     };
-    let rows = inner_rows(alloc, &layout, &outer.row)?;
+    let rows = inner_rows(table.alloc, &layout, &outer.row)?;
     if !budget.take(outer.depth, rows.len(), layout.records) {
         return Ok(());
     }
     push_rows(
-        alloc,
-        definitions,
+        table,
         &rows,
         inner_start(outer.start, &outer.row),
         outer.depth + 1,
@@ -172,8 +170,7 @@ fn push_inner<'t>(
 /// Appends fields and gaps of a class, and behind each field those of its class.
 #[cycle(rows)]
 fn push_rows<'t>(
-    alloc: Global,
-    definitions: &Definitions<'t>,
+    table: Table<'_, 't>,
     rows: &[LayoutRow<'t>],
     start: u64,
     depth: u32,
@@ -189,7 +186,7 @@ fn push_rows<'t>(
             row: *row,
         };
         shown.push(outer)?;
-        push_inner(alloc, definitions, outer, budget, shown)?;
+        push_inner(table, outer, budget, shown)?;
     }
     Ok(())
 }
@@ -206,21 +203,20 @@ fn push_rows<'t>(
 /// Fails as `Definitions::layout_of` does for a class within, and with `OutOfMemory` if an
 /// allocation fails.
 pub(crate) fn expand<'t>(
-    alloc: Global,
-    definitions: &Definitions<'t>,
+    table: Table<'_, 't>,
     layout: &Layout<'t>,
     depth: u32,
     allowed: &mut Allowance,
 ) -> Result<Expansion<'t>> {
     let most = MOST_ROWS.min(allowed.left());
-    let own = rows_of(alloc, layout)?;
-    let mut rows = Vec::new(alloc);
+    let own = rows_of(table.alloc, layout)?;
+    let mut rows = Vec::new(table.alloc);
     let mut budget = Budget {
         asked: depth,
         most,
         is_cut: false,
     };
-    push_rows(alloc, definitions, &own, 0, 0, &mut budget, &mut rows)?;
+    push_rows(table, &own, 0, 0, &mut budget, &mut rows)?;
     allowed.take(most.saturating_sub(budget.most));
     Ok(Expansion {
         rows,

@@ -1,9 +1,8 @@
 //! The line with which the declaration of a class begins.
 
 use pdb_base::{Result, TypeIndex};
-use pdb_types::{Definitions, FieldKind, LayoutField};
-use pdbdump_types::{Class, TextAllowance, TextBuffer};
-use std::alloc::Global;
+use pdb_types::{FieldKind, LayoutField};
+use pdbdump_types::{Class, Table, TextAllowance, TextBuffer};
 
 /// Returns the base class of which a field tells, with the word `virtual` before a virtual one. A
 /// virtual base class is told of only if the class itself names it.
@@ -17,8 +16,7 @@ fn base_of(field: &LayoutField<'_>) -> Option<(&'static str, TypeIndex)> {
 
 /// Appends the base classes of a class.
 fn push_bases<'t>(
-    alloc: Global,
-    definitions: &Definitions<'t>,
+    table: Table<'_, 't>,
     fields: &[LayoutField<'t>],
     texts: &mut TextAllowance,
     head: &mut TextBuffer,
@@ -29,7 +27,7 @@ fn push_bases<'t>(
             head.push(mark);
             mark = b", ".as_slice();
             head.push(word.as_bytes());
-            texts.push(alloc, definitions, index, b"", head)?;
+            texts.push(table, index, b"", head)?;
         }
     }
     Ok(())
@@ -37,8 +35,7 @@ fn push_bases<'t>(
 
 /// Appends the line with which the declaration of a class begins, without what is behind its brace.
 pub(crate) fn push_head<'t>(
-    alloc: Global,
-    definitions: &Definitions<'t>,
+    table: Table<'_, 't>,
     fields: &[LayoutField<'t>],
     class: Option<&Class<'t>>,
     texts: &mut TextAllowance,
@@ -49,7 +46,7 @@ pub(crate) fn push_head<'t>(
         head.push(b" ");
         head.push_escaped(class.name.as_bytes());
     }
-    push_bases(alloc, definitions, fields, texts, head)?;
+    push_bases(table, fields, texts, head)?;
     head.push(b" {");
     Ok(())
 }

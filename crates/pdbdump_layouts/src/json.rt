@@ -6,23 +6,20 @@ use crate::other_member::show_other;
 use crate::shown_class::ShownClass;
 use crate::totals::totals_of;
 use pdb_base::Result;
-use pdb_types::Definitions;
 use pdbdump_rows::{Value, optional_text, optional_word};
-use pdbdump_types::{ObjectBuffer, TextAllowance, TextBuffer, show_declared, show_gap};
-use std::alloc::Global;
+use pdbdump_types::{ObjectBuffer, Table, TextAllowance, TextBuffer, show_declared, show_gap};
 
 /// Adds what the object of a field or a gap holds.
 fn show_row<'t>(
-    alloc: Global,
+    table: Table<'_, 't>,
     object: &mut ObjectBuffer,
-    definitions: &Definitions<'t>,
     shown: &ShownRow<'t>,
     texts: &mut TextAllowance,
 ) -> Result<()> {
     let (depth, start) = (shown.depth, shown.start);
     match &shown.row {
         LayoutRow::Field(part) => {
-            show_declared(alloc, object, definitions, depth, start, part, texts)?;
+            show_declared(table, object, depth, start, part, texts)?;
         }
         LayoutRow::Gap(named) => show_gap(object, depth, start, &named.gap, named.role),
     }
@@ -31,21 +28,20 @@ fn show_row<'t>(
 
 /// Appends the objects of fields and gaps, and of what takes no place.
 fn push_rows<'t>(
-    alloc: Global,
+    table: Table<'_, 't>,
     object: &mut ObjectBuffer,
-    definitions: &Definitions<'t>,
     shown: &ShownClass<'_, 't>,
     texts: &mut TextAllowance,
     text: &mut TextBuffer,
 ) -> Result<()> {
     for row in &shown.expansion.rows {
         object.begin();
-        show_row(alloc, object, definitions, row, texts)?;
+        show_row(table, object, row, texts)?;
         text.push_item(object);
     }
     for other in &shown.others {
         object.begin();
-        show_other(alloc, object, definitions, other, texts)?;
+        show_other(table, object, other, texts)?;
         text.push_item(object);
     }
     Ok(())
@@ -54,15 +50,14 @@ fn push_rows<'t>(
 /// Appends a layout as a line of JSON: an object that describes the class, with a list of its
 /// fields and gaps.
 pub(crate) fn push_json<'t>(
-    alloc: Global,
-    definitions: &Definitions<'t>,
+    table: Table<'_, 't>,
     shown: &ShownClass<'_, 't>,
     texts: &mut TextAllowance,
     text: &mut TextBuffer,
 ) -> Result<()> {
     let totals = totals_of(shown.layout);
     let class = shown.class.as_ref();
-    let mut object = ObjectBuffer::new(alloc);
+    let mut object = ObjectBuffer::new(table.alloc);
     object.field("index", Value::Hexadecimal(shown.layout.index.0));
     object.field("kind", optional_word(class.map(|class| class.word)));
     object.field("name", optional_text(class.map(|class| class.name)));
@@ -75,7 +70,7 @@ pub(crate) fn push_json<'t>(
     // The last member of the object is a list, so that the line doesn't end here.
     text.push_fields(&object);
     text.push(b",\"rows\":[");
-    push_rows(alloc, &mut object, definitions, shown, texts, text)?;
+    push_rows(table, &mut object, shown, texts, text)?;
     text.push(b"]}\n");
     Ok(())
 }

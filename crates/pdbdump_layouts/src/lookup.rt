@@ -2,10 +2,11 @@
 //! its base classes.
 
 use pdb_base::{Error, Result, TypeIndex};
-use pdb_types::{Definitions, Extent, FieldKind, FieldPlace, LayoutField};
+use pdb_types::{Extent, FieldKind, FieldPlace, LayoutField};
 use pdb_values::TypeData;
-use pdbdump_types::{Allowance, LetterCase, class_layout, class_of, list_of, records_of, type_at};
-use std::alloc::Global;
+use pdbdump_types::{
+    Allowance, LetterCase, Table, class_layout, class_of, list_of, records_of, type_at,
+};
 
 /// Why members aren't looked up.
 const TOO_MANY: &str = "members behind so many fields";
@@ -65,12 +66,11 @@ pub(crate) fn take(count: usize, records: &mut Allowance) -> Result<()> {
 /// # Errors
 /// Fails as `take` does, as `type_at` does, and with `OutOfMemory` if an allocation fails.
 fn class_name<'t>(
-    alloc: Global,
-    definitions: &Definitions<'t>,
+    table: Table<'_, 't>,
     class: TypeIndex,
     records: &mut Allowance,
 ) -> Result<&'t [u8]> {
-    let value = type_at(alloc, definitions.types(), class)?;
+    let value = table.type_at(class)?;
     let Some(class) = class_of(&value) else {
         return Ok(b"");
     };
@@ -84,13 +84,12 @@ fn class_name<'t>(
 /// # Errors
 /// Fails as `take` and `class_name` do.
 pub(crate) fn take_records(
-    alloc: Global,
-    definitions: &Definitions<'_>,
+    table: Table<'_, '_>,
     class: TypeIndex,
     records: &mut Allowance,
 ) -> Result<()> {
-    class_name(alloc, definitions, class, records)?;
-    let count = records_of(alloc, definitions, class, records.left())?;
+    class_name(table, class, records)?;
+    let count = records_of(table, class, records.left())?;
     take(count.max(1), records)
 }
 
@@ -99,13 +98,12 @@ pub(crate) fn take_records(
 /// # Errors
 /// Fails as `list_of` and `OpenTable::fields` do.
 pub(crate) fn field_records<'t>(
-    alloc: Global,
-    definitions: &Definitions<'t>,
+    table: Table<'_, 't>,
     class: TypeIndex,
 ) -> Result<Vec<TypeData<'t>>> {
-    match list_of(alloc, definitions, class)? {
-        Some(list) if list.0 != 0 => definitions.types().fields(alloc, list),
-        _ => Ok(Vec::new(alloc)),
+    match list_of(table, class)? {
+        Some(list) if list.0 != 0 => table.definitions.types().fields(table.alloc, list),
+        _ => Ok(Vec::new(table.alloc)),
     }
 }
 
@@ -141,8 +139,7 @@ fn behind_name<'p>(name: &[u8], steps: Steps<'p>) -> Option<&'p [u8]> {
 /// Returns what is behind the name of a field, if the steps begin with that. That of a base class is
 /// the name of the class.
 fn behind_field<'p>(
-    alloc: Global,
-    definitions: &Definitions<'_>,
+    table: Table<'_, '_>,
     place: &FieldPlace<'_>,
     steps: Steps<'p>,
     records: &mut Allowance,
@@ -150,7 +147,7 @@ fn behind_field<'p>(
     match place.kind {
         FieldKind::Member(name) => Ok(behind_name(name.as_bytes(), steps)),
         FieldKind::Base => {
-            let name = class_name(alloc, definitions, place.field_type, records)?;
+            let name = class_name(table, place.field_type, records)?;
             Ok(behind_name(name, steps))
         }
         _ => Ok(None),
@@ -169,8 +166,7 @@ pub(crate) struct Steps<'p> {
 
 /// Returns the first member or base class of a class itself with whose name steps begin.
 fn own_field<'t, 'p>(
-    alloc: Global,
-    definitions: &Definitions<'t>,
+    table: Table<'_, 't>,
     searched: Searched,
     fields: &[TypeData<'t>],
     steps: Steps<'p>,
@@ -180,7 +176,7 @@ fn own_field<'t, 'p>(
         let Some(place) = place_of(field) else {
             continue;
         };
-        if let Some(behind) = behind_field(alloc, definitions, &place, steps, records)? {
+        if let Some(behind) = behind_field(table, &place, steps, records)? {
             return Ok(Some(NamedField {
                 class: searched.class,
                 start: searched.start,
@@ -200,21 +196,20 @@ fn own_field<'t, 'p>(
 /// Fails with `UnimplementedFeature` if more records would be read than are allowed, as
 /// `OpenTable::fields` does for a class on the way, and with `OutOfMemory` if an allocation fails.
 pub(crate) fn find_field<'t, 'p>(
-    alloc: Global,
-    definitions: &Definitions<'t>,
+    table: Table<'_, 't>,
     class: TypeIndex,
     steps: Steps<'p>,
     records: &mut Allowance,
 ) -> Result<Option<NamedField<'t, 'p>>> {
-    let mut classes = vec![in alloc; Searched { class, start: 0 }]?;
+    let mut classes = vec![in table.alloc; Searched { class, start: 0 }]?;
     // Each class takes at least one of the records that are left.
     for number in 0..=records.left() {
         let Some(searched) = classes.get(number).copied() else {
             return Ok(None);
         };
-        take_records(alloc, definitions, searched.class, records)?;
-        let fields = field_records(alloc, definitions, searched.class)?;
-        let found = own_field(alloc, definitions, searched, &fields, steps, records)?;
+        take_records(table, searched.class, records)?;
+        let fields = field_records(table, searched.class)?;
+        let found = own_field(table, searched, &fields, steps, records)?;
         if found.is_some() {
             return Ok(found);
         }
@@ -241,12 +236,8 @@ fn push_bases(records: &[TypeData<'_>], start: u64, classes: &mut Vec<Searched>)
 ///
 /// # Errors
 /// Fails as `Definitions::layout_of` does.
-pub(crate) fn extent_of(
-    alloc: Global,
-    definitions: &Definitions<'_>,
-    field: &NamedField<'_, '_>,
-) -> Result<Extent> {
-    let Some(layout) = class_layout(alloc, definitions, field.class)? else {
+pub(crate) fn extent_of(table: Table<'_, '_>, field: &NamedField<'_, '_>) -> Result<Extent> {
+    let Some(layout) = class_layout(table, field.class)? else {
         return Ok(Extent::Unknown);
     };
     for own in &layout.fields {

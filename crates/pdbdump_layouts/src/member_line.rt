@@ -5,12 +5,12 @@ use crate::member_path::{FoundMember, PathEnd};
 use crate::named::path_end;
 use crate::nearest::Nearest;
 use pdb_base::{RawString, Result, TypeIndex};
-use pdb_types::{Definitions, Extent, FieldKind, FieldPlace, LayoutField};
+use pdb_types::{Extent, FieldKind, FieldPlace, LayoutField};
 use pdb_values::TypeData;
 use pdbdump_rows::Form;
 use pdbdump_types::{
-    Allowance, FieldTexts, LetterCase, ObjectBuffer, TextAllowance, TextBuffer, Wanted, classes_in,
-    cut_at, field_type_text, is_pattern, name_defined, plural, show_field, type_at,
+    Allowance, FieldTexts, LetterCase, ObjectBuffer, Table, TextAllowance, TextBuffer, Wanted,
+    classes_in, cut_at, field_type_text, is_pattern, name_defined, plural, show_field, type_at,
 };
 use std::alloc::Global;
 
@@ -108,24 +108,23 @@ fn push_object(
 
 /// Returns the line of a member that a path leads to.
 fn found_line(
-    alloc: Global,
-    definitions: &Definitions<'_>,
+    table: Table<'_, '_>,
     path: &[u8],
     found: &FoundMember<'_>,
     form: Form,
     texts: &mut TextAllowance,
 ) -> Result<Vec<u8>> {
-    let type_text = field_type_text(alloc, definitions, &found.field, texts)?;
-    let mut line = TextBuffer::new(alloc);
+    let type_text = field_type_text(table, &found.field, texts)?;
+    let mut line = TextBuffer::new(table.alloc);
     match form {
-        Form::Text => push_line(alloc, path, &type_text.bytes, found, &mut line),
+        Form::Text => push_line(table.alloc, path, &type_text.bytes, found, &mut line),
         Form::Json => {
             let texts = FieldTexts {
                 type_text: &type_text.bytes,
                 declaration: path,
                 is_cut: type_text.is_cut,
             };
-            push_object(alloc, path, texts, found, &mut line);
+            push_object(table.alloc, path, texts, found, &mut line);
         }
     }
     Ok(line.finish()?)
@@ -133,18 +132,17 @@ fn found_line(
 
 /// Returns the names of the members of a class that are the nearest to a name.
 fn nearest_members<'t>(
-    alloc: Global,
-    definitions: &Definitions<'t>,
+    table: Table<'_, 't>,
     class: TypeIndex,
     name: &[u8],
     records: &mut Allowance,
 ) -> Result<Nearest<'t>> {
-    let mut nearest = Nearest::new(alloc, name)?;
-    take_records(alloc, definitions, class, records)?;
-    let fields = field_records(alloc, definitions, class)?;
+    let mut nearest = Nearest::new(table.alloc, name)?;
+    take_records(table, class, records)?;
+    let fields = field_records(table, class)?;
     for field in &fields {
         if let TypeData::Member(member) = field {
-            nearest.compare(alloc, member.name.as_bytes())?;
+            nearest.compare(table.alloc, member.name.as_bytes())?;
         }
     }
     Ok(nearest)
@@ -152,8 +150,7 @@ fn nearest_members<'t>(
 
 /// Appends that a type has no member of a name, and which it has with a name that is near.
 fn push_no_member(
-    alloc: Global,
-    definitions: &Definitions<'_>,
+    table: Table<'_, '_>,
     class: TypeIndex,
     name: &[u8],
     records: &mut Allowance,
@@ -164,10 +161,10 @@ fn push_no_member(
         why.push(b"a name is missing behind a point");
         return Ok(());
     }
-    texts.push(alloc, definitions, class, b"", why)?;
+    texts.push(table, class, b"", why)?;
     why.push(b" has no member ");
     why.push_escaped(name);
-    let nearest = nearest_members(alloc, definitions, class, name, records)?;
+    let nearest = nearest_members(table, class, name, records)?;
     nearest.push_question(why);
     Ok(())
 }
@@ -186,23 +183,18 @@ fn push_beyond(alloc: Global, path: &[u8], count: u64, why: &mut TextBuffer) {
 }
 
 /// Appends that no type has a name, and which have names that are near.
-fn push_no_type(
-    alloc: Global,
-    definitions: &Definitions<'_>,
-    path: &[u8],
-    why: &mut TextBuffer,
-) -> Result<()> {
+fn push_no_type(table: Table<'_, '_>, path: &[u8], why: &mut TextBuffer) -> Result<()> {
     why.push(NO_NAME);
     if is_pattern(path) {
         return Ok(());
     }
-    let types = definitions.types();
+    let types = table.definitions.types();
     let (name, _) = cut_at(b'.', path);
-    let mut nearest = Nearest::new(alloc, name)?;
-    for index in &classes_in(alloc, types, Wanted::Named)? {
-        let value = type_at(alloc, types, *index)?;
+    let mut nearest = Nearest::new(table.alloc, name)?;
+    for index in &classes_in(table.alloc, types, Wanted::Named)? {
+        let value = type_at(table.alloc, types, *index)?;
         if let Some(name) = name_defined(&value, Wanted::Named) {
-            nearest.compare(alloc, name.as_bytes())?;
+            nearest.compare(table.alloc, name.as_bytes())?;
         }
     }
     nearest.push_question(why);
@@ -215,31 +207,30 @@ fn push_no_type(
 /// Fails as `path_end` does, as `Definitions::type_text` does for the type of the member, and with
 /// `OutOfMemory` if an allocation fails.
 pub(crate) fn path_line(
-    alloc: Global,
-    definitions: &Definitions<'_>,
+    table: Table<'_, '_>,
     path: &[u8],
     case: LetterCase,
     form: Form,
     records: &mut Allowance,
     texts: &mut TextAllowance,
 ) -> Result<PathLine> {
-    let mut why = TextBuffer::new(alloc);
-    match path_end(alloc, definitions, path, case, records)? {
+    let mut why = TextBuffer::new(table.alloc);
+    match path_end(table, path, case, records)? {
         Some(PathEnd::Member(found)) => {
-            let line = found_line(alloc, definitions, path, &found, form, texts)?;
+            let line = found_line(table, path, &found, form, texts)?;
             return Ok(PathLine::Member(line));
         }
         Some(PathEnd::NoMember(class, name)) => {
-            push_no_member(alloc, definitions, class, name, records, texts, &mut why)?;
+            push_no_member(table, class, name, records, texts, &mut why)?;
         }
         Some(PathEnd::NoElements(before)) => {
             push_path(before, b" has no elements of a known size", &mut why);
         }
-        Some(PathEnd::Beyond(before, count)) => push_beyond(alloc, before, count, &mut why),
+        Some(PathEnd::Beyond(before, count)) => push_beyond(table.alloc, before, count, &mut why),
         Some(PathEnd::NoNumber(before)) => {
             push_path(before, b" is followed by no number in brackets", &mut why);
         }
-        None => push_no_type(alloc, definitions, path, &mut why)?,
+        None => push_no_type(table, path, &mut why)?,
     }
     Ok(PathLine::Missing(why.finish()?))
 }

@@ -3,10 +3,9 @@
 use crate::lookup::{NamedField, Steps, extent_of, find_field, take};
 use pdb_base::{RawString, Result, TypeIndex};
 use pdb_flags::PointerMode;
-use pdb_types::{Definitions, Extent, FieldKind, FieldPlace, LayoutField};
+use pdb_types::{Extent, FieldKind, FieldPlace, LayoutField};
 use pdb_values::{ArrayType, TypeData};
-use pdbdump_types::{Allowance, LetterCase, cut_at, type_at, unmodified};
-use std::alloc::Global;
+use pdbdump_types::{Allowance, LetterCase, Table, cut_at, type_at, unmodified};
 
 /// A path that is followed from the class with whose name it begins.
 #[derive(Clone, Copy)]
@@ -90,26 +89,17 @@ fn pointed_by(value: &TypeData<'_>) -> Option<TypeIndex> {
 }
 
 /// Returns the type to which a type points, if it is a pointer or a reference.
-fn pointed_type(
-    alloc: Global,
-    definitions: &Definitions<'_>,
-    index: TypeIndex,
-) -> Result<Option<TypeIndex>> {
-    let Some(index) = unmodified(alloc, definitions.types(), index)? else {
+fn pointed_type(table: Table<'_, '_>, index: TypeIndex) -> Result<Option<TypeIndex>> {
+    let Some(index) = unmodified(table.alloc, table.definitions.types(), index)? else {
         return Ok(None);
     };
-    let value = type_at(alloc, definitions.types(), index)?;
+    let value = table.type_at(index)?;
     Ok(pointed_by(&value))
 }
 
 /// Returns the place to which a pointer at a place points, or the place itself if there is none.
-fn behind_pointer(
-    alloc: Global,
-    definitions: &Definitions<'_>,
-    place: Place,
-    walked: usize,
-) -> Result<Place> {
-    match pointed_type(alloc, definitions, place.type_index)? {
+fn behind_pointer(table: Table<'_, '_>, place: Place, walked: usize) -> Result<Place> {
+    match pointed_type(table, place.type_index)? {
         Some(type_index) => Ok(Place {
             type_index,
             offset: 0,
@@ -121,8 +111,7 @@ fn behind_pointer(
 
 /// Returns where a step goes on that leads to a field of a class at a place.
 fn at_field<'t, 'p>(
-    alloc: Global,
-    definitions: &Definitions<'t>,
+    table: Table<'_, 't>,
     place: Place,
     field: &NamedField<'t, 'p>,
 ) -> Result<Stepped<'t, 'p>> {
@@ -135,7 +124,7 @@ fn at_field<'t, 'p>(
         };
         return Ok(Stepped::On(next, field.behind));
     }
-    let extent = extent_of(alloc, definitions, field)?;
+    let extent = extent_of(table, field)?;
     let found = FieldPlace {
         kind: field.place.kind,
         field_type: field.place.field_type,
@@ -159,17 +148,16 @@ fn first_name(steps: &[u8]) -> &[u8] {
 
 /// Goes to the member of a name.
 fn step_to_member<'t, 'p>(
-    alloc: Global,
-    definitions: &Definitions<'t>,
+    table: Table<'_, 't>,
     place: Place,
     steps: Steps<'p>,
     walked: usize,
     records: &mut Allowance,
 ) -> Result<Stepped<'t, 'p>> {
-    let place = behind_pointer(alloc, definitions, place, walked)?;
+    let place = behind_pointer(table, place, walked)?;
     let class = place.type_index;
-    match find_field(alloc, definitions, class, steps, records)? {
-        Some(field) => at_field(alloc, definitions, place, &field),
+    match find_field(table, class, steps, records)? {
+        Some(field) => at_field(table, place, &field),
         None => {
             let name = first_name(steps.bytes);
             Ok(Stepped::Ends(PathEnd::NoMember(class, name)))
@@ -199,13 +187,11 @@ fn array_size(array: &ArrayType) -> Option<u64> {
 }
 
 /// Returns the elements of an array at a place, if something says how large they are.
-fn elements_of(
-    alloc: Global,
-    definitions: &Definitions<'_>,
-    array: &ArrayType,
-    place: Place,
-) -> Result<Option<Elements>> {
-    let size = definitions.size_of(alloc, array.element_type)?.unwrap_or(0);
+fn elements_of(table: Table<'_, '_>, array: &ArrayType, place: Place) -> Result<Option<Elements>> {
+    let size = table
+        .definitions
+        .size_of(table.alloc, array.element_type)?
+        .unwrap_or(0);
     let Some(whole) = array_size(array) else {
         return Ok(None);
     };
@@ -223,16 +209,11 @@ fn elements_of(
 }
 
 /// Returns the elements behind a pointer at a place, if something says how large they are.
-fn elements_behind(
-    alloc: Global,
-    definitions: &Definitions<'_>,
-    place: Place,
-    walked: usize,
-) -> Result<Option<Elements>> {
-    let Some(type_index) = pointed_type(alloc, definitions, place.type_index)? else {
+fn elements_behind(table: Table<'_, '_>, place: Place, walked: usize) -> Result<Option<Elements>> {
+    let Some(type_index) = pointed_type(table, place.type_index)? else {
         return Ok(None);
     };
-    match definitions.size_of(alloc, type_index)? {
+    match table.definitions.size_of(table.alloc, type_index)? {
         Some(size) => Ok(Some(Elements {
             first: Place {
                 type_index,
@@ -247,19 +228,14 @@ fn elements_behind(
 }
 
 /// Returns the elements at a place, which has an array or a pointer.
-fn elements_at(
-    alloc: Global,
-    definitions: &Definitions<'_>,
-    place: Place,
-    walked: usize,
-) -> Result<Option<Elements>> {
-    let Some(index) = unmodified(alloc, definitions.types(), place.type_index)? else {
+fn elements_at(table: Table<'_, '_>, place: Place, walked: usize) -> Result<Option<Elements>> {
+    let Some(index) = unmodified(table.alloc, table.definitions.types(), place.type_index)? else {
         return Ok(None);
     };
-    let value = type_at(alloc, definitions.types(), index)?;
+    let value = table.type_at(index)?;
     match &value {
-        TypeData::Array(array) => elements_of(alloc, definitions, array, place),
-        _ => elements_behind(alloc, definitions, place, walked),
+        TypeData::Array(array) => elements_of(table, array, place),
+        _ => elements_behind(table, place, walked),
     }
 }
 
@@ -340,8 +316,7 @@ fn at_element<'t, 'p>(
 
 /// Goes to the element whose number is in brackets.
 fn step_to_element<'t, 'p>(
-    alloc: Global,
-    definitions: &Definitions<'t>,
+    table: Table<'_, 't>,
     place: Place,
     before: &'p [u8],
     steps: &'p [u8],
@@ -351,7 +326,7 @@ fn step_to_element<'t, 'p>(
     let Some((number, behind)) = bracketed(steps) else {
         return Ok(Stepped::Ends(PathEnd::NoNumber(before)));
     };
-    match elements_at(alloc, definitions, place, before.len())? {
+    match elements_at(table, place, before.len())? {
         Some(elements) => Ok(at_element(&elements, number, before, behind)),
         None => Ok(Stepped::Ends(PathEnd::NoElements(before))),
     }
@@ -359,8 +334,7 @@ fn step_to_element<'t, 'p>(
 
 /// Goes one step along a path, of which there are still these steps.
 fn step<'t, 'p>(
-    alloc: Global,
-    definitions: &Definitions<'t>,
+    table: Table<'_, 't>,
     path: &Path<'p>,
     place: Place,
     steps: &'p [u8],
@@ -371,11 +345,11 @@ fn step<'t, 'p>(
     match steps.split_first() {
         Some((b'[', bytes)) => {
             let before = path.bytes.get(..walked).unwrap_or(path.bytes);
-            step_to_element(alloc, definitions, place, before, bytes, records)
+            step_to_element(table, place, before, bytes, records)
         }
         Some((_, bytes)) => {
             let steps = Steps { bytes, case };
-            step_to_member(alloc, definitions, place, steps, walked, records)
+            step_to_member(table, place, steps, walked, records)
         }
         None => Ok(Stepped::Ends(PathEnd::NoMember(place.type_index, steps))),
     }
@@ -389,8 +363,7 @@ fn step<'t, 'p>(
 /// `Definitions::layout_of` does for a class on the way, and with `OutOfMemory` if an allocation
 /// fails.
 pub(crate) fn follow<'t, 'p>(
-    alloc: Global,
-    definitions: &Definitions<'t>,
+    table: Table<'_, 't>,
     path: &Path<'p>,
     records: &mut Allowance,
 ) -> Result<PathEnd<'t, 'p>> {
@@ -402,7 +375,7 @@ pub(crate) fn follow<'t, 'p>(
     let mut steps = path.steps;
     // Each step takes at least a byte of the path.
     for _ in 0..=path.steps.len() {
-        match step(alloc, definitions, path, place, steps, records)? {
+        match step(table, path, place, steps, records)? {
             Stepped::On(next, behind) => {
                 place = next;
                 steps = behind;

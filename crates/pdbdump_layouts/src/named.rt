@@ -4,11 +4,9 @@ ghost use Rattle.pdb_base.specs.Memory.{FailsOnlyForMemory};
 
 use crate::member_path::{Path, PathEnd, follow};
 use pdb_base::{Result, TypeIndex};
-use pdb_types::Definitions;
 use pdbdump_types::{
-    Allowance, LetterCase, Wanted, class_of, classes_in, index_named, steps_behind, type_at,
+    Allowance, LetterCase, Table, Wanted, class_of, classes_in, index_named, steps_behind, type_at,
 };
-use std::alloc::Global;
 
 /// Returns the types that a name means: that of an index such as `0x1026`, those of a pattern with
 /// `*` or `?`, or the definitions of the name.
@@ -16,32 +14,30 @@ use std::alloc::Global;
 /// # Errors
 /// Fails with `OutOfMemory` if an allocation fails.
 pub(crate) fn types_named(
-    alloc: Global,
-    definitions: &Definitions<'_>,
+    table: Table<'_, '_>,
     name: &str,
     case: LetterCase,
 ) -> Result<Vec<TypeIndex>>
     ensures { FailsOnlyForMemory result }
 {
     if let Some(index) = index_named(name) {
-        return Ok(vec![in alloc; index]?);
+        return Ok(vec![in table.alloc; index]?);
     }
     let wanted = Wanted::Meant(name.as_bytes(), case);
-    Ok(classes_in(alloc, definitions.types(), wanted)?)
+    Ok(classes_in(table.alloc, table.definitions.types(), wanted)?)
 }
 
 /// Returns the paths that begin with the name of a class and a point, those with the longest names
 /// first.
-fn paths_of<'p>(
-    alloc: Global,
-    definitions: &Definitions<'_>,
-    path: &'p [u8],
-    case: LetterCase,
-) -> Result<Vec<Path<'p>>> {
-    let mut paths = Vec::new(alloc);
-    let classes = classes_in(alloc, definitions.types(), Wanted::Before(path, case))?;
+fn paths_of<'p>(table: Table<'_, '_>, path: &'p [u8], case: LetterCase) -> Result<Vec<Path<'p>>> {
+    let mut paths = Vec::new(table.alloc);
+    let classes = classes_in(
+        table.alloc,
+        table.definitions.types(),
+        Wanted::Before(path, case),
+    )?;
     for class in &classes {
-        let value = type_at(alloc, definitions.types(), *class)?;
+        let value = table.type_at(*class)?;
         let name = class_of(&value).map(|class| class.name);
         let steps = name.and_then(|name| steps_behind(path, name.as_bytes(), case));
         if let Some(steps) = steps {
@@ -70,16 +66,15 @@ fn is_member(end: &PathEnd<'_, '_>) -> bool {
 /// Fails as `follow` does for a class with whose name the path begins, and with `OutOfMemory` if an
 /// allocation fails.
 pub(crate) fn path_end<'t, 'p>(
-    alloc: Global,
-    definitions: &Definitions<'t>,
+    table: Table<'_, 't>,
     path: &'p [u8],
     case: LetterCase,
     records: &mut Allowance,
 ) -> Result<Option<PathEnd<'t, 'p>>> {
     let mut first = None;
-    let paths = paths_of(alloc, definitions, path, case)?;
+    let paths = paths_of(table, path, case)?;
     for path in &paths {
-        let end = follow(alloc, definitions, path, records)?;
+        let end = follow(table, path, records)?;
         if is_member(&end) {
             return Ok(Some(end));
         }

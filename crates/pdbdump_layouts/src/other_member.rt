@@ -3,11 +3,9 @@
 use crate::lookup::{field_records, take, take_records};
 use pdb_base::{RawString, Result, TypeIndex};
 use pdb_flags::FieldAttributes;
-use pdb_types::Definitions;
 use pdb_values::{MethodListEntry, OverloadedMethodType, TypeData};
 use pdbdump_rows::Value;
-use pdbdump_types::{Allowance, ObjectBuffer, TextAllowance, TextBuffer, class_of, type_at};
-use std::alloc::Global;
+use pdbdump_types::{Allowance, ObjectBuffer, Table, TextAllowance, TextBuffer, class_of, type_at};
 
 /// What a member is that takes no place.
 #[derive(Clone, Copy, PartialEq, Eq)]
@@ -75,26 +73,21 @@ fn other_in<'t>(record: &TypeData<'t>) -> Option<OtherMember<'t>> {
 }
 
 /// Returns the methods of a list.
-fn listed_methods(
-    alloc: Global,
-    definitions: &Definitions<'_>,
-    list: TypeIndex,
-) -> Result<Vec<MethodListEntry>> {
-    match type_at(alloc, definitions.types(), list)? {
+fn listed_methods(table: Table<'_, '_>, list: TypeIndex) -> Result<Vec<MethodListEntry>> {
+    match table.type_at(list)? {
         TypeData::MethodList(list) => Ok(list.methods),
-        _ => Ok(Vec::new(alloc)),
+        _ => Ok(Vec::new(table.alloc)),
     }
 }
 
 /// Appends the methods that share a name.
 fn push_overloaded<'t>(
-    alloc: Global,
-    definitions: &Definitions<'t>,
+    table: Table<'_, 't>,
     overloaded: &OverloadedMethodType<'t>,
     records: &mut Allowance,
     others: &mut Vec<OtherMember<'t>>,
 ) -> Result<()> {
-    let methods = listed_methods(alloc, definitions, overloaded.method_list)?;
+    let methods = listed_methods(table, overloaded.method_list)?;
     take(methods.len(), records)?;
     for method in &methods {
         others.push(OtherMember {
@@ -112,17 +105,16 @@ fn push_overloaded<'t>(
 /// Fails with `UnimplementedFeature` if more records would be read than are allowed, as
 /// `OpenTable::fields` does, and with `OutOfMemory` if an allocation fails.
 pub(crate) fn others_of<'t>(
-    alloc: Global,
-    definitions: &Definitions<'t>,
+    table: Table<'_, 't>,
     class: TypeIndex,
     records: &mut Allowance,
 ) -> Result<Vec<OtherMember<'t>>> {
-    take_records(alloc, definitions, class, records)?;
-    let fields = field_records(alloc, definitions, class)?;
-    let mut others = Vec::new(alloc);
+    take_records(table, class, records)?;
+    let fields = field_records(table, class)?;
+    let mut others = Vec::new(table.alloc);
     for field in &fields {
         if let TypeData::OverloadedMethod(overloaded) = field {
-            push_overloaded(alloc, definitions, overloaded, records, &mut others)?;
+            push_overloaded(table, overloaded, records, &mut others)?;
         }
         if let Some(other) = other_in(field) {
             others.push(other)?;
@@ -163,15 +155,14 @@ fn nested_word(value: &TypeData<'_>, name: &[u8]) -> Option<&'static str> {
 /// # Errors
 /// Fails as `Definitions::type_text` does for the type of the member.
 pub(crate) fn other_declaration(
-    alloc: Global,
-    definitions: &Definitions<'_>,
+    table: Table<'_, '_>,
     other: &OtherMember<'_>,
     texts: &mut TextAllowance,
 ) -> Result<Vec<u8>> {
     let name = other.name.as_bytes();
-    let mut declared = TextBuffer::new(alloc);
+    let mut declared = TextBuffer::new(table.alloc);
     if other.role == OtherRole::NestedType {
-        let value = type_at(alloc, definitions.types(), other.type_index)?;
+        let value = table.type_at(other.type_index)?;
         if let Some(word) = nested_word(&value, name) {
             declared.push(word.as_bytes());
             declared.push(b" ");
@@ -180,7 +171,7 @@ pub(crate) fn other_declaration(
         }
     }
     declared.push(first_word(other.role).as_bytes());
-    declared.push(&texts.bytes(alloc, definitions, other.type_index, name)?);
+    declared.push(&texts.bytes(table, other.type_index, name)?);
     Ok(declared.finish()?)
 }
 
@@ -200,14 +191,13 @@ fn role_word(role: OtherRole) -> &'static str {
 /// # Errors
 /// Fails as `Definitions::type_text` does for the type of the member.
 pub(crate) fn show_other(
-    alloc: Global,
+    table: Table<'_, '_>,
     object: &mut ObjectBuffer,
-    definitions: &Definitions<'_>,
     other: &OtherMember<'_>,
     texts: &mut TextAllowance,
 ) -> Result<()> {
-    let type_text = texts.bytes(alloc, definitions, other.type_index, b"")?;
-    let declared = other_declaration(alloc, definitions, other, texts)?;
+    let type_text = texts.bytes(table, other.type_index, b"")?;
+    let declared = other_declaration(table, other, texts)?;
     object.field("kind", Value::Word(role_word(other.role)));
     object.field("depth", Value::Number(0));
     object.field("name", Value::Text(other.name));

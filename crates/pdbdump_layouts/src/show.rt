@@ -21,20 +21,20 @@ use pdb_tpi::{OpenTable, TypeInformation};
 use pdb_types::{Definitions, Layout};
 use pdbdump_rows::{Form, error_text};
 use pdbdump_types::{
-    Allowance, Progress, TOO_MANY, TextAllowance, TextBuffer, Wanted, class_layout, class_of,
-    classes_in, learn_table, tell, tell_fault, tell_index, type_at, write_layout,
+    Allowance, Progress, TOO_MANY, Table, TextAllowance, TextBuffer, Wanted, class_layout,
+    class_of, classes_in, learn_table, tell, tell_fault, tell_index, type_at, write_layout,
 };
 use std::alloc::{AllocError, Global};
 use std::io::Write;
 
 /// What is asked of a table.
 #[derive(Clone, Copy)]
-struct Asked<'d, 't> {
-    /// The definitions of the table.
-    definitions: &'d Definitions<'t>,
+struct Asked<'o, 'd, 't> {
+    /// The table.
+    table: Table<'d, 't>,
 
     /// Which of them are shown, and how.
-    options: &'d Options,
+    options: &'o Options,
 
     /// Whether they are shown as text or as JSON.
     form: Form,
@@ -56,41 +56,39 @@ const TOO_DEEP: &[u8] = b"more is left out, since so much was shown";
 
 /// Returns what of a class takes no place, if it is to be shown.
 fn shown_others<'t>(
-    alloc: Global,
-    asked: &Asked<'_, 't>,
+    asked: &Asked<'_, '_, 't>,
     class: TypeIndex,
     records: &mut Allowance,
 ) -> Result<Vec<OtherMember<'t>>, Error> {
     if asked.options.has_all_members {
-        others_of(alloc, asked.definitions, class, records)
+        others_of(asked.table, class, records)
     } else {
-        Ok(Vec::new(alloc))
+        Ok(Vec::new(asked.table.alloc))
     }
 }
 
 /// Returns a layout as text or JSON.
 fn layout_text<'t>(
-    alloc: Global,
-    asked: &Asked<'_, 't>,
+    asked: &Asked<'_, '_, 't>,
     layout: &Layout<'t>,
     records: &mut Allowance,
     rows: &mut Allowance,
     texts: &mut TextAllowance,
 ) -> Result<Vec<u8>, Error> {
-    let (definitions, options) = (asked.definitions, asked.options);
-    let class = class_of(&type_at(alloc, definitions.types(), layout.index)?);
+    let (table, options) = (asked.table, asked.options);
+    let class = class_of(&table.type_at(layout.index)?);
     let shown = ShownClass {
         layout,
         class,
-        expansion: expand(alloc, definitions, layout, options.depth, rows)?,
-        others: shown_others(alloc, asked, layout.index, records)?,
+        expansion: expand(table, layout, options.depth, rows)?,
+        others: shown_others(asked, layout.index, records)?,
         line_size: options.line_size,
     };
-    let mut text = TextBuffer::new(alloc);
+    let mut text = TextBuffer::new(table.alloc);
     match (asked.form, options.style) {
-        (Form::Json, _) => push_json(alloc, definitions, &shown, texts, &mut text)?,
-        (Form::Text, Style::C) => push_c(alloc, definitions, &shown, texts, &mut text)?,
-        (Form::Text, Style::Dt) => push_dt(alloc, definitions, &shown, texts, &mut text)?,
+        (Form::Json, _) => push_json(table, &shown, texts, &mut text)?,
+        (Form::Text, Style::C) => push_c(table, &shown, texts, &mut text)?,
+        (Form::Text, Style::Dt) => push_dt(table, &shown, texts, &mut text)?,
     }
     Ok(text.finish()?)
 }
@@ -102,8 +100,7 @@ fn is_wanted(layout: &Layout<'_>, options: &Options) -> bool {
 
 /// Shows a layout that is wanted, or tells why it can't be written.
 fn show_layout<O: Write, E: Write>(
-    alloc: Global,
-    asked: &Asked<'_, '_>,
+    asked: &Asked<'_, '_, '_>,
     index: TypeIndex,
     layout: &Layout<'_>,
     progress: &mut Progress,
@@ -115,16 +112,16 @@ fn show_layout<O: Write, E: Write>(
 {
     let records = &mut progress.records;
     let rows = &mut progress.rows;
-    match layout_text(alloc, asked, layout, records, rows, &mut progress.texts) {
+    match layout_text(asked, layout, records, rows, &mut progress.texts) {
         Ok(text) => write_layout(&text, asked.form, progress, out),
-        Err(fault) => tell_fault(alloc, index, &fault, progress, err),
+        Err(fault) => tell_fault(asked.table.alloc, index, &fault, progress, err),
     }
 }
 
 /// Writes an enumeration, which has no hole.
 fn write_enumeration<O: Write>(
     text: &[u8],
-    asked: &Asked<'_, '_>,
+    asked: &Asked<'_, '_, '_>,
     progress: &mut Progress,
     out: &mut Output<O>,
 ) -> Result<(), Error>
@@ -139,8 +136,7 @@ fn write_enumeration<O: Write>(
 
 /// Shows an enumeration, unless only classes with holes are shown; or tells that a type is none.
 fn show_enumeration<O: Write, E: Write>(
-    alloc: Global,
-    asked: &Asked<'_, '_>,
+    asked: &Asked<'_, '_, '_>,
     index: TypeIndex,
     progress: &mut Progress,
     out: &mut Output<O>,
@@ -149,19 +145,18 @@ fn show_enumeration<O: Write, E: Write>(
     ensures accounted { OnOk result (StaysAccounted progress.old progress.new err.old err.new) }
     ensures stopped { IsStopped out.new result }
 {
-    let (definitions, style) = (asked.definitions, asked.options.style);
+    let (table, style) = (asked.table, asked.options.style);
     let texts = &mut progress.texts;
-    match enumeration_text(alloc, definitions, index, style, asked.form, texts) {
+    match enumeration_text(table, index, style, asked.form, texts) {
         Ok(Some(text)) => write_enumeration(&text, asked, progress, out),
-        Ok(None) => tell_index(alloc, index, NO_CLASS, progress, err),
-        Err(fault) => tell_fault(alloc, index, &fault, progress, err),
+        Ok(None) => tell_index(asked.table.alloc, index, NO_CLASS, progress, err),
+        Err(fault) => tell_fault(asked.table.alloc, index, &fault, progress, err),
     }
 }
 
 /// Shows the layout of a type, or tells why it has none.
 fn show_type<O: Write, E: Write>(
-    alloc: Global,
-    asked: &Asked<'_, '_>,
+    asked: &Asked<'_, '_, '_>,
     index: TypeIndex,
     progress: &mut Progress,
     out: &mut Output<O>,
@@ -170,22 +165,21 @@ fn show_type<O: Write, E: Write>(
     ensures accounted { OnOk result (StaysAccounted progress.old progress.new err.old err.new) }
     ensures stopped { IsStopped out.new result }
 {
-    match class_layout(alloc, asked.definitions, index) {
+    match class_layout(asked.table, index) {
         Ok(Some(layout)) => {
             if !is_wanted(&layout, asked.options) {
                 return Ok(());
             }
-            show_layout(alloc, asked, index, &layout, progress, out, err)
+            show_layout(asked, index, &layout, progress, out, err)
         }
-        Ok(None) => show_enumeration(alloc, asked, index, progress, out, err),
-        Err(fault) => tell_fault(alloc, index, &fault, progress, err),
+        Ok(None) => show_enumeration(asked, index, progress, out, err),
+        Err(fault) => tell_fault(asked.table.alloc, index, &fault, progress, err),
     }
 }
 
 /// Shows the layouts of types.
 fn show_types<O: Write, E: Write>(
-    alloc: Global,
-    asked: &Asked<'_, '_>,
+    asked: &Asked<'_, '_, '_>,
     indexes: &[TypeIndex],
     progress: &mut Progress,
     out: &mut Output<O>,
@@ -195,7 +189,7 @@ fn show_types<O: Write, E: Write>(
     ensures stopped { IsStopped out.new result }
 {
     for index in indexes {
-        show_type(alloc, asked, *index, progress, out, err)?;
+        show_type(asked, *index, progress, out, err)?;
     }
     Ok(())
 }
@@ -211,30 +205,21 @@ fn number_of(layout: &Layout<'_>, order: Order) -> u64 {
 
 /// Returns the number by which a type is sorted, which is 0 if it has no layout, and in the order
 /// of names, for which no layout is read.
-fn rank_number(
-    alloc: Global,
-    definitions: &Definitions<'_>,
-    index: TypeIndex,
-    order: Order,
-) -> Result<u64, AllocError> {
+fn rank_number(table: Table<'_, '_>, index: TypeIndex, order: Order) -> Result<u64, AllocError> {
     if order == Order::Name {
         return Ok(0);
     }
-    match class_layout(alloc, definitions, index) {
+    match class_layout(table, index) {
         Ok(Some(layout)) => Ok(number_of(&layout, order)),
-        Ok(None) if order == Order::Size => known_size(alloc, definitions, index),
+        Ok(None) if order == Order::Size => known_size(table, index),
         Err(Error::OutOfMemory) => Err(AllocError),
         Ok(None) | Err(_) => Ok(0),
     }
 }
 
 /// Returns the size of a type, which is 0 if nothing says it.
-fn known_size(
-    alloc: Global,
-    definitions: &Definitions<'_>,
-    index: TypeIndex,
-) -> Result<u64, AllocError> {
-    match definitions.size_of(alloc, index) {
+fn known_size(table: Table<'_, '_>, index: TypeIndex) -> Result<u64, AllocError> {
+    match table.definitions.size_of(table.alloc, index) {
         Ok(size) => Ok(size.unwrap_or(0)),
         Err(Error::OutOfMemory) => Err(AllocError),
         Err(_) => Ok(0),
@@ -242,12 +227,8 @@ fn known_size(
 }
 
 /// Returns the name by which a type is sorted, which is empty if it has none.
-fn rank_name<'t>(
-    alloc: Global,
-    definitions: &Definitions<'t>,
-    index: TypeIndex,
-) -> Result<&'t [u8], AllocError> {
-    match type_at(alloc, definitions.types(), index) {
+fn rank_name<'t>(table: Table<'_, 't>, index: TypeIndex) -> Result<&'t [u8], AllocError> {
+    match table.type_at(index) {
         Ok(value) => match value.name() {
             Some(name) => Ok(name.as_bytes()),
             None => Ok(b""),
@@ -259,16 +240,15 @@ fn rank_name<'t>(
 
 /// Returns by what types are sorted.
 fn ranks_of<'t>(
-    alloc: Global,
-    definitions: &Definitions<'t>,
+    table: Table<'_, 't>,
     indexes: &[TypeIndex],
     order: Order,
 ) -> Result<Vec<Rank<'t>>, AllocError> {
-    let mut ranks = Vec::new(alloc);
+    let mut ranks = Vec::new(table.alloc);
     for index in indexes {
         ranks.push(Rank {
-            number: rank_number(alloc, definitions, *index, order)?,
-            name: rank_name(alloc, definitions, *index)?,
+            number: rank_number(table, *index, order)?,
+            name: rank_name(table, *index)?,
             index: *index,
         })?;
     }
@@ -286,29 +266,27 @@ fn types_of(alloc: Global, ranks: &[Rank<'_>]) -> Result<Vec<TypeIndex>, AllocEr
 
 /// Returns types in an order.
 fn sort_types(
-    alloc: Global,
-    definitions: &Definitions<'_>,
+    table: Table<'_, '_>,
     indexes: Vec<TypeIndex>,
     order: Option<Order>,
 ) -> Result<Vec<TypeIndex>, AllocError> {
     let Some(order) = order else {
         return Ok(indexes);
     };
-    let mut ranks = ranks_of(alloc, definitions, &indexes, order)?;
+    let mut ranks = ranks_of(table, &indexes, order)?;
     ranks.sort_by(|left, right| {
         right
             .number
             .cmp(&left.number)
             .then_with(|| left.name.cmp(right.name))
     })?;
-    types_of(alloc, &ranks)
+    types_of(table.alloc, &ranks)
 }
 
 /// Adds the types that a name means to those that are to be shown; writes the line of a member; or
 /// tells that the name means nothing.
 fn find_name<O: Write, E: Write>(
-    alloc: Global,
-    asked: &Asked<'_, '_>,
+    asked: &Asked<'_, '_, '_>,
     name: &str,
     found: &mut Vec<TypeIndex>,
     progress: &mut Progress,
@@ -318,8 +296,8 @@ fn find_name<O: Write, E: Write>(
     ensures accounted { OnOk result (StaysAccounted progress.old progress.new err.old err.new) }
     ensures stopped { IsStopped out.new result }
 {
-    let (definitions, case) = (asked.definitions, asked.options.case);
-    let types = types_named(alloc, definitions, name, case)?;
+    let (table, case) = (asked.table, asked.options.case);
+    let types = types_named(table, name, case)?;
     if !types.is_empty() {
         found.extend_from_slice(&types)?;
         return Ok(());
@@ -327,21 +305,20 @@ fn find_name<O: Write, E: Write>(
     let name = name.as_bytes();
     let records = &mut progress.records;
     let texts = &mut progress.texts;
-    match path_line(alloc, definitions, name, case, asked.form, records, texts) {
+    match path_line(table, name, case, asked.form, records, texts) {
         Ok(PathLine::Member(line)) => out.write(&line),
-        Ok(PathLine::Missing(why)) => tell(alloc, name, &why, progress, err),
+        Ok(PathLine::Missing(why)) => tell(asked.table.alloc, name, &why, progress, err),
         Err(Error::OutOfMemory) => Err(Error::OutOfMemory),
         Err(fault) => {
-            let why = error_text(alloc, &fault)?;
-            tell(alloc, name, &why, progress, err)
+            let why = error_text(asked.table.alloc, &fault)?;
+            tell(asked.table.alloc, name, &why, progress, err)
         }
     }
 }
 
 /// Does the same for each of some names.
 fn find_names<O: Write, E: Write>(
-    alloc: Global,
-    asked: &Asked<'_, '_>,
+    asked: &Asked<'_, '_, '_>,
     names: &[&str],
     found: &mut Vec<TypeIndex>,
     progress: &mut Progress,
@@ -352,15 +329,14 @@ fn find_names<O: Write, E: Write>(
     ensures stopped { IsStopped out.new result }
 {
     for name in names {
-        find_name(alloc, asked, name, found, progress, out, err)?;
+        find_name(asked, name, found, progress, out, err)?;
     }
     Ok(())
 }
 
 /// Returns of how many types the fields may be read.
 fn allowed_count(
-    alloc: Global,
-    definitions: &Definitions<'_>,
+    table: Table<'_, '_>,
     types: &[TypeIndex],
     progress: &mut Progress,
 ) -> Result<usize, AllocError>
@@ -368,7 +344,7 @@ fn allowed_count(
     ensures whole { progress.new.is_whole ≡ progress.old.is_whole }
 {
     for (place, index) in types.iter().enumerate() {
-        if !progress.take_fields(alloc, definitions, *index)? {
+        if !progress.take_fields(table, *index)? {
             return Ok(place);
         }
     }
@@ -391,8 +367,7 @@ fn first_types(
 /// Leaves out the types from the first on for which more records of fields would be read than are
 /// allowed, and tells of it.
 fn limit_types<E: Write>(
-    alloc: Global,
-    definitions: &Definitions<'_>,
+    table: Table<'_, '_>,
     found: &mut Vec<TypeIndex>,
     progress: &mut Progress,
     err: &mut Output<E>,
@@ -401,12 +376,12 @@ fn limit_types<E: Write>(
     ensures told { OnOk result ((found.new ≡ found.old) ⊎ (progress.new.is_whole ≡ false)) }
     ensures memory { FailsOnlyForMemory result }
 {
-    let most = allowed_count(alloc, definitions, found, progress)?;
+    let most = allowed_count(table, found, progress)?;
     let Some(index) = found.get(most).copied() else {
         return Ok(());
     };
     found.truncate(most);
-    tell_index(alloc, index, TOO_MANY, progress, err)
+    tell_index(table.alloc, index, TOO_MANY, progress, err)
 }
 
 /// Tells if members of classes within classes were left out since so many were shown.
@@ -428,8 +403,7 @@ fn tell_depth<E: Write>(
 /// Shows the types of a table that are wanted, and returns whether each name was found and no
 /// class had an error.
 fn show_asked<O: Write, E: Write>(
-    alloc: Global,
-    asked: &Asked<'_, '_>,
+    asked: &Asked<'_, '_, '_>,
     names: &[&str],
     progress: &mut Progress,
     out: &mut Output<O>,
@@ -438,13 +412,13 @@ fn show_asked<O: Write, E: Write>(
     ensures accounted { OnOk result (StaysAccounted progress.old progress.new err.old err.new) }
     ensures stopped { IsStopped out.new result }
 {
-    let (definitions, options) = (asked.definitions, asked.options);
-    let mut found = first_types(alloc, definitions.types(), options.all)?;
-    find_names(alloc, asked, names, &mut found, progress, out, err)?;
-    limit_types(alloc, definitions, &mut found, progress, err)?;
-    let ordered = sort_types(alloc, definitions, found, options.order)?;
-    show_types(alloc, asked, &ordered, progress, out, err)?;
-    tell_depth(alloc, progress, err)
+    let (table, options) = (asked.table, asked.options);
+    let mut found = first_types(table.alloc, table.definitions.types(), options.all)?;
+    find_names(asked, names, &mut found, progress, out, err)?;
+    limit_types(table, &mut found, progress, err)?;
+    let ordered = sort_types(table, found, options.order)?;
+    show_types(asked, &ordered, progress, out, err)?;
+    tell_depth(asked.table.alloc, progress, err)
 }
 
 /// Shows the layouts of classes of the table in a stream: of all, or of those that names mean, in
@@ -470,12 +444,16 @@ pub fn show_layouts<O: Write, E: Write>(
     let bytes = stream.as_slice().len();
     let types = learn_table(alloc, stream)?;
     let definitions = Definitions::new(alloc, &types)?;
-    let asked = Asked {
+    let table = Table {
+        alloc,
         definitions: &definitions,
+    };
+    let asked = Asked {
+        table,
         options,
         form,
     };
     let mut progress = Progress::new(bytes);
-    show_asked(alloc, &asked, names, &mut progress, out, err)?;
+    show_asked(&asked, names, &mut progress, out, err)?;
     Ok(progress.is_whole)
 }

@@ -7,7 +7,7 @@ use pdb_tpi::OpenTable;
 use pdb_types::Definitions;
 use pdb_values::TypeData;
 use pdbdump_rows::{Form, TypeTexts};
-use pdbdump_types::TextAllowance;
+use pdbdump_types::{Table, TextAllowance};
 use std::alloc::{AllocError, Global};
 
 /// How many bytes of texts are shown of one record at most, so that a small record can't become much.
@@ -56,8 +56,7 @@ fn referred(
 
 /// Adds the text of a type, if it can be made of the bytes that are left for texts.
 fn push_text(
-    alloc: Global,
-    definitions: &Definitions<'_>,
+    table: Table<'_, '_>,
     index: TypeIndex,
     left: &mut TextAllowance,
     texts: &mut TypeTexts,
@@ -65,16 +64,15 @@ fn push_text(
     if left.is_spent() {
         return Ok(());
     }
-    match left.bytes(alloc, definitions, index, b"") {
-        Ok(text) => texts.push(alloc, index, text),
+    match left.bytes(table, index, b"") {
+        Ok(text) => texts.push(table.alloc, index, text),
         Err(fault) => only_memory(fault),
     }
 }
 
 /// Adds the texts of types, which are in increasing order.
 fn push_texts(
-    alloc: Global,
-    definitions: &Definitions<'_>,
+    table: Table<'_, '_>,
     indexes: &[TypeIndex],
     texts: &mut TypeTexts,
 ) -> Result<(), AllocError> {
@@ -82,7 +80,7 @@ fn push_texts(
     let mut last = None;
     for index in indexes {
         if last != Some(index.0) {
-            push_text(alloc, definitions, *index, &mut left, texts)?;
+            push_text(table, *index, &mut left, texts)?;
         }
         last = Some(index.0);
     }
@@ -104,7 +102,13 @@ pub(crate) fn texts_of(
     let mut texts = TypeTexts::new(alloc, form, MOST);
     let indexes = referred(alloc, types, index, value)?;
     match Definitions::new(alloc, types) {
-        Ok(definitions) => push_texts(alloc, &definitions, &indexes, &mut texts)?,
+        Ok(definitions) => {
+            let table = Table {
+                alloc,
+                definitions: &definitions,
+            };
+            push_texts(table, &indexes, &mut texts)?;
+        }
         Err(fault) => only_memory(fault)?,
     }
     Ok(texts)

@@ -7,6 +7,7 @@ use pdb_base::{Error, FallibleIterator, TypeIndex};
 use pdb_tpi::{OpenTable, Type};
 use pdb_types::Definitions;
 use pdb_values::TypeData;
+use pdbdump_types::Table;
 use std::alloc::{AllocError, Global};
 
 /// The types to which the records that are listed refer, and those to which one record refers.
@@ -21,12 +22,11 @@ pub(crate) struct UsedTypes {
 
 /// Returns whether a type defines the one of an index. One that can't be read is not defined.
 fn is_defined_by(
-    alloc: Global,
-    definitions: &Definitions<'_>,
+    table: Table<'_, '_>,
     index: TypeIndex,
     definition: TypeIndex,
 ) -> Result<bool, AllocError> {
-    match definitions.definition_of(alloc, index) {
+    match table.definitions.definition_of(table.alloc, index) {
         Ok(found) => Ok(found == Some(definition)),
         Err(Error::OutOfMemory) => Err(AllocError),
         Err(_) => Ok(false),
@@ -46,9 +46,13 @@ fn push_declared(
         Err(Error::OutOfMemory) => return Err(AllocError),
         Err(_) => return Ok(()),
     };
+    let table = Table {
+        alloc,
+        definitions: &definitions,
+    };
     let mut items = types.items().iter();
     while let Ok(Some(item)) = items.next() {
-        if is_defined_by(alloc, &definitions, item.index(), definition)? {
+        if is_defined_by(table, item.index(), definition)? {
             found.push(item.index().0)?;
         }
     }

@@ -3,9 +3,10 @@
 use crate::defined::defined_by;
 use crate::letter_case::LetterCase;
 use crate::pattern::{matches, matches_ignoring_case};
+use crate::table::Table;
 use pdb_base::{Error, RawString, TypeIndex};
 use pdb_tpi::{OpenTable, Type};
-use pdb_types::{Definitions, Layout};
+use pdb_types::Layout;
 use pdb_values::constants::{
     LF_ARGLIST, LF_BITFIELD, LF_FIELDLIST, LF_METHODLIST, LF_MFUNCTION, LF_MODIFIER, LF_POINTER,
     LF_PROCEDURE,
@@ -196,12 +197,11 @@ pub fn unmodified(
 /// # Errors
 /// Fails as `Definitions::layout_of` does.
 pub fn class_layout<'t>(
-    alloc: Global,
-    definitions: &Definitions<'t>,
+    table: Table<'_, 't>,
     index: TypeIndex,
 ) -> Result<Option<Layout<'t>>, Error> {
-    match unmodified(alloc, definitions.types(), index)? {
-        Some(index) => definitions.layout_of(alloc, index),
+    match unmodified(table.alloc, table.definitions.types(), index)? {
+        Some(index) => table.definitions.layout_of(table.alloc, index),
         None => Ok(None),
     }
 }
@@ -220,19 +220,15 @@ fn list_in(value: &TypeData<'_>) -> Option<TypeIndex> {
 ///
 /// # Errors
 /// Fails as `Definitions::definition_of` does.
-pub fn list_of(
-    alloc: Global,
-    definitions: &Definitions<'_>,
-    index: TypeIndex,
-) -> Result<Option<TypeIndex>, Error> {
-    let types = definitions.types();
-    let Some(index) = unmodified(alloc, types, index)? else {
+pub fn list_of(table: Table<'_, '_>, index: TypeIndex) -> Result<Option<TypeIndex>, Error> {
+    let types = table.definitions.types();
+    let Some(index) = unmodified(table.alloc, types, index)? else {
         return Ok(None);
     };
-    let Some(definition) = definitions.definition_of(alloc, index)? else {
+    let Some(definition) = table.definitions.definition_of(table.alloc, index)? else {
         return Ok(None);
     };
-    let value = type_at(alloc, types, definition)?;
+    let value = type_at(table.alloc, types, definition)?;
     Ok(list_in(&value))
 }
 
@@ -251,12 +247,11 @@ fn records_in(value: &TypeData<'_>) -> (usize, Option<TypeIndex>) {
 /// # Errors
 /// Fails if an allocation fails.
 pub fn records_of(
-    alloc: Global,
-    definitions: &Definitions<'_>,
+    table: Table<'_, '_>,
     index: TypeIndex,
     most: usize,
 ) -> Result<usize, AllocError> {
-    let mut next = match list_of(alloc, definitions, index) {
+    let mut next = match list_of(table, index) {
         Ok(list) => list,
         Err(Error::OutOfMemory) => return Err(AllocError),
         Err(_) => return Ok(0),
@@ -266,7 +261,7 @@ pub fn records_of(
         let Some(list) = next else {
             return Ok(count);
         };
-        let value = match type_at(alloc, definitions.types(), list) {
+        let value = match table.type_at(list) {
             Ok(value) => value,
             Err(Error::OutOfMemory) => return Err(AllocError),
             Err(_) => return Ok(count),

@@ -1,9 +1,9 @@
 //! The enumerators of an enumeration.
 
+use crate::table::Table;
 use pdb_base::{RawString, Result, TypeIndex, Variant};
-use pdb_types::{Definitions, enumerator_value};
+use pdb_types::enumerator_value;
 use pdb_values::TypeData;
-use std::alloc::Global;
 
 /// An enumerator.
 #[derive(Clone, Copy)]
@@ -35,16 +35,15 @@ fn number_of(value: Variant) -> i128 {
 /// # Errors
 /// Fails as `OpenTable::fields` does.
 pub fn enumerators_of<'t>(
-    alloc: Global,
-    definitions: &Definitions<'t>,
+    table: Table<'_, 't>,
     list: TypeIndex,
     underlying_type: TypeIndex,
 ) -> Result<Vec<Enumerator<'t>>> {
-    let mut enumerators = Vec::new(alloc);
+    let mut enumerators = Vec::new(table.alloc);
     if list.0 == 0 {
         return Ok(enumerators);
     }
-    let records = definitions.types().fields(alloc, list)?;
+    let records = table.definitions.types().fields(table.alloc, list)?;
     for record in &records {
         if let TypeData::Enumerate(enumerator) = record {
             enumerators.push(Enumerator {

@@ -1,10 +1,11 @@
 //! The lines of fields and of enumerators in declarations of C++.
 
 use crate::enumerators::Enumerator;
+use crate::table::Table;
 use crate::text_allowance::TextAllowance;
 use crate::text_buffer::TextBuffer;
 use pdb_base::Result;
-use pdb_types::{Definitions, Extent, FieldKind, LayoutField, TypeText};
+use pdb_types::{Extent, FieldKind, LayoutField, TypeText};
 use pdb_values::BitfieldType;
 use std::alloc::Global;
 
@@ -26,22 +27,20 @@ fn push_place(alloc: Global, start: u64, field: &LayoutField<'_>, text: &mut Tex
 /// # Errors
 /// Fails as `Definitions::type_text` does for the type whose bits it takes.
 pub(crate) fn bit_field_text<'t>(
-    alloc: Global,
-    definitions: &Definitions<'t>,
+    table: Table<'_, 't>,
     bits: BitfieldType,
     texts: &mut TextAllowance,
 ) -> Result<TypeText> {
-    let mut text = texts.text(alloc, definitions, bits.underlying_type, b"")?;
+    let mut text = texts.text(table, bits.underlying_type, b"")?;
     let length = bits.length;
-    let width = format!(in alloc; " : {length}")?;
+    let width = format!(in table.alloc; " : {length}")?;
     text.bytes.extend_from_slice(width.as_bytes())?;
     Ok(text)
 }
 
 /// Appends the declaration of a data member.
 fn push_member<'t>(
-    alloc: Global,
-    definitions: &Definitions<'t>,
+    table: Table<'_, 't>,
     field: &LayoutField<'t>,
     name: &[u8],
     texts: &mut TextAllowance,
@@ -49,28 +48,27 @@ fn push_member<'t>(
 ) -> Result<()> {
     match field.extent {
         Extent::Bits(bits) if name.is_empty() => {
-            let declared = bit_field_text(alloc, definitions, bits, texts)?;
+            let declared = bit_field_text(table, bits, texts)?;
             text.push_escaped(&declared.bytes);
             Ok(())
         }
-        _ => texts.push(alloc, definitions, field.place.field_type, name, text),
+        _ => texts.push(table, field.place.field_type, name, text),
     }
 }
 
 /// Appends the declaration of a field.
 fn push_declaration<'t>(
-    alloc: Global,
-    definitions: &Definitions<'t>,
+    table: Table<'_, 't>,
     field: &LayoutField<'t>,
     texts: &mut TextAllowance,
     text: &mut TextBuffer,
 ) -> Result<()> {
     match field.place.kind {
-        FieldKind::Base => texts.push(alloc, definitions, field.place.field_type, b"", text)?,
+        FieldKind::Base => texts.push(table, field.place.field_type, b"", text)?,
         FieldKind::VirtualBasePointer(_) => text.push(b"vbptr"),
         FieldKind::VirtualFunctionPointer => text.push(b"vfptr"),
         FieldKind::Member(name) => {
-            push_member(alloc, definitions, field, name.as_bytes(), texts, text)?;
+            push_member(table, field, name.as_bytes(), texts, text)?;
         }
     }
     Ok(())
@@ -78,8 +76,7 @@ fn push_declaration<'t>(
 
 /// Appends what the comment of a field says besides its place.
 fn push_role<'t>(
-    alloc: Global,
-    definitions: &Definitions<'t>,
+    table: Table<'_, 't>,
     field: &LayoutField<'t>,
     texts: &mut TextAllowance,
     text: &mut TextBuffer,
@@ -88,7 +85,7 @@ fn push_role<'t>(
         FieldKind::Base => text.push(b"  base"),
         FieldKind::VirtualBasePointer(base) => {
             text.push(b"  of virtual base ");
-            texts.push(alloc, definitions, base.base_class, b"", text)?;
+            texts.push(table, base.base_class, b"", text)?;
         }
         FieldKind::VirtualFunctionPointer | FieldKind::Member(_) => {}
     }
@@ -101,18 +98,17 @@ fn push_role<'t>(
 /// # Errors
 /// Fails as `Definitions::type_text` does for the type of the field.
 pub fn push_field<'t>(
-    alloc: Global,
-    definitions: &Definitions<'t>,
+    table: Table<'_, 't>,
     start: u64,
     field: &LayoutField<'t>,
     texts: &mut TextAllowance,
     text: &mut TextBuffer,
 ) -> Result<()> {
-    push_declaration(alloc, definitions, field, texts, text)?;
+    push_declaration(table, field, texts, text)?;
     text.push(b";");
     text.begin_comment();
-    push_place(alloc, start, field, text);
-    push_role(alloc, definitions, field, texts, text)?;
+    push_place(table.alloc, start, field, text);
+    push_role(table, field, texts, text)?;
     text.push(b"\n");
     Ok(())
 }

@@ -39,7 +39,7 @@ pub use object_buffer::ObjectBuffer;
 pub use pattern::{is_pattern, matches, matches_ignoring_case};
 pub use progress::{Progress, TOO_MANY, tell, tell_fault, tell_index, write_layout};
 pub use shown_gap::{GapPlace, GapRole, fields_end, gap_place, gap_role};
-pub use table::learn_table;
+pub use table::{Table, learn_table};
 pub use text::{escape_text, plural};
 pub use text_allowance::TextAllowance;
 pub use text_buffer::TextBuffer;

@@ -5,12 +5,12 @@ use crate::field_text::bit_field_text;
 use crate::names::{BIT, BITS, CUT, DECLARATION, DEPTH, TYPE, TYPE_INDEX, VIRTUAL_BASE};
 use crate::object_buffer::ObjectBuffer;
 use crate::shown_gap::{GapRole, gap_place};
+use crate::table::Table;
 use crate::text_allowance::TextAllowance;
 use pdb_base::{RawString, Result};
-use pdb_types::{Definitions, Extent, FieldKind, Gap, LayoutField, TypeText};
+use pdb_types::{Extent, FieldKind, Gap, LayoutField, TypeText};
 use pdbdump_rows::names::{DIRECT, KIND, NAME, OFFSET, POSITION, SIZE, VALUE};
 use pdbdump_rows::{Value, optional_text};
-use std::alloc::Global;
 
 /// Returns the word for what a field is.
 fn role_word(kind: &FieldKind<'_>) -> &'static str {
@@ -134,16 +134,13 @@ pub fn show_gap(object: &mut ObjectBuffer, depth: u32, start: u64, gap: &Gap, ro
 /// # Errors
 /// Fails as `Definitions::type_text` does for the type of the field.
 pub fn field_type_text<'t>(
-    alloc: Global,
-    definitions: &Definitions<'t>,
+    table: Table<'_, 't>,
     field: &LayoutField<'t>,
     texts: &mut TextAllowance,
 ) -> Result<TypeText> {
     match field.extent {
-        Extent::Bits(bits) => bit_field_text(alloc, definitions, bits, texts),
-        Extent::Bytes(_) | Extent::Unknown => {
-            texts.text(alloc, definitions, field.place.field_type, b"")
-        }
+        Extent::Bits(bits) => bit_field_text(table, bits, texts),
+        Extent::Bytes(_) | Extent::Unknown => { texts.text(table, field.place.field_type, b"") }
     }
 }
 
@@ -153,9 +150,8 @@ pub fn field_type_text<'t>(
 /// # Errors
 /// Fails as `Definitions::type_text` does for the type of the field.
 pub fn show_declared<'t>(
-    alloc: Global,
+    table: Table<'_, 't>,
     object: &mut ObjectBuffer,
-    definitions: &Definitions<'t>,
     depth: u32,
     start: u64,
     part: &LayoutField<'t>,
@@ -166,11 +162,11 @@ pub fn show_declared<'t>(
         FieldKind::Member(name) => name.as_bytes(),
         _ => b"".as_slice(),
     };
-    let type_text = field_type_text(alloc, definitions, part, texts)?;
+    let type_text = field_type_text(table, part, texts)?;
     let declaration = if name.is_empty() {
-        field_type_text(alloc, definitions, part, texts)?
+        field_type_text(table, part, texts)?
     } else {
-        texts.text(alloc, definitions, index, name)?
+        texts.text(table, index, name)?
     };
     let offset = start.saturating_add(part.place.offset);
     let spelled = FieldTexts {

@@ -6,11 +6,11 @@ ghost use Rattle.pdbdump_types.specs.Shown.{IsStopped, StaysAccounted};
 
 use crate::allowance::Allowance;
 use crate::classes::records_of;
+use crate::table::Table;
 use crate::text_allowance::TextAllowance;
 use crate::text_buffer::TextBuffer;
 use pdb_base::{Error, TypeIndex};
 use pdb_output::Output;
-use pdb_types::Definitions;
 use pdbdump_rows::{Form, error_text};
 use std::alloc::{AllocError, Global};
 use std::io::Write;
@@ -64,14 +64,13 @@ impl Progress {
     /// Fails if an allocation fails.
     pub fn take_fields(
         &mut self,
-        alloc: Global,
-        definitions: &Definitions<'_>,
+        table: Table<'_, '_>,
         index: TypeIndex,
     ) -> Result<bool, AllocError>
         ensures shown { self.new.has_shown ≡ self.old.has_shown }
         ensures whole { self.new.is_whole ≡ self.old.is_whole }
     {
-        let count = records_of(alloc, definitions, index, self.records.left())?;
+        let count = records_of(table, index, self.records.left())?;
         Ok(self.records.take(count))
     }
 }

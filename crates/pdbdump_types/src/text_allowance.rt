@@ -1,10 +1,10 @@
 //! How many bytes the texts of types have at most that one call writes, so that little in a file
 //! can't become much.
 
+use crate::table::Table;
 use crate::text_buffer::TextBuffer;
 use pdb_base::{Result, TypeIndex};
-use pdb_types::{Definitions, TypeText};
-use std::alloc::Global;
+use pdb_types::TypeText;
 
 /// How many bytes they have in any file, and how many more for each byte of the table.
 const LEAST: usize = 0x100_0000;
@@ -44,12 +44,13 @@ impl TextAllowance {
     /// Fails as `Definitions::type_text` does.
     pub fn text(
         &mut self,
-        alloc: Global,
-        definitions: &Definitions<'_>,
+        table: Table<'_, '_>,
         index: TypeIndex,
         name: &[u8],
     ) -> Result<TypeText> {
-        let text = definitions.text_within(alloc, index, name, self.left)?;
+        let text = table
+            .definitions
+            .text_within(table.alloc, index, name, self.left)?;
         self.take(text.bytes.len());
         Ok(text)
     }
@@ -60,12 +61,11 @@ impl TextAllowance {
     /// Fails as `Definitions::type_text` does.
     pub fn bytes(
         &mut self,
-        alloc: Global,
-        definitions: &Definitions<'_>,
+        table: Table<'_, '_>,
         index: TypeIndex,
         name: &[u8],
     ) -> Result<Vec<u8>> {
-        let text = self.text(alloc, definitions, index, name)?;
+        let text = self.text(table, index, name)?;
         Ok(text.bytes)
     }
 
@@ -75,13 +75,12 @@ impl TextAllowance {
     /// Fails as `Definitions::type_text` does.
     pub fn push(
         &mut self,
-        alloc: Global,
-        definitions: &Definitions<'_>,
+        table: Table<'_, '_>,
         index: TypeIndex,
         name: &[u8],
         out: &mut TextBuffer,
     ) -> Result<()> {
-        out.push_escaped(&self.bytes(alloc, definitions, index, name)?);
+        out.push_escaped(&self.bytes(table, index, name)?);
         Ok(())
     }
 }

@@ -7,6 +7,6 @@ use Rattle.pdb_validation.proofs.missing_streams.check_named_streams.Goals as go
 
 pub returns : goal.returns
 returns c =
-    asked_end _ _ _ (names_mismatches c.args.layout.now c.args.names.now) c.loop-name.invariant
-    (at_drop_all (λ names. names_mismatches c.args.layout.now (map named_view names)) c.as_slice-entries.result.now _
-    c.loop-name-test.false)
+    asked_end _ _ _ (names_mismatches c.args.scope.now.layout.now c.args.names.now) c.loop-name.invariant
+    (at_drop_all (λ names. names_mismatches c.args.scope.now.layout.now (map named_view names))
+    c.as_slice-entries.result.now _ c.loop-name-test.false)

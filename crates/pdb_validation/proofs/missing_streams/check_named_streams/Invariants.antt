@@ -6,5 +6,6 @@ use Rattle.pdb_validation.proofs.missing_streams.check_named_streams.Given as go
 
 abbrev pub invariant-loop-name : goal.invariant-loop-name
 invariant-loop-name l =
-    with_further l.extent l.mismatches.items (names_mismatches l.layout (map named_view (drop l.name-index l.entries)))
-    ≡ with_further l.extent [] (names_mismatches l.layout l.names)
+    with_further l.scope.extent l.mismatches.items
+    (names_mismatches l.scope.layout.now (map named_view (drop l.name-index l.entries)))
+    ≡ with_further l.scope.extent [] (names_mismatches l.scope.layout.now l.names)

@@ -8,6 +8,6 @@ use Rattle.pdb_validation.proofs.relations.add_mismatches.Given as goal
 abbrev pub invariant-loop-mismatch : goal.invariant-loop-mismatch
 invariant-loop-mismatch l = record {
   told : map finding_view l.findings.items ≡ map finding_view l.initial.findings.items
-      ++ map (mismatch_fault l.layout l.part) (take l.mismatch-index l.mismatches);
-  last : l.last.pages ≡ stream_pages l.layout l.last.number;
+      ++ map (mismatch_fault l.scope.layout.now l.part) (take l.mismatch-index l.mismatches);
+  last : l.last.pages ≡ stream_pages l.scope.layout.now l.last.number;
 }

@@ -10,7 +10,7 @@ loop-number-init g c =
     let old = g.S.Source.state c.args.source.now.source in
     record {
       kept = kept_here old;
-      told = λ fixed. rw (from_first c.args.layout.now old.bytes c.args.count) refl;
+      told = λ fixed. rw (from_first c.args.scope.now.layout.now old.bytes c.args.count) refl;
     }
 
 pub returns-then-branch : goal.returns-then-branch
@@ -22,7 +22,7 @@ returns-then-branch g c =
       answer = λ fixed.
           let still = subst IsTrue (sym before.kept.fixed) fixed in
           telling_enough _ _ _ _ _ _ _ _ _ _ (before.told fixed)
-          (faults_next c.args.layout.now old.bytes c.args.count c.loop-number.number c.loop-number-test.true)
+          (faults_next c.args.scope.now.layout.now old.bytes c.args.count c.loop-number.number c.loop-number-test.true)
           (rw before.kept.bytes at next.answer still) c.in_ok-add_until.ensures.added c.in_ok-add_until.ensures.last
           c.if-branch.true;
       kept = kept_then _ _ _ before.kept next.kept;
@@ -38,7 +38,7 @@ loop-number-preserved g c =
       told = λ fixed.
           let still = subst IsTrue (sym before.kept.fixed) fixed in
           telling_more _ _ _ _ _ _ _ _ _ _ (before.told fixed)
-          (faults_next c.args.layout.now old.bytes c.args.count c.loop-number.number c.loop-number-test.true)
+          (faults_next c.args.scope.now.layout.now old.bytes c.args.count c.loop-number.number c.loop-number-test.true)
           (rw before.kept.bytes at next.answer still) c.in_ok-add_until.ensures.added c.in_ok-add_until.ensures.last
           c.if-branch.false;
     }
@@ -50,6 +50,6 @@ returns g c =
     record {
       answer = λ fixed.
           ap said (telling_none _ _ _ _ _ (before.told fixed)
-          (none_left c.args.layout.now old.bytes c.args.count c.loop-number.number c.loop-number-test.false));
+          (none_left c.args.scope.now.layout.now old.bytes c.args.count c.loop-number.number c.loop-number-test.false));
       kept = before.kept;
     }

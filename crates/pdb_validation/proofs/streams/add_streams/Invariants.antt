@@ -13,6 +13,7 @@ invariant-loop-number g l =
     record {
       kept : IsKept old (g.S.Source.state l.source.source);
       told : IsFixed old →
-          IsTelling l.extent (map finding_view l.initial.findings.items) (streams_faults l.layout old.bytes l.count)
-          (map finding_view l.findings.items) (faults_from l.layout old.bytes l.count l.number);
+          IsTelling l.scope.extent (map finding_view l.initial.findings.items)
+          (streams_faults l.scope.layout.now old.bytes l.count)
+          (map finding_view l.findings.items) (faults_from l.scope.layout.now old.bytes l.count l.number);
     }
