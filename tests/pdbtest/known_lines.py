@@ -333,7 +333,7 @@ def finding_lines(data):
             said = [fault.stream, fault.byte, fault.file_byte]
             stream, byte, file_byte = (f"{int(number is not None)}:{number or 0}" for number in said)
             index = f"{int(fault.index is not None)}:{fault.index or 0:#x}"
-            numbers = INCONSISTENCIES.index(fault.code) + 1 if fault.code in INCONSISTENCIES else 0
+            numbers = [*INCONSISTENCIES].index(fault.code) + 1 if fault.code in INCONSISTENCIES else 0
             is_warning = int(fault.code in WARNINGS)
             yield f"finding {PARTS.index(fault.part)} {stream} {index} {byte} {file_byte} {is_warning} {numbers}"
 

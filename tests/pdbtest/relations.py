@@ -97,14 +97,43 @@ def of_id(record):
     return ([word(record, 6)] if kind == Leaf.LF_UDT_SRC_LINE else []), [word(record, 2)]
 
 
-# The codes of what can be inconsistent, in the order of their numbers, from 1 on.
-INCONSISTENCIES = [
-    "DIRECTORY-TOO-LARGE", "STREAMS-TOO-LARGE", "OUT-OF-ORDER", "PAGE-SHARED", "PAGE-FREE", "STREAM-MISSING",
-    "DEBUG-SIZES", "REFERENCE-NOT-BELOW", "RECORD-UNALIGNED", "KIND-NOT-READ", "HASH-COUNT", "HASH-TOO-LARGE",
-    "INDEX-OFFSET", "BUCKETS-CUT", "NAME-OFFSET", "NAME-COUNT", "SECTIONS-OVERLAP", "FREE-PAGE-MAP", "PAGE-COUNT",
-    "UNKNOWN-VERSION", "UNKNOWN-MACHINE", "NAMED-STREAM-COUNT", "RECORD-BYTES", "HASH-SIZE", "NO-HASH-STREAM", "HASH-PART",
-    "NAME-UNREACHED", "MODULE-CUT", "MODULE-SIZES", "SYMBOL-HASH-VERSION", "SYMBOL-HASH-SIZES", "PUBLIC-SIZES", "SYMBOL-CUT",
-]  # fmt: skip
+# What can be inconsistent: the codes, in the order of their numbers from 1 on, and what each text says, as a pattern.
+DECIMAL, HEXADECIMAL = r"\d+", r"0x[0-9a-f]+"
+INCONSISTENCIES = {
+    "DIRECTORY-TOO-LARGE": "the directory is larger than the file",
+    "STREAMS-TOO-LARGE": "the streams together are larger than the file",
+    "OUT-OF-ORDER": "the records are out of order",
+    "PAGE-SHARED": f"page {DECIMAL} is used twice",
+    "PAGE-FREE": f"page {DECIMAL} is in use and marked as free",
+    "STREAM-MISSING": f"stream {DECIMAL} has a name or a role and is missing",
+    "DEBUG-SIZES": "the parts of stream 3 do not add up to its size",
+    "REFERENCE-NOT-BELOW": f"a reference to index {HEXADECIMAL} is not below the record's own",
+    "RECORD-UNALIGNED": "the record does not end at a multiple of four bytes",
+    "KIND-NOT-READ": f"records of kind {HEXADECIMAL} are not read",
+    "HASH-COUNT": f"there are {DECIMAL} hash values for other records",
+    "HASH-TOO-LARGE": f"hash value {DECIMAL} is not below the number of buckets",
+    "INDEX-OFFSET": f"the place of index {HEXADECIMAL} is not that of its record",
+    "BUCKETS-CUT": "the string table ends before its buckets do",
+    "NAME-OFFSET": f"no name begins at offset {DECIMAL}",
+    "NAME-COUNT": f"the buckets do not hold {DECIMAL} names",
+    "SECTIONS-OVERLAP": "the section begins below the end of the one before it",
+    "FREE-PAGE-MAP": f"the number of the free page map is {DECIMAL}, and neither 1 nor 2",
+    "PAGE-COUNT": f"the file has fewer than the {DECIMAL} pages that are in use",
+    "UNKNOWN-VERSION": f"version {DECIMAL} is not known",
+    "UNKNOWN-MACHINE": f"machine {HEXADECIMAL} is not known",
+    "NAMED-STREAM-COUNT": f"the table of names does not have {DECIMAL} streams",
+    "RECORD-BYTES": f"the records do not end where the number {DECIMAL} in the header says",
+    "HASH-SIZE": f"no table has hashes of this size or as many buckets: {DECIMAL}",
+    "NO-HASH-STREAM": "the records have no hash stream",
+    "HASH-PART": f"a part of {DECIMAL} bytes does not fit the hash stream",
+    "NAME-UNREACHED": f"the hash of the name at offset {DECIMAL} does not lead to its bucket",
+    "MODULE-CUT": "the entry of the module ends behind the list of modules",
+    "MODULE-SIZES": f"a module takes more bytes than there are in stream {DECIMAL}",
+    "SYMBOL-HASH-VERSION": f"no hash table of symbols has signature or version {HEXADECIMAL}",
+    "SYMBOL-HASH-SIZES": "the hash table of symbols does not have the size it says",
+    "PUBLIC-SIZES": "the parts of the publics do not add up to their stream",
+    "SYMBOL-CUT": "the record of the symbol ends behind its stream",
+}
 
 # What files of known tools have, too.
 WARNINGS = {"PAGE-FREE", "RECORD-UNALIGNED", "KIND-NOT-READ", "UNKNOWN-MACHINE", "NO-HASH-STREAM"}

@@ -2,10 +2,11 @@
 
 import collections
 import json
+import re
 
 from pdbtest.calls import call
 from pdbtest.reading import Fault, Reading
-from pdbtest.relations import WARNINGS
+from pdbtest.relations import INCONSISTENCIES, WARNINGS
 
 # What `validate` says of a whole file.
 WHOLE = "whole (types, ids, names, sections, addresses, frames; modules and symbols are not read)"
@@ -23,7 +24,7 @@ def said(lines):
     try:
         for members in map(json.loads, lines.decode().splitlines()):
             if "code" in members:
-                if not members["problem"]:
+                if not re.fullmatch(INCONSISTENCIES.get(members["code"], ".+"), members["problem"]):
                     return None
                 faults.append(Fault(*(members.get(name) for name in Fault._fields)))
                 is_warning = faults[-1].code in WARNINGS
