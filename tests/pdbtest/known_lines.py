@@ -4,6 +4,7 @@ import re
 import uuid
 
 from pdbtest.addresses import moved_ranges
+from pdbtest.calls import SENTENCES
 from pdbtest.known_file import (
     DEBUG_AGE, FEATURE_BITS, FLAGS, FROM_SOURCE, GUID, LOADED, MACHINE, NAMED, NAMES, NEW_FRAMES, OLD_FRAMES, ORIGINAL,
     TO_SOURCE, streams,
@@ -292,14 +293,17 @@ NAMED_BY_NUMBER = {
 }  # fmt: skip
 
 
-# What pdbq says by a name, or by the system's texts, and the status of the library for C.
-STATUSES = {"UnrecognizedFileFormat": 1, "IO error while reading PDB.*": 7, "UnexpectedEof": 8, "TypeTooShort": 14}
+# What pdbq says by a name or by the system's texts, or pdbdump in a line, and the status of the library for C.
+STATUSES = {
+    "UnrecognizedFileFormat": 1, "IO error while reading PDB.*": 7, f"UnexpectedEof|{SENTENCES['UnexpectedEof']}": 8,
+    f"TypeTooShort|{SENTENCES['TypeTooShort']}": 14,
+}  # fmt: skip
 
 
 def in_words_of_c(err):
     """What pdbq tells of an error, in the words of the library for C."""
     for pattern, status in STATUSES.items():
-        err = re.sub(f"^{pattern}$".encode(), TEXTS[status].encode(), err, flags=re.MULTILINE)
+        err = re.sub(f"^(?:{pattern})$".encode(), TEXTS[status].encode(), err, flags=re.MULTILINE)
     return err
 
 
