@@ -20,6 +20,7 @@ pub mod TableHeader
 pub mod Words
 pub mod Problem
 pub mod Finding
+pub mod Code
 pub mod Sizes
 pub mod Places
 pub mod Streams

@@ -1,9 +1,10 @@
 //! What is found wrong in a file.
 
-ghost use Rattle.std.specs.Prelude.{◌≡◌, ◌++◌, map, Ok, IfOk};
+ghost use Rattle.std.specs.Prelude.{◌≡◌, ◌++◌, map, Some, Ok, IfOk};
 ghost use Rattle.std.specs.Option.{option_map, option_to_list};
 ghost use Rattle.pdb_base.specs.Answer.{Answers};
 ghost use Rattle.pdb_base.specs.Refusal.{refusal_of};
+ghost use Rattle.pdb_validation.specs.Code.{code_text, fault_code, part_code, record_code};
 ghost use Rattle.pdb_validation.specs.Finding.{file_fault, finding_view, is_enough, stream_fault};
 ghost use Rattle.pdb_validation.specs.Problem.{problem_view};
 ghost use Rattle.pdb_validation.specs.Streams.{absence};
@@ -50,7 +51,9 @@ pub enum Part {
 
 impl Part {
     /// Returns the code of a part, with which the codes of its errors begin.
-    pub fn code(self) -> &'static str {
+    pub fn code(self) -> &'static str
+        ensures { result.now ≡ part_code self }
+    {
         match self {
             Part::Header => "HEADER",
             Part::Directory => "DIRECTORY",
@@ -81,6 +84,8 @@ pub struct Code {
 }
 
 impl fmt::Display for Code {
+    ghost output = { λ code. Some (code_text code) };
+
     fn fmt<W: fmt::Write>(&self, f: &mut fmt::Formatter<W>) -> fmt::Result {
         write!(f, "{}{}{}", self.part, self.record, self.kind)
     }
@@ -115,11 +120,13 @@ impl Finding {
     /// error it is the code of the part, then `-RECORD` if the fault is at a record, and then
     /// `-CUT` if bytes end too soon, `-PAGE-RANGE` for the number of a page, `-PAGE-SIZE` for the
     /// size of pages, and `-MISSING` for a stream: `TYPES-RECORD-CUT`, `STREAM-PAGE-RANGE`.
-    pub fn code(&self) -> Code {
+    pub fn code(&self) -> Code
+        ensures { code_text result ≡ fault_code (finding_view self.now) }
+    {
         match &self.problem {
             Problem::Error(error) => Code {
                 part: self.part.code(),
-                record: if self.index.is_some() { "-RECORD" } else { "" },
+                record: record_code(self.index),
                 kind: error_code(error),
             },
             Problem::Inconsistent(what) => Code {
@@ -128,6 +135,16 @@ impl Finding {
                 kind: "",
             },
         }
+    }
+}
+
+/// Returns the part of a code that says that a fault is at a record.
+fn record_code(index: Option<u64>) -> &'static str
+    ensures { result.now ≡ record_code index }
+{
+    match index {
+        Some(_) => "-RECORD",
+        None => "",
     }
 }
 

@@ -1,6 +1,7 @@
 //! What can be inconsistent in a file.
 
 ghost use Rattle.std.specs.Prelude.{◌≡◌};
+ghost use Rattle.pdb_validation.specs.Code.{inconsistency_code};
 ghost use Rattle.pdb_validation.specs.Inconsistency.{is_warning};
 
 use std::fmt;
@@ -118,7 +119,9 @@ pub enum Inconsistency {
 
 impl Inconsistency {
     /// Returns the code of the inconsistency, under which programs tell of it.
-    pub fn code(self) -> &'static str {
+    pub fn code(self) -> &'static str
+        ensures { result.now ≡ inconsistency_code self }
+    {
         match self {
             Self::DirectoryTooLarge => "DIRECTORY-TOO-LARGE",
             Self::StreamsTooLarge => "STREAMS-TOO-LARGE",

@@ -1,6 +1,8 @@
 //! What is wrong in a part of a file.
 
 ghost use Rattle.std.specs.Prelude.{◌≡◌};
+ghost use Rattle.pdb_base.specs.Refusal.{refusal_of};
+ghost use Rattle.pdb_validation.specs.Code.{error_code};
 ghost use Rattle.pdb_validation.specs.Problem.{is_tolerated, problem_view};
 
 use crate::inconsistency::Inconsistency;
@@ -31,7 +33,9 @@ impl Problem {
 }
 
 /// Returns the part of a code that says which error it is, or nothing for those that have none.
-pub(crate) fn error_code(error: &Error) -> &'static str {
+pub(crate) fn error_code(error: &Error) -> &'static str
+    ensures { result.now ≡ error_code (refusal_of error.now) }
+{
     match error {
         Error::UnexpectedEof | Error::IoError(_) => "-CUT",
         Error::PageReferenceOutOfRange(_) => "-PAGE-RANGE",

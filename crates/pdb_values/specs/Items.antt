@@ -19,14 +19,6 @@ HasListItem (values.argument_list list) = HasItem list
 HasListItem (values.method_list list) = HasItem list
 HasListItem (values.plain value) = ⊥
 
--- a type that neither is nor holds a list
-abbrev pub IsPlain : TypeValue → Type 0
-IsPlain (values.plain value) = ⊤
-IsPlain (values.array array) = ⊥
-IsPlain (values.field_list fields continuation) = ⊥
-IsPlain (values.argument_list list) = ⊥
-IsPlain (values.method_list list) = ⊥
-
 -- an id that is a list with at least one item: a build info record or a string list record
 abbrev pub HasIdListItem : IdValue → Type 0
 HasIdListItem (ids.build_info list) = HasItem list

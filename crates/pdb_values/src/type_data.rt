@@ -5,7 +5,7 @@ ghost use Rattle.std.specs.Option.{option_map};
 ghost use Rattle.pdb_base.specs.Answer.{Answers};
 ghost use Rattle.pdb_base.specs.Memory.{LacksOnlyIf};
 ghost use Rattle.pdb_values.specs.Text.{text_bytes};
-ghost use Rattle.pdb_values.specs.Items.{HasListItem, HasField, IsPlain};
+ghost use Rattle.pdb_values.specs.Items.{HasListItem, HasField};
 ghost use Rattle.pdb_values.specs.TypeValue.{name_of_type};
 ghost use Rattle.pdb_values.specs.TypeView.{type_value, fields_value, field_list_value};
 
@@ -133,44 +133,6 @@ impl<'t> TypeData<'t> {
     }
 }
 
-/// Returns an equal type, for a type that neither is nor holds a list.
-fn copy_plain<'t>(original: &TypeData<'t>) -> TypeData<'t>
-    requires { IsPlain (type_value original.now) }
-    ensures { type_value result ≡ type_value original.now }
-{
-    match original {
-        TypeData::Primitive(primitive) => TypeData::Primitive(*primitive),
-        TypeData::Class(class) => TypeData::Class(ClassType { ..*class }),
-        TypeData::Member(member) => TypeData::Member(MemberType { ..*member }),
-        TypeData::MemberFunction(function) => TypeData::MemberFunction(*function),
-        TypeData::OverloadedMethod(methods) => {
-            TypeData::OverloadedMethod(OverloadedMethodType { ..*methods })
-        }
-        TypeData::Method(method) => TypeData::Method(MethodType { ..*method }),
-        TypeData::StaticMember(member) => TypeData::StaticMember(StaticMemberType { ..*member }),
-        TypeData::Nested(nested) => TypeData::Nested(NestedType { ..*nested }),
-        TypeData::BaseClass(base) => TypeData::BaseClass(*base),
-        TypeData::VirtualBaseClass(base) => TypeData::VirtualBaseClass(*base),
-        TypeData::VirtualFunctionTablePointer(pointer) => {
-            TypeData::VirtualFunctionTablePointer(*pointer)
-        }
-        TypeData::Procedure(procedure) => TypeData::Procedure(*procedure),
-        TypeData::Pointer(pointer) => TypeData::Pointer(*pointer),
-        TypeData::Modifier(modifier) => TypeData::Modifier(*modifier),
-        TypeData::Enumeration(enumeration) => {
-            TypeData::Enumeration(EnumerationType { ..*enumeration })
-        }
-        TypeData::Enumerate(value) => TypeData::Enumerate(EnumerateType { ..*value }),
-        TypeData::Union(union_type) => TypeData::Union(UnionType { ..*union_type }),
-        TypeData::Bitfield(bitfield) => TypeData::Bitfield(*bitfield),
-        TypeData::VirtualTableShape(shape) => TypeData::VirtualTableShape(*shape),
-        TypeData::Array(_)
-        | TypeData::FieldList(_)
-        | TypeData::ArgumentList(_)
-        | TypeData::MethodList(_) => unreachable!(),
-    }
-}
-
 /// Returns an equal type, with memory of its own for each list.
 #[cycle(copy)]
 pub(crate) fn copy_type<'t>(alloc: Global, original: &TypeData<'t>) -> Result<TypeData<'t>>
@@ -182,7 +144,33 @@ pub(crate) fn copy_type<'t>(alloc: Global, original: &TypeData<'t>) -> Result<Ty
         TypeData::FieldList(list) => Ok(TypeData::FieldList(copy_list(alloc, list)?)),
         TypeData::ArgumentList(list) => Ok(TypeData::ArgumentList(list.clone(alloc)?)),
         TypeData::MethodList(list) => Ok(TypeData::MethodList(list.clone(alloc)?)),
-        _ => Ok(copy_plain(original)),
+        TypeData::Primitive(primitive) => Ok(TypeData::Primitive(*primitive)),
+        TypeData::Class(class) => Ok(TypeData::Class(ClassType { ..*class })),
+        TypeData::Member(member) => Ok(TypeData::Member(MemberType { ..*member })),
+        TypeData::MemberFunction(function) => Ok(TypeData::MemberFunction(*function)),
+        TypeData::OverloadedMethod(methods) => {
+            Ok(TypeData::OverloadedMethod(OverloadedMethodType { ..*methods }))
+        }
+        TypeData::Method(method) => Ok(TypeData::Method(MethodType { ..*method })),
+        TypeData::StaticMember(member) => Ok(TypeData::StaticMember(StaticMemberType {
+            ..*member
+        })),
+        TypeData::Nested(nested) => Ok(TypeData::Nested(NestedType { ..*nested })),
+        TypeData::BaseClass(base) => Ok(TypeData::BaseClass(*base)),
+        TypeData::VirtualBaseClass(base) => Ok(TypeData::VirtualBaseClass(*base)),
+        TypeData::VirtualFunctionTablePointer(pointer) => {
+            Ok(TypeData::VirtualFunctionTablePointer(*pointer))
+        }
+        TypeData::Procedure(procedure) => Ok(TypeData::Procedure(*procedure)),
+        TypeData::Pointer(pointer) => Ok(TypeData::Pointer(*pointer)),
+        TypeData::Modifier(modifier) => Ok(TypeData::Modifier(*modifier)),
+        TypeData::Enumeration(enumeration) => {
+            Ok(TypeData::Enumeration(EnumerationType { ..*enumeration }))
+        }
+        TypeData::Enumerate(value) => Ok(TypeData::Enumerate(EnumerateType { ..*value })),
+        TypeData::Union(union_type) => Ok(TypeData::Union(UnionType { ..*union_type })),
+        TypeData::Bitfield(bitfield) => Ok(TypeData::Bitfield(*bitfield)),
+        TypeData::VirtualTableShape(shape) => Ok(TypeData::VirtualTableShape(*shape)),
     }
 }
 

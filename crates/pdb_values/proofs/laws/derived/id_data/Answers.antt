@@ -1,4 +1,5 @@
 use Rattle.std.proofs.Common.{ap}
+use Rattle.std.proofs.lemmas.Bool.{false≢true}
 use Rattle.pdb_values.specs.declared.id_data.IdData.TheVariants as ids
 use Rattle.pdb_values.specs.IdValue.{plain, build_info, string_list}
 use Rattle.pdb_values.specs.IdValue as values
@@ -26,4 +27,4 @@ returns c (ids.UserDefinedTypeSource a) (ids.UserDefinedTypeSource b) =
       λ holds. ap (λ x. plain (values.user_defined_type_source x)) (same.0 holds),
       λ is. same.1 cc,
     )
-returns c a b = (λ holds. absurd cc, λ is. absurd cc)
+returns c a b = (λ holds. absurd (false≢true holds), λ is. absurd cc)
