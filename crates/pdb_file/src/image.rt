@@ -1,15 +1,15 @@
 //! What an image says of its program database: a program or a library in the PE format names the
 //! database in its debug directory, by the Portable Executable specification.
 
-ghost use Rattle.std.specs.Prelude.{◌≡◌, ◌≤◌, ◌↔◌, IsTrue};
+ghost use Rattle.std.specs.Prelude.{◌≡◌, ◌≤◌, ◌↔◌, length, IsTrue};
 ghost use Rattle.pdb_base.specs.Answer.{Answers, Gives};
 ghost use Rattle.pdb_base.specs.Place.{left};
 ghost use Rattle.pdb_msf.specs.Source.{ReadsSource};
 ghost use Rattle.pdb_space.specs.SectionHeader.{section_header_at};
 ghost use Rattle.pdb_file.specs.Identity.{cpu_name};
-ghost use Rattle.pdb_file.specs.Image.{IsDatabaseOf, directory_span, directory_start, entry_at};
-ghost use Rattle.pdb_file.specs.Image.{first_read, found_view, image_headers, image_record, is_code_view, last_part};
-ghost use Rattle.pdb_file.specs.Image.{record_in, record_view, section_holds, span_in};
+ghost use Rattle.pdb_file.specs.Image.{IsDatabaseOf, code_view_at, directory_span, directory_start, entry_at};
+ghost use Rattle.pdb_file.specs.Image.{first_read, found_view, headers_in, image_headers, image_record, is_code_view};
+ghost use Rattle.pdb_file.specs.Image.{last_part, record_in, record_view, section_holds, span_in};
 
 use crate::identity::{Identity, cpu_name};
 use crate::key::{LowerKey, UpperKey};
@@ -140,8 +140,25 @@ struct Entry {
     start: u32,
 }
 
+/// Returns what the PE header at an offset and the COFF header behind it say.
+#[tactic(auto, unfolding(crate::specs::Image::headers_in))]
+fn headers_in(start: u32, header: &[u8]) -> Found<Headers>
+    requires { length header.now ≡ 24 }
+    ensures { result ≡ headers_in start header.now }
+{
+    if !header.starts_with(b"PE\0\0") {
+        return Err(NoDatabase::NoHeader);
+    }
+    Ok(Headers {
+        start,
+        machine: LittleEndian::read_u16(&header[4..]),
+        sections: LittleEndian::read_u16(&header[6..]),
+        optional_size: LittleEndian::read_u16(&header[20..]),
+    })
+}
+
 /// Reads the headers of an image.
-#[tactic(auto, unfolding(crate::specs::Image::image_headers, crate::specs::Image::headers_in, crate::specs::Format::image_magic))]
+#[tactic(auto, unfolding(crate::specs::Image::image_headers, crate::specs::Format::image_magic))]
 fn read_headers<S: Source>(alloc: Global, source: &mut CountedSource<S>) -> Result<Found<Headers>>
     ensures { ReadsSource (S.state source.old.source) (S.state source.new.source) (λ headers. headers) result
         image_headers }
@@ -152,16 +169,7 @@ fn read_headers<S: Source>(alloc: Global, source: &mut CountedSource<S>) -> Resu
     }
     let start = LittleEndian::read_u32(&opening.as_slice()[START_AT..]);
     let header = source.read_part(alloc, start as u64, HEADER_SIZE)?;
-    let header = header.as_slice();
-    if !header.starts_with(b"PE\0\0") {
-        return Ok(Err(NoDatabase::NoHeader));
-    }
-    Ok(Ok(Headers {
-        start,
-        machine: LittleEndian::read_u16(&header[4..]),
-        sections: LittleEndian::read_u16(&header[6..]),
-        optional_size: LittleEndian::read_u16(&header[20..]),
-    }))
+    Ok(headers_in(start, header.as_slice()))
 }
 
 /// Returns the place of the debug directory, if there is one. The optional header has the number of
@@ -293,8 +301,27 @@ fn code_view(directory: &[u8], count: u32) -> Result<Option<Entry>>
     Ok(None)
 }
 
+/// Returns what a record of the format with a GUID says.
+#[tactic(auto, unfolding(crate::specs::Image::code_view_at), using(pdb_base::proofs::lemmas::Records::front_length))]
+fn code_view_at(alloc: Global, machine: u16, bytes: &[u8]) -> Result<CodeView>
+    ensures { Answers record_view result (code_view_at machine bytes.now) }
+{
+    let mut buffer = ParseBuffer::from(bytes);
+    buffer.take(4)?;
+    let mut guid = [0; 16];
+    guid.copy_from_slice(buffer.take(16)?);
+    let age = buffer.parse_u32()?;
+    let path = buffer.parse_cstring()?;
+    Ok(CodeView {
+        machine,
+        guid: Uuid::from_bytes_le(guid),
+        age,
+        path: Vec::from_slice(alloc, path.as_bytes())?,
+    })
+}
+
 /// Returns what a record says.
-#[tactic(auto, unfolding(crate::specs::Image::record_in, crate::specs::Image::code_view_at), using(pdb_base::proofs::lemmas::Records::front_length))]
+#[tactic(auto, unfolding(crate::specs::Image::record_in))]
 fn record_in(alloc: Global, machine: u16, bytes: &[u8]) -> Result<Found<CodeView>>
     ensures { Answers (found_view record_view) result (record_in machine bytes.now) }
 {
@@ -304,18 +331,7 @@ fn record_in(alloc: Global, machine: u16, bytes: &[u8]) -> Result<Found<CodeView
     if !bytes.starts_with(b"RSDS") {
         return Ok(Err(NoDatabase::UnknownRecord));
     }
-    let mut buffer = ParseBuffer::from(bytes);
-    buffer.take(4)?;
-    let mut guid = [0; 16];
-    guid.copy_from_slice(buffer.take(16)?);
-    let age = buffer.parse_u32()?;
-    let path = buffer.parse_cstring()?;
-    let named = CodeView {
-        machine,
-        guid: Uuid::from_bytes_le(guid),
-        age,
-        path: Vec::from_slice(alloc, path.as_bytes())?,
-    };
+    let named = code_view_at(alloc, machine, bytes)?;
     if named.path.is_empty() {
         return Ok(Err(NoDatabase::Unnamed));
     }
