@@ -4,6 +4,7 @@ use super::{shows, stream};
 use pdb_base::{Error, ParseBuffer, RawString, SymbolIndex, Variant};
 use std::alloc::Global;
 use std::fmt;
+use std::process::Abort;
 use std::test::Fail;
 
 /// A call of a buffer, and what it answers: a value, or nothing where the bytes end too soon.
@@ -52,8 +53,8 @@ use Call::{
 /// it and how many bytes are left.
 type Row = (&'static str, &'static [u8], &'static [(Call, usize, usize)]);
 
-/// Numbers of so many bytes, and whole ones of variable width without a sign.
-const NUMBERS: &[Row] = rows! {
+/// Numbers of one byte and of two.
+const SHORT_NUMBERS: &[Row] = rows! {
     "numbers of one byte", b"\x01\x02\x03\x04",
         &[(PeekU8(Some(1)), 0, 4), (PeekU8(Some(1)), 0, 4), (U8(Some(1)), 1, 3),
             (PeekU8(Some(2)), 1, 3), (PeekU8(Some(2)), 1, 3), (U8(Some(2)), 2, 2),
@@ -64,6 +65,10 @@ const NUMBERS: &[Row] = rows! {
         &[(PeekU16(Some(0x0201)), 0, 3), (PeekU16(Some(0x0201)), 0, 3), (U16(Some(0x0201)), 2, 1),
             (PeekU16(None), 2, 1), (U16(None), 2, 1), (Take(1, Some(b"\x03")), 3, 0),
             (U16(None), 3, 0)];
+};
+
+/// Numbers of more bytes, or with a sign.
+const NUMBERS: &[Row] = rows! {
     "numbers of four bytes", b"\x01\x02\x03\x04\x05\x06\x07",
         &[(U32(Some(0x0403_0201)), 4, 3), (Seek(4), 4, 3), (U32(None), 4, 3), (Seek(5), 5, 2),
             (U32(None), 5, 2), (Seek(6), 6, 1), (U32(None), 6, 1), (Seek(7), 7, 0),
@@ -75,6 +80,12 @@ const NUMBERS: &[Row] = rows! {
         &[(I32(Some(-2)), 4, 3), (I32(None), 4, 3), (U32(None), 4, 3)];
     "signed numbers of eight bytes", b"\xff\xff\xff\xff\xff\xff\xff\xff\x00",
         &[(I64(Some(-1)), 8, 1), (I64(None), 8, 1)];
+    "a number and bytes", b"\x01\x02\x03\x04ab",
+        &[(U32(Some(0x0403_0201)), 4, 2), (U32(None), 4, 2), (Take(2, Some(b"ab")), 6, 0)];
+};
+
+/// Whole numbers of variable width without a sign.
+const UNSIGNED: &[Row] = rows! {
     "a number without a prefix", b"\xff\x7f\xff", &[(Num(Some(0x7fff)), 2, 1)];
     "a number of one byte", b"\x00\x80\xff", &[(Num(Some(255)), 3, 0)];
     "a number of two bytes", b"\x02\x80\x00\x80", &[(Num(Some(0x8000)), 4, 0)];
@@ -85,11 +96,9 @@ const NUMBERS: &[Row] = rows! {
     "a number with a sign, of four bytes", b"\x03\x80\x00\x00\x00\x00",
         &[(RefusedNum(0x8003), 0, 6)];
     "a number of another prefix", b"\xff\xff", &[(RefusedNum(0xffff), 0, 2)];
-    "a number and bytes", b"\x01\x02\x03\x04ab",
-        &[(U32(Some(0x0403_0201)), 4, 2), (U32(None), 4, 2), (Take(2, Some(b"ab")), 6, 0)];
 };
 
-/// Numbers of variable width, and what is read by the rule that its type says.
+/// Numbers of variable width.
 const VARIANTS: &[Row] = rows! {
     "a variant without a prefix", b"\x00\x7f", &[(Numeric(Some(Variant::U16(0x7f00))), 2, 0)];
     "a variant of one byte", b"\x00\x80\xff", &[(Numeric(Some(Variant::U8(255))), 3, 0)];
@@ -104,6 +113,10 @@ const VARIANTS: &[Row] = rows! {
         &[(Numeric(Some(Variant::I64(-1))), 10, 0)];
     "a variant of eight bytes without a sign", b"\x0a\x80\xff\xff\xff\xff\xff\xff\xff\xff",
         &[(Numeric(Some(Variant::U64(u64::MAX))), 10, 0)];
+};
+
+/// Those that are refused or cut, and what is read by the rule that its type says.
+const OTHER_VARIANTS: &[Row] = rows! {
     "a variant of another prefix", b"\x05\x80\x00\x00\x00\x00",
         &[(RefusedVariant(0x8005), 0, 6), (RefusedParsed(0x8005), 0, 6)];
     "a variant of three bytes in place of four", b"\x04\x80\x01\x02\x03",
@@ -116,7 +129,7 @@ const VARIANTS: &[Row] = rows! {
     "the index of a symbol", b"\x42\x00\x00\x00", &[(ParsedSymbol(SymbolIndex(0x42)), 4, 0)];
 };
 
-/// Places, texts, and the buffer in hexadecimal.
+/// Places.
 const PLACES: &[Row] = rows! {
     "places", b"hello", &[(Seek(5), 5, 0), (Seek(2), 2, 3), (Seek(10), 5, 0)];
     "a truncation", b"\x01\x02\x03\x04\x05\x06\x07",
@@ -127,6 +140,10 @@ const PLACES: &[Row] = rows! {
         &[(Take(3, Some(b"123")), 3, 2), (AlignTo4(true), 4, 1)];
     "an aligned place", b"12345", &[(Take(4, Some(b"1234")), 4, 1), (AlignTo4(true), 4, 1)];
     "an alignment past the end", b"123", &[(Take(3, Some(b"123")), 3, 0), (AlignTo4(false), 3, 0)];
+};
+
+/// Texts, and the buffer in hexadecimal.
+const TEXTS: &[Row] = rows! {
     "texts", b"hello\0world\0\0\x01",
         &[(Text(Some("hello")), 6, 8), (Text(Some("world")), 12, 2), (Text(Some("")), 13, 1),
             (Text(None), 13, 1)];
@@ -264,15 +281,54 @@ fn is_row(alloc: Global, bytes: &[u8], calls: &[(Call, usize, usize)]) -> pdb_ba
     )
 }
 
-#[test]
-fn calls(rt: HostRuntime) -> Result<(), Fail> {
-    for rows in [NUMBERS, VARIANTS, PLACES] {
-        for (name, bytes, calls) in rows {
-            assert!(rt; is_row(rt.alloc(), bytes, calls)?, "{name}");
-        }
+/// Stops the test at the first case of which a call answers otherwise.
+fn test_rows(rt: &impl Abort, alloc: Global, rows: &[Row]) {
+    for (name, bytes, calls) in rows {
+        assert!(rt;
+            is_row(alloc, bytes, calls).expect(rt, "a stream"),
+            "{name}"
+        );
     }
+}
+
+#[test]
+fn short_numbers(rt: HostRuntime) {
+    test_rows(&rt, rt.alloc(), SHORT_NUMBERS);
+}
+
+#[test]
+fn numbers(rt: HostRuntime) {
+    test_rows(&rt, rt.alloc(), NUMBERS);
+}
+
+#[test]
+fn unsigned(rt: HostRuntime) {
+    test_rows(&rt, rt.alloc(), UNSIGNED);
+}
+
+#[test]
+fn variants(rt: HostRuntime) {
+    test_rows(&rt, rt.alloc(), VARIANTS);
+}
+
+#[test]
+fn other_variants(rt: HostRuntime) {
+    test_rows(&rt, rt.alloc(), OTHER_VARIANTS);
+}
+
+#[test]
+fn places(rt: HostRuntime) {
+    test_rows(&rt, rt.alloc(), PLACES);
+}
+
+#[test]
+fn texts(rt: HostRuntime) {
+    test_rows(&rt, rt.alloc(), TEXTS);
+}
+
+#[test]
+fn nothing(rt: HostRuntime) {
     assert!(rt; stands(&ParseBuffer::default(), 0, 0));
-    Ok(())
 }
 
 /// Whether so many letters are read as a text if a NUL follows them among so many bytes, of which
