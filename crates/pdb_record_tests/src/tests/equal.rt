@@ -7,7 +7,7 @@ use pdb_records::parse_type_data;
 use pdb_tpi::RecordPlace;
 use pdb_values::{TypeData, type_data_for_primitive};
 use std::alloc::Global;
-use std::test::Fail;
+use std::process::Abort;
 
 /// Records of types, two or more of each kind that differ in one field.
 const RECORDS: &[&[u8]] = &[
@@ -72,15 +72,21 @@ const RECORDS: &[&[u8]] = &[
     b"\x03\x12\x06\x12\x03\0\0\0\0\x10\0\0",
 ];
 
+/// Adds a type that was read.
+fn push_type(rt: &impl Abort, types: &mut Vec<TypeData<'static>>, read: Result<TypeData<'static>>) {
+    types.push(read.expect(rt, "a type")).expect(rt, "memory");
+}
+
 /// The types of the records, and two that have none.
-fn types(alloc: Global) -> Result<Vec<TypeData<'static>>> {
+fn types(rt: &impl Abort, alloc: Global) -> Vec<TypeData<'static>> {
     let mut types = Vec::new(alloc);
-    types.push(type_data_for_primitive(TypeIndex(0x74))?)?;
-    types.push(type_data_for_primitive(TypeIndex(0x674))?)?;
-    for record in RECORDS {
-        types.push(parse_type_data(alloc, record)?)?;
+    for index in [TypeIndex(0x74), TypeIndex(0x674)] {
+        push_type(rt, &mut types, type_data_for_primitive(index));
     }
-    Ok(types)
+    for record in RECORDS {
+        push_type(rt, &mut types, parse_type_data(alloc, record));
+    }
+    types
 }
 
 /// Whether each value is equal to the one at its place among the others, which are made anew, and
@@ -98,18 +104,16 @@ fn are_told_apart<T: Eq>(values: &[T], others: &[T]) -> bool {
 }
 
 /// Whether the types that are read twice are told apart.
-fn are_types_told(alloc: Global) -> Result<bool> {
-    let types_again = types(alloc)?;
-    Ok(are_told_apart(&types(alloc)?, &types_again))
+fn are_types_told(rt: &impl Abort, alloc: Global) -> bool {
+    are_told_apart(&types(rt, alloc), &types(rt, alloc))
 }
 
 /// Places: the first, one of another offset, and one of another length.
 const PLACES: [(u32, u32); 3] = [(1, 2), (0x8000_0001, 2), (1, 0x8000_0002)];
 
 #[test]
-fn told_apart(rt: HostRuntime) -> std::result::Result<(), Fail> {
-    assert!(rt; are_types_told(rt.alloc())?);
+fn told_apart(rt: HostRuntime) {
+    assert!(rt; are_types_told(&rt, rt.alloc()));
     let places = PLACES.map(|(offset, length)| RecordPlace { offset, length });
     assert!(rt; are_told_apart(&places, &places));
-    Ok(())
 }
