@@ -29,11 +29,6 @@ pub(super) fn omap(alloc: Global, records: &[(u32, u32)]) -> Result<OMAPTable, F
     Ok(OMAPTable::parse(pairs_of(alloc, records, &[])?)?)
 }
 
-/// The ranges that a table answers of a start and an end.
-fn ranges(alloc: Global, table: &OMAPTable, start: u32, end: u32) -> Result<Vec<Range<u32>>, Fail> {
-    Ok(table.lookup_range(start..end).collect(alloc)?)
-}
-
 /// What a table answers of an address, and how many sources are compared.
 fn count_compared(table: &OMAPTable, address: u32) -> (Option<u32>, u64) {
     let mut count = Count::new();
@@ -117,19 +112,35 @@ fn plain_ranges(
     Ok(ranges)
 }
 
-/// Whether a table answers as a search that looks at all records in their order: for each address,
-/// by at most three comparisons, and for each range between two.
+/// Whether a table answers an address as a search that looks at all records in their order, by at
+/// most three comparisons.
+fn is_found_alike(table: &OMAPTable, records: &[(u32, u32)], address: u32) -> bool {
+    let want = plain_lookup(records, address);
+    let (moved, compared) = count_compared(table, address);
+    table.lookup(address) == want && moved == want && compared <= 3
+}
+
+/// Whether a table answers a range as a search that looks at all records in their order.
+fn is_range_alike(
+    alloc: Global,
+    table: &OMAPTable,
+    records: &[(u32, u32)],
+    asked: Range<u32>,
+) -> Result<bool, Fail> {
+    let want = plain_ranges(alloc, records, &asked)?;
+    let answered: Vec<Range<u32>> = table.lookup_range(asked).collect(alloc)?;
+    Ok(answered.as_slice() == want.as_slice())
+}
+
+/// Whether a table answers so for each address, and for each range between two.
 fn answers_alike(alloc: Global, records: &[(u32, u32)]) -> Result<bool, Fail> {
     let table = omap(alloc, records)?;
     for start in ADDRESSES {
-        let want = plain_lookup(records, start);
-        let (moved, compared) = count_compared(&table, start);
-        if table.lookup(start) != want || moved != want || compared > 3 {
+        if !is_found_alike(&table, records, start) {
             return Ok(false);
         }
         for end in ADDRESSES {
-            let answered = ranges(alloc, &table, start, end)?;
-            if answered.as_slice() != plain_ranges(alloc, records, &(start..end))?.as_slice() {
+            if !is_range_alike(alloc, &table, records, start..end)? {
                 return Ok(false);
             }
         }
@@ -197,17 +208,26 @@ fn gives(table: &FrameTable, address: u32, want: &[(u32, u32)]) -> Result<bool, 
     Ok(step(&mut frames)?.is_none())
 }
 
-/// Whether frames are given alike from either format.
-fn frames_alike(alloc: Global, frames: &[(u32, u32)]) -> Result<bool, Fail> {
-    let old = FrameTable::parse(Some(pairs_of(alloc, frames, &[0; 8])?), None)?;
-    let new = FrameTable::parse(None, Some(pairs_of(alloc, frames, &[0; 24])?))?;
+/// Whether the table of these streams gives these frames from each address on.
+fn gives_alike(
+    old: Option<Stream>,
+    new: Option<Stream>,
+    frames: &[(u32, u32)],
+) -> Result<bool, Fail> {
+    let table = FrameTable::parse(old, new)?;
     for address in ADDRESSES {
-        let want = plain_frames(frames, address);
-        if !gives(&old, address, want)? || !gives(&new, address, want)? {
+        if !gives(&table, address, plain_frames(frames, address))? {
             return Ok(false);
         }
     }
     Ok(true)
+}
+
+/// Whether frames are given alike from either format.
+fn frames_alike(alloc: Global, frames: &[(u32, u32)]) -> Result<bool, Fail> {
+    let old = pairs_of(alloc, frames, &[0; 8])?;
+    let new = pairs_of(alloc, frames, &[0; 24])?;
+    Ok(gives_alike(Some(old), None, frames)? && gives_alike(None, Some(new), frames)?)
 }
 
 #[test]

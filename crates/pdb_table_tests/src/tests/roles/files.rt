@@ -153,23 +153,40 @@ fn has_names(alloc: Global, file: &mut PDB<Vec<u8>>) -> bool {
     ) && matches!(file.named_stream(alloc, b"/names"), Ok(stream) if stream.as_slice() == NAMES)
 }
 
-/// Whether a file without roles has the first name `foo` and the age 1.
-fn has_parts(alloc: Global, file: &mut PDB<Vec<u8>>) -> Answer<bool> {
+/// Whether the first name of a file is `foo`.
+fn has_foo(alloc: Global, file: &mut PDB<Vec<u8>>) -> Answer<bool> {
     let table = file.string_table(alloc)?;
-    let is_foo =
-        matches!(table.get(StringRef(1)), Ok(name) if name.as_bytes() == b"foo".as_slice());
-    Ok(is_foo && file.pdb_information(alloc)?.age == 1 && file.extra_streams(alloc)?.fpo.is_none())
+    Ok(matches!(table.get(StringRef(1)), Ok(name) if name.as_bytes() == b"foo".as_slice()))
+}
+
+/// Whether a file has the age 1, and no stream of old frames.
+fn has_age_alone(alloc: Global, file: &mut PDB<Vec<u8>>) -> Answer<bool> {
+    let age = file.pdb_information(alloc)?.age;
+    let fpo = file.extra_streams(alloc)?.fpo;
+    Ok(age == 1 && fpo.is_none())
 }
 
 #[test]
-fn files(rt: HostRuntime) -> Result<(), Fail> {
+fn address_maps(rt: HostRuntime) -> Result<(), Fail> {
     for (name, roles, want) in MAPS {
         assert!(rt; is_mapped(rt.alloc(), *roles, want)?, "{name}");
     }
+    Ok(())
+}
+
+#[test]
+fn frame_tables(rt: HostRuntime) -> Result<(), Fail> {
     for (name, roles, want) in FRAMES {
         assert!(rt; is_framed(rt.alloc(), *roles, want)?, "{name}");
     }
+    Ok(())
+}
+
+#[test]
+fn names_and_parts(rt: HostRuntime) -> Result<(), Fail> {
     let mut file = file(rt.alloc(), &Roles::Frames([NONE, NONE]))?;
-    assert!(rt; has_names(rt.alloc(), &mut file) && has_parts(rt.alloc(), &mut file)?);
+    assert!(rt; has_names(rt.alloc(), &mut file));
+    assert!(rt; has_foo(rt.alloc(), &mut file)?);
+    assert!(rt; has_age_alone(rt.alloc(), &mut file)?);
     Ok(())
 }
