@@ -144,6 +144,21 @@ pub fn field_type_text<'t>(
     }
 }
 
+/// Returns the declaration of a field: its type with its name in it, or the type alone for a field
+/// without a name.
+fn declaration_text<'t>(
+    table: Table<'_, 't>,
+    field: &LayoutField<'t>,
+    texts: &mut TextAllowance,
+) -> Result<TypeText> {
+    match field.place.kind {
+        FieldKind::Member(name) if !name.is_empty() => {
+            texts.text(table, field.place.field_type, name.as_bytes())
+        }
+        _ => field_type_text(table, field, texts),
+    }
+}
+
 /// Adds what the object of a field holds, whose class is so deep in what is shown and begins at an
 /// offset from the start of that.
 ///
@@ -157,23 +172,14 @@ pub fn show_declared<'t>(
     part: &LayoutField<'t>,
     texts: &mut TextAllowance,
 ) -> Result<()> {
-    let index = part.place.field_type;
-    let name = match part.place.kind {
-        FieldKind::Member(name) => name.as_bytes(),
-        _ => b"".as_slice(),
-    };
     let type_text = field_type_text(table, part, texts)?;
-    let declaration = if name.is_empty() {
-        field_type_text(table, part, texts)?
-    } else {
-        texts.text(table, index, name)?
-    };
-    let offset = start.saturating_add(part.place.offset);
+    let declaration = declaration_text(table, part, texts)?;
     let spelled = FieldTexts {
         type_text: &type_text.bytes,
         declaration: &declaration.bytes,
         is_cut: type_text.is_cut || declaration.is_cut,
     };
+    let offset = start.saturating_add(part.place.offset);
     show_field(object, depth, offset, part, spelled);
     Ok(())
 }
