@@ -1,12 +1,13 @@
 //! What two definitions have in common.
 
-ghost use Rattle.std.specs.Prelude.{◌≡◌, ◌++◌, ◌∷◌, IfOk, OnOk, map};
+ghost use Rattle.std.specs.Prelude.{◌≡◌, ◌++◌, ◌∷◌, IfOk, Ok, OnOk, map};
 ghost use Rattle.std.specs.List.{filter_map};
 ghost use Rattle.std.specs.Option.{option_map};
 ghost use Rattle.pdb_base.specs.Answer.{Answers};
 ghost use Rattle.pdb_values.specs.Enumeration.{enumeration_value};
 ghost use Rattle.pdb_values.specs.TypeView.{type_value};
-ghost use Rattle.pdb_types.specs.Comparison.{comparison_of, describe_class, describe_enumeration, described};
+ghost use Rattle.pdb_types.specs.Comparison.{compared, comparison_of, describe_class, describe_enumeration};
+ghost use Rattle.pdb_types.specs.Comparison.{describe_value, described};
 ghost use Rattle.pdb_types.specs.Comparison.{description_of, each_like, enumeration_of, enumerator_of};
 ghost use Rattle.pdb_types.specs.Comparison.{enumerator_of_code, field_types};
 ghost use Rattle.pdb_types.specs.Comparison.{have_one_layout, have_one_role, is_enumerator_like, is_field_like};
@@ -289,6 +290,25 @@ impl<'t> Definitions<'t> {
         Ok(Description::Enumeration(size, enumeration.underlying_type, values))
     }
 
+    /// Describes the type of an index with this definition, whose record is this.
+    fn describe_value(
+        &self,
+        alloc: Global,
+        index: TypeIndex,
+        definition: TypeIndex,
+        value: &TypeData<'_>,
+    ) -> Result<Description<'t>>
+        ensures { Answers described result (describe_value self.now index definition.0 (type_value value.now)) }
+    {
+        if let Some(enumeration) = enumeration_of(value) {
+            return self.describe_enumeration(alloc, enumeration);
+        }
+        match body_of(definition, value) {
+            Some(body) => self.describe_class(alloc, keyword_of(value), body),
+            None => Ok(Description::Other(index)),
+        }
+    }
+
     /// Describes the type of an index: its definition, if it has one.
     #[tactic(auto, unfolding(crate::specs::Comparison::description_of))]
     fn describe(&self, alloc: Global, index: TypeIndex) -> Result<Description<'t>>
@@ -298,13 +318,29 @@ impl<'t> Definitions<'t> {
             return Ok(Description::Other(index));
         };
         let value = type_at(self.types(), alloc, definition)?;
-        if let Some(enumeration) = enumeration_of(&value) {
-            return self.describe_enumeration(alloc, enumeration);
-        }
-        match body_of(definition, &value) {
-            Some(body) => self.describe_class(alloc, keyword_of(&value), body),
-            None => Ok(Description::Other(index)),
-        }
+        self.describe_value(alloc, index, definition, &value)
+    }
+}
+
+/// Returns what two definitions in these tables have in common that say this.
+fn compared(
+    alloc: Global,
+    tables: Tables<'_, '_, '_>,
+    one: &Description<'_>,
+    other: &Description<'_>,
+) -> Result<Comparison>
+    ensures { Answers (λ comparison. comparison) result
+        (Ok (compared tables.entry.first.now tables.entry.second.now (described one.now) (described other.now))) }
+{
+    if !have_one_layout(one, other) {
+        return Ok(Comparison::LayoutDiffers);
+    }
+    let types = described_types(alloc, one)?;
+    let other_types = described_types(alloc, other)?;
+    if tables.agree(alloc, &types, &other_types)? {
+        Ok(Comparison::Equal)
+    } else {
+        Ok(Comparison::TypesDiffer)
     }
 }
 
@@ -340,20 +376,9 @@ pub fn compare(
 {
     let one = old.describe(alloc, old_index)?;
     let other = new.describe(alloc, new_index)?;
-    if !have_one_layout(&one, &other) {
-        return Ok(Comparison::LayoutDiffers);
-    }
-    let (old_types, new_types) = (
-        described_types(alloc, &one)?,
-        described_types(alloc, &other)?,
-    );
     let tables = Tables {
         first: old,
         second: new,
     };
-    if tables.agree(alloc, &old_types, &new_types)? {
-        Ok(Comparison::Equal)
-    } else {
-        Ok(Comparison::TypesDiffer)
-    }
+    compared(alloc, tables, &one, &other)
 }
