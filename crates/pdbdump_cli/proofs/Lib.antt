@@ -1,3 +1,3 @@
-pub mod AnsweredLemmas
 pub mod DiffLemmas
 pub mod ValidateLemmas
+pub mod WrittenLemmas

@@ -1,14 +1,8 @@
 pub mod Asked
-pub mod Asking
 pub mod Diffed
-pub mod Extracted
 pub mod Identified
 pub mod InputFile
-pub mod LaidOut
 pub mod Listed
-pub mod Located
-pub mod Matched
-pub mod Questions
 pub mod Reported
 pub mod Requests
 pub mod Sentences

@@ -1,56 +1,69 @@
 -- What the program does for a request, and how it ends.
-use Rattle.std.specs.Prelude.{ℕ, Bool, Result, IfOk}
-use Rattle.std.specs.Option.{option_map}
+use Rattle.std.specs.Prelude.{◌≡◌, ℕ, Bool, List, Result, None, Ok}
+use Rattle.pdb_base.specs.Answer.{Answer, ◌>>=◌}
 use Rattle.pdb_base.specs.declared.error.Error.{Error}
-use Rattle.pdb_msf.specs.Source.{State}
+use Rattle.pdb_file.specs.File.{type_stream}
+use Rattle.pdb_msf.specs.{File.stream_of, Header.file_head, Source.State}
 use Rattle.pdb_output.specs.Output.{OutputState, done_of}
 use Rattle.pdbdump_rows.specs.declared.form.Form.{Form}
+use Rattle.pdbdump_rows.specs.Rows.{WritesLines}
 use Rattle.pdbdump_tables.specs.Listing.{ListsLines}
-use Rattle.pdbdump_tables.specs.Reading.{Reads, WritesRead}
-use Rattle.pdbdump_types.specs.Shown.{Accounts}
-use Rattle.pdbdump_cli.specs.Identified.{IsIdDone}
-use Rattle.pdbdump_cli.specs.LaidOut.{IsLayoutDone, stream_bytes}
+use Rattle.pdbdump_tables.specs.Reading.{AnswersRead}
+use Rattle.pdbdump_types.specs.Shown.{Accounts, ShowsTypes}
+use Rattle.pdbdump_cli.specs.Identified.{IsIdDone, ShowsIdentity}
 use Rattle.pdbdump_cli.specs.Listed.{Does}
-use Rattle.pdbdump_cli.specs.Located.{IsLocateDone}
-use Rattle.pdbdump_cli.specs.Matched.{IsMatchDone}
-use Rattle.pdbdump_cli.specs.Served.{IsEndedAs}
+use Rattle.pdbdump_cli.specs.Served.{Answering, EndsAnswer}
 use Rattle.pdbdump_cli.specs.Validated.{IsValidatedIn}
 use Rattle.pdbdump_cli.specs.declared.command.Command.{Command}
 use Rattle.pdbdump_cli.specs.declared.command.Request.{Request}
 use Rattle.pdbdump_cli.specs.declared.command.Request.TheVariants as requests
 
--- What a command writes about a file was written, or cut short; the output was flushed, and the program ended, with
--- status 1 if some part could not be read.
-pub record IsCommandDone (form : Form) (command : Command) (file : State) (out out' err err' : OutputState)
-    (status : ℕ) : Type 0 where
-  pub written : OutputState
-  pub result : Result Bool Error
-  pub does : Does form command file out written (done_of result)
-  pub ends : IsEndedAs result written out' err err' status
+-- the bytes of the stream of a file that has this number, and those of the stream of types
+abbrev pub stream_bytes : ℕ → List ℕ → Answer (List ℕ)
+stream_bytes number file = file_head file >>= λ head. stream_of file head number None
 
--- Some records of the table in a stream of a file were listed, or cut short, and names that were not found were
--- reported; the output was flushed, and the program ended, with status 1 if something was reported.
-pub record IsSelectionDone (form : Form) (number : ℕ) (file : State) (out out' err err' : OutputState) (status : ℕ)
+abbrev pub type_bytes : List ℕ → Answer (List ℕ)
+type_bytes file = stream_bytes type_stream file
+
+-- What a command lists of a file was written, or cut short.
+pub record DoesCommand (form : Form) (command : Command) (file : State) (out out' err err' : OutputState)
+    (answer : Result Bool Error) : Type 0 where
+  pub does : Does form command file out out' (done_of answer)
+  pub silent : err' ≡ err
+
+-- Some records of the table in a stream were listed, or cut short, and what wasn't found was reported.
+pub record AreSelected (form : Form) (number : ℕ) (file : State) (out out' err err' : OutputState)
+    (answer : Result Bool Error) : Type 0 where
+  pub lists : ListsLines form out out' (done_of answer)
+  pub accounts : AnswersRead file (stream_bytes number) (λ stream. Accounts err err') answer
+
+-- The types of a file were shown, and what can't be shown was reported.
+abbrev pub AreTypesShown : State → Answering
+AreTypesShown file out out' err err' answer = AnswersRead file type_bytes (λ stream. ShowsTypes stream err err') answer
+
+-- What bytes belong to was written, or cut short.
+abbrev pub AreLocated : Form → Answering
+AreLocated form out out' err err' answer = ListsLines form out out' (done_of answer)
+
+-- Whether a database is the one that an image names was written.
+pub record IsMatched (form : Form) (file : State) (out out' err err' : OutputState) (answer : Result Bool Error)
     : Type 0 where
-  pub written : OutputState
-  pub told : OutputState
-  pub answer : Result Bool Error
-  pub lists : WritesRead (Reads file (stream_bytes number)) (λ stream. ListsLines form) out written (done_of answer)
-  pub accounts : IfOk answer (Accounts err told)
-  pub ends : IsEndedAs answer written out' told err' status
+  pub shows : ShowsIdentity form file out out' answer
+  pub silent : err' ≡ err
+
+-- Questions were answered, each by lines.
+pub record AreAnswered (form : Form) (file : State) (out out' err err' : OutputState) (answer : Result Bool Error)
+    : Type 0 where
+  pub lines : AnswersRead file file_head (λ head all. WritesLines form out out' (Ok tt)) answer
+  pub silent : err' ≡ err
 
 -- what is done for a request with a file
 abbrev pub IsDone : Form → Request → State → OutputState → OutputState → OutputState → OutputState → ℕ → Type 0
-IsDone form (requests.List command) file out out' err err' status =
-    IsCommandDone form command file out out' err err' status
-IsDone form (requests.Select asked) file out out' err err' status =
-    IsSelectionDone form asked.number file out out' err err' status
-IsDone form (requests.Identify asked) file out out' err err' status =
-    IsIdDone (option_map (λ word. word.now) asked.expected) file out out' err err' status
-IsDone form (requests.Validate options path) file out out' err err' status =
-    IsValidatedIn options form file out out' err err' status
-IsDone form (requests.Layout asked) file out out' err err' status = IsLayoutDone file out out' err err' status
-IsDone form (requests.Declare asked) file out out' err err' status = IsLayoutDone file out out' err err' status
-IsDone form (requests.Match asked) file out out' err err' status =
-    IsMatchDone asked.image.now file out out' err err' status
-IsDone form (requests.Locate offsets) file out out' err err' status = IsLocateDone out out' err err' status
+IsDone form (requests.List command) file = EndsAnswer (DoesCommand form command file)
+IsDone form (requests.Select asked) file = EndsAnswer (AreSelected form asked.number file)
+IsDone form (requests.Identify asked) file = IsIdDone form file
+IsDone form (requests.Validate options path) file = IsValidatedIn options form file
+IsDone form (requests.Layout asked) file = EndsAnswer (AreTypesShown file)
+IsDone form (requests.Declare asked) file = EndsAnswer (AreTypesShown file)
+IsDone form (requests.Match asked) file = EndsAnswer (IsMatched form file)
+IsDone form (requests.Locate offsets) file = EndsAnswer (AreLocated form)

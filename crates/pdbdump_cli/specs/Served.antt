@@ -46,6 +46,18 @@ pub record IsEndedAs (answer : Result Bool Error) (written out' err err' : Outpu
   pub ends : IsEnded (done_of answer) written out' err err' ended
   pub is_status : status ≡ status_of answer ended
 
+-- what a call that answers yes or no did with the output and the error channel
+abbrev pub Answering : Type 1
+Answering = OutputState → OutputState → OutputState → OutputState → Result Bool Error → Type 0
+
+-- An answer was given so, the output was flushed, and the program ended as the answer says.
+pub record EndsAnswer (Does : Answering) (out out' err err' : OutputState) (status : ℕ) : Type 0 where
+  pub written : OutputState
+  pub told : OutputState
+  pub answer : Result Bool Error
+  pub does : Does out written err told answer
+  pub ends : IsEndedAs answer written out' told err' status
+
 -- What the program did with a file: what is meant, or it reported why the file can't be opened, and wrote no output.
 abbrev pub IsFileServed : {S : Type 0} → (S → State) → (State → Type 0) → Result (InputFile S) Error → OutputState
     → OutputState → OutputState → OutputState → ℕ → Type 0

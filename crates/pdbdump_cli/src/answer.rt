@@ -1,15 +1,11 @@
 //! Answers as lines.
 #![tactic(auto, using(pdbdump_rows::proofs::lemmas::Line::adding, pdbdump_rows::proofs::lemmas::Sink::adding_lines))]
 
-ghost use Rattle.std.specs.Prelude.{◌≡◌};
-ghost use Rattle.std.specs.Option.{option_copied};
 ghost use Rattle.pdbdump_rows.specs.{Rows.WritesLines, Sink.AddsLines};
-ghost use Rattle.pdbdump_cli.specs.Asked.{is_answer};
 
 use pdb_base::RawString;
 use pdb_container::{Error, Reply, Result};
 use pdb_output::Output;
-use pdbdump_rows::names::ERROR;
 use pdbdump_rows::{Form, Rows, Sheet, Value, optional_text};
 use std::alloc::{AllocError, Global};
 use std::io::Write;
@@ -88,16 +84,16 @@ fn write_reply<W: Write>(rows: &mut Rows<'_, W>, reply: &Reply)
         Reply::Refused(error) => {
             let alloc = rows.alloc();
             rows.begin();
-            rows.sheet.line.made_text(ERROR, refusal_text(alloc, error));
+            rows.sheet
+                .line
+                .made_text("error", refusal_text(alloc, error));
             rows.end();
         }
     }
 }
 
 /// Returns whether a reply answers its question.
-pub(crate) fn is_answer(reply: Option<&Reply>) -> bool
-    ensures { result ≡ is_answer (option_copied reply.entry) }
-{
+pub(crate) fn is_answer(reply: Option<&Reply>) -> bool {
     !matches!(reply, None | Some(Reply::Refused(_)))
 }
 

@@ -1,13 +1,10 @@
 //! The answers to questions about one file, each as it is read.
 
-ghost use Rattle.std.specs.Prelude.{◌≡◌, ◌<◌, ◌≤◌, [], ◌∷◌, length, take, IfOk, IfErr, OnErr, OnOk};
-ghost use Rattle.std.specs.Io.KnownBytes.{Consumes, IsAtEnd, Keeps};
-ghost use Rattle.pdb_cli.specs.Channels.{IsUnread};
-ghost use Rattle.pdb_base.specs.Memory.{FailsOnlyForMemory};
-ghost use Rattle.pdb_msf.specs.Source.{HasFailed};
-ghost use Rattle.pdbdump_cli.specs.Asked.{AnswersAll, AsksAll, IsAsked, IsBlockAnswered, IsKeptOpen, IsReady};
-ghost use Rattle.pdbdump_cli.specs.Asked.{IsReplied, file_of};
-ghost use Rattle.pdbdump_cli.specs.Questions.{query_in, questions_of};
+ghost use Rattle.std.specs.Prelude.{◌≤◌, length, IfOk, Ok, OnOk};
+ghost use Rattle.pdbdump_cli.specs.Asked.{IsReady};
+ghost use Rattle.pdb_msf.specs.Header.{file_head};
+ghost use Rattle.pdbdump_rows.specs.Rows.{WritesLines};
+ghost use Rattle.pdbdump_tables.specs.Reading.{AnswersRead};
 
 use crate::answer::{is_answer, write_answered};
 use crate::question::{is_line_end, query_in};
@@ -27,7 +24,6 @@ const BLOCK_SIZE: usize = 65_536;
 #[derive(Drop)]
 pub struct AskedFile<S: Source> {
     alloc: Global,
-    form: Form,
     file: BigMSF<S>,
     tables: OpenTables,
     rest: Vec<u8>,
@@ -38,12 +34,7 @@ pub struct AskedFile<S: Source> {
 /// # Errors
 /// Fails with `IoError` if a read fails, or if too many are interrupted.
 fn read_block<R: Read>(input: &mut R, block: &mut [u8]) -> Result<usize>
-    requires room { 0 < length block.old }
-    ensures bytes { IfOk result (λ count.
-        Consumes (R.remaining input.old) (R.remaining input.new) (take count block.new)
-        × (count ≤ length block.new) × (count ≡ 0 → IsAtEnd (R.remaining input.new))) }
-    ensures kept { OnErr result (Keeps (R.remaining input.old) (R.remaining input.new)) }
-    ensures unread { IfErr result IsUnread }
+    ensures { IfOk result (λ count. count ≤ length block.new) }
 {
     for _ in 0..MOST_READS {
         match input.read(block) {
@@ -59,11 +50,7 @@ impl<S: Source> AskedFile<S> {
     /// Returns the reply to the question of the line, or None if the line has no question.
     fn reply(&mut self) -> Result<Option<Reply>>
         requires ready { IsReady S.state self.old }
-        ensures reply { IfOk result (IsReplied (HasFailed (S.state self.old.file.source) (S.state self.new.file.source))
-            (file_of S.state self.old) (query_in self.old.rest.items)) }
-        ensures memory { FailsOnlyForMemory result }
-        ensures kept { IsKeptOpen S.state self.old self.new }
-        ensures rest { self.new.rest ≡ self.old.rest }
+        ensures kept { IsReady S.state self.new }
     {
         match query_in(self.alloc, &self.rest)? {
             Some(query) => Ok(Some(self.tables.reply(self.alloc, &mut self.file, query))),
@@ -73,31 +60,31 @@ impl<S: Source> AskedFile<S> {
 
     /// Writes the line and the answer to its question, unless the line is empty. Returns whether
     /// the question is answered, if there is one.
-    fn answer_line<W: Write>(&mut self, out: &mut Output<W>) -> Result<bool>
+    #[tactic(auto, using(pdbdump_rows::proofs::lemmas::Rows::lines_none))]
+    fn answer_line<W: Write>(&mut self, form: Form, out: &mut Output<W>) -> Result<bool>
         requires ready { IsReady S.state self.old }
-        ensures answer { AnswersAll self.old.form (file_of S.state self.old)
-            (questions_of (self.old.rest.items ∷ [])) out.old out.new result }
-        ensures kept { OnOk result (IsKeptOpen S.state self.old self.new) }
-        ensures rest { OnOk result (self.new.rest.items ≡ []) }
+        ensures lines { OnOk result (WritesLines form out.old out.new (Ok tt)) }
+        ensures kept { IsReady S.state self.new }
     {
         if self.rest.is_empty() {
             return Ok(true);
         }
         let reply = self.reply()?;
-        write_answered(self.alloc, self.form, &self.rest, reply.as_ref(), out)?;
+        write_answered(self.alloc, form, &self.rest, reply.as_ref(), out)?;
         self.rest.clear();
         Ok(is_answer(reply.as_ref()))
     }
 
     /// Adds a byte to the line, or answers the line if the byte ends it. Returns whether its
     /// question is answered, if there is one.
-    fn take_byte<W: Write>(&mut self, byte: u8, out: &mut Output<W>) -> Result<bool>
+    #[tactic(auto, using(pdbdump_rows::proofs::lemmas::Rows::lines_none))]
+    fn take_byte<W: Write>(&mut self, form: Form, byte: u8, out: &mut Output<W>) -> Result<bool>
         requires ready { IsReady S.state self.old }
-        ensures answers { IsBlockAnswered S.state self.old self.new (byte ∷ []) out.old out.new result }
-        ensures kept { OnOk result (IsKeptOpen S.state self.old self.new) }
+        ensures lines { OnOk result (WritesLines form out.old out.new (Ok tt)) }
+        ensures kept { IsReady S.state self.new }
     {
         if is_line_end(byte) {
-            return self.answer_line(out);
+            return self.answer_line(form, out);
         }
         self.rest.push(byte)?;
         Ok(true)
@@ -105,41 +92,46 @@ impl<S: Source> AskedFile<S> {
 
     /// Answers the questions of the lines that end in a block of bytes, and keeps what follows
     /// them. Returns whether all are answered.
-    fn answer_block<W: Write>(&mut self, block: &[u8], out: &mut Output<W>) -> Result<bool>
+    #[tactic(auto, using(pdbdump_rows::proofs::lemmas::Rows::lines_none, pdbdump_rows::proofs::lemmas::Rows::lines_more))]
+    fn answer_block<W: Write>(
+        &mut self,
+        form: Form,
+        block: &[u8],
+        out: &mut Output<W>,
+    ) -> Result<bool>
         requires ready { IsReady S.state self.old }
-        ensures answers { IsBlockAnswered S.state self.old self.new block.now out.old out.new result }
-        ensures kept { OnOk result (IsKeptOpen S.state self.old self.new) }
+        ensures lines { OnOk result (WritesLines form out.old out.new (Ok tt)) }
+        ensures kept { IsReady S.state self.new }
     {
         let mut all = true;
         for byte in block {
-            all &= self.take_byte(*byte, out)?;
+            all &= self.take_byte(form, *byte, out)?;
         }
         Ok(all)
     }
 
     /// Answers the questions in an input to its end, a block at a time. What was answered is flushed
     /// before more is read.
+    #[tactic(auto, using(pdbdump_rows::proofs::lemmas::Rows::lines_none))]
     fn answer_all<Q: Read, W: Write>(
         &mut self,
+        form: Form,
         questions: &mut Q,
         block: &mut [u8],
         out: &mut Output<W>,
     ) -> Result<bool>
         requires ready { IsReady S.state self.old }
-        requires none { self.old.rest.items ≡ [] }
-        requires room { 0 < length block.old }
-        ensures { AsksAll self.old.form (file_of S.state self.old)
-            (Q.remaining questions.old) (Q.remaining questions.new) out.old out.new result }
+        ensures { OnOk result (WritesLines form out.old out.new (Ok tt)) }
     {
         let mut all = true;
         for _ in 0..MOST_READS {
             out.flush()?;
             let count = read_block(questions, block)?;
             if count == 0 {
-                all &= self.answer_line(out)?;
+                all &= self.answer_line(form, out)?;
                 return Ok(all);
             }
-            all &= self.answer_block(&block[..count], out)?;
+            all &= self.answer_block(form, &block[..count], out)?;
         }
         Err(io::Error::other("the input does not end").into())
     }
@@ -163,17 +155,15 @@ pub fn ask<S: Source + Drop, Q: Read, W: Write>(
     form: Form,
     out: &mut Output<W>,
 ) -> Result<bool>
-    ensures { IsAsked form (S.state file) (Q.remaining questions.old) (Q.remaining questions.new)
-        out.old out.new result }
+    ensures { AnswersRead (S.state file) file_head (λ head all. WritesLines form out.old out.new (Ok tt)) result }
 {
     let file = open_msf(alloc, file)?;
     let mut block = vec![in alloc; 0; BLOCK_SIZE]?;
     let mut asked = AskedFile {
         alloc,
-        form,
         file,
         tables: OpenTables::default(),
         rest: Vec::new(alloc),
     };
-    asked.answer_all(questions, &mut block, out)
+    asked.answer_all(form, questions, &mut block, out)
 }

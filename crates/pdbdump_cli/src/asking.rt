@@ -1,7 +1,7 @@
 //! Questions about a file, read and answered on the program's channels.
 
-ghost use Rattle.pdbdump_cli.specs.Asking.{IsAskingDone};
-ghost use Rattle.pdbdump_cli.specs.Served.{IsFileServed};
+ghost use Rattle.pdbdump_cli.specs.Requests.{AreAnswered};
+ghost use Rattle.pdbdump_cli.specs.Served.{EndsAnswer, IsFileServed};
 
 use crate::ask;
 use crate::input_file::InputFile;
@@ -25,8 +25,8 @@ pub fn serve_questions<S: Source + Drop, Q: Read, O: Write, E: Write>(
     out: &mut Output<O>,
     err: &mut Output<E>,
 ) -> u8
-    ensures { IsFileServed S.state (λ file. IsAskingDone form file (Q.remaining questions.old) out.old out.new
-        err.old err.new result) opened out.old out.new err.old err.new result }
+    ensures { IsFileServed S.state (λ file. EndsAnswer (AreAnswered form file) out.old out.new err.old err.new result)
+        opened out.old out.new err.old err.new result }
 {
     match opened {
         Ok(file) => {

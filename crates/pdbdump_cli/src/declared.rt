@@ -1,6 +1,8 @@
 //! What `declare` does with a file.
 
-ghost use Rattle.pdbdump_cli.specs.LaidOut.{AreLaidOut};
+ghost use Rattle.pdbdump_cli.specs.Requests.{type_bytes};
+ghost use Rattle.pdbdump_tables.specs.Reading.{AnswersRead};
+ghost use Rattle.pdbdump_types.specs.Shown.{ShowsTypes};
 
 use crate::command::Declarations;
 use crate::input_file::InputFile;
@@ -20,7 +22,7 @@ pub(crate) fn declare_in<S: Source + Drop, O: Write, E: Write>(
     out: &mut Output<O>,
     err: &mut Output<E>,
 ) -> Result<bool>
-    ensures { AreLaidOut (S.state file.source) out.old out.new err.old err.new result }
+    ensures { AnswersRead (S.state file.source) type_bytes (λ stream. ShowsTypes stream err.old err.new) result }
 {
     let stream = type_stream(alloc, file.source)?;
     declare(alloc, stream, asked.names, &asked.options, out, err)

@@ -6,9 +6,10 @@ ghost use Rattle.pdbdump_cli.specs.Diffed.{IsEqualEnd, IsSilentEnd};
 use crate::command::Diff;
 use crate::sentences::tell;
 use crate::served::is_closed;
-use pdb_base::Stream;
+use pdb_base::{Stream, TypeIndex};
 use pdb_container::{Error, Result};
 use pdb_output::Output;
+use pdb_tpi::OpenTable;
 use pdbdump_differences::{ComparedTable, DiffOptions, Outcome, show_differences};
 use pdbdump_rows::Form;
 use pdbdump_types::{escape_text, learn_table};
@@ -70,9 +71,37 @@ fn end_diff<O: Write, E: Write>(
     }
 }
 
-/// Compares the types in two streams, that of the old and that of the new file. Returns the status
-/// with which the program ends: 0 if nothing differs, 1 if something does, and 2 if not all could be
-/// compared or written, which is reported.
+/// Compares two tables of types. Returns the status with which the program ends: 0 if nothing
+/// differs, 1 if something does, and 2 if not all could be compared or written, which is reported.
+fn compare<O: Write, E: Write>(
+    alloc: Global,
+    asked: &Diff<'_, '_>,
+    old: &OpenTable<TypeIndex>,
+    new: &OpenTable<TypeIndex>,
+    form: Form,
+    out: &mut Output<O>,
+    err: &mut Output<E>,
+) -> u8
+    ensures { result ≡ 0 → IsSilentEnd out.old out.new err.old err.new }
+{
+    let old = match ComparedTable::new(alloc, asked.old, old, asked.names) {
+        Ok(table) => table,
+        Err(fault) => return refuse(alloc, asked.old, &fault, err),
+    };
+    let new = match ComparedTable::new(alloc, asked.new, new, asked.names) {
+        Ok(table) => table,
+        Err(fault) => return refuse(alloc, asked.new, &fault, err),
+    };
+    let options = DiffOptions {
+        is_layout_only: asked.is_layout_only,
+        form,
+    };
+    let compared = show_differences(alloc, &old, &new, asked.names, &options, out, err);
+    end_diff(alloc, compared, out, err)
+}
+
+/// Compares the types in two streams, that of the old and that of the new file, and returns the
+/// status as `compare` does.
 pub(crate) fn serve_diff<O: Write, E: Write>(
     alloc: Global,
     asked: &Diff<'_, '_>,
@@ -84,26 +113,13 @@ pub(crate) fn serve_diff<O: Write, E: Write>(
 ) -> u8
     ensures { result ≡ 0 → IsSilentEnd out.old out.new err.old err.new }
 {
-    let old_types = match learn_table(alloc, old) {
+    let old = match learn_table(alloc, old) {
         Ok(types) => types,
         Err(fault) => return refuse(alloc, asked.old, &fault, err),
     };
-    let new_types = match learn_table(alloc, new) {
+    let new = match learn_table(alloc, new) {
         Ok(types) => types,
         Err(fault) => return refuse(alloc, asked.new, &fault, err),
     };
-    let old = match ComparedTable::new(alloc, asked.old, &old_types, asked.names) {
-        Ok(table) => table,
-        Err(fault) => return refuse(alloc, asked.old, &fault, err),
-    };
-    let new = match ComparedTable::new(alloc, asked.new, &new_types, asked.names) {
-        Ok(table) => table,
-        Err(fault) => return refuse(alloc, asked.new, &fault, err),
-    };
-    let options = DiffOptions {
-        is_layout_only: asked.is_layout_only,
-        form,
-    };
-    let compared = show_differences(alloc, &old, &new, asked.names, &options, out, err);
-    end_diff(alloc, compared, out, err)
+    compare(alloc, asked, &old, &new, form, out, err)
 }

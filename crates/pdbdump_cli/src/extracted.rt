@@ -1,14 +1,9 @@
 //! What `extract` writes of a file.
-ghost use Rattle.std.specs.Prelude.{⊤};
-ghost use Rattle.pdb_msf.specs.File.{ReadsFile};
-ghost use Rattle.pdb_output.specs.Output.{Writes};
-ghost use Rattle.pdbdump_rows.specs.Line.{WritesWhat};
-ghost use Rattle.pdbdump_tables.specs.Extracted.{part_of};
-ghost use Rattle.pdbdump_tables.specs.Reading.{Reads, WritesRead};
-ghost use Rattle.pdbdump_cli.specs.Extracted.{number_meant, stream_extracted};
+
+ghost use Rattle.pdbdump_cli.specs.Listed.{IsAppended, IsExtracted};
+ghost use Rattle.pdbdump_tables.specs.Reading.{IsKeptOpen};
 
 use crate::command::Extract;
-use pdb_base::Stream;
 use pdb_cli::number;
 use pdb_container::{Msf, PDB, Result, Source};
 use pdb_output::Output;
@@ -18,29 +13,13 @@ use std::io::Write;
 
 /// Returns the number of the stream that a word means: the number that it spells, or else that of
 /// its role or name.
-#[tactic(auto, unfolding(crate::specs::Extracted::number_meant))]
 fn number_meant<S: Source>(alloc: Global, file: &mut PDB<S>, word: &str) -> Result<u32>
-    ensures { ReadsFile S.state file.old file.new (λ number. number) result
-        (λ file head. number_meant file head word.now) }
+    ensures { IsKeptOpen S.state file.old file.new }
 {
     match number(word) {
         Some(number) => Ok(number),
         None => stream_meant(alloc, file, word),
     }
-}
-
-/// Reads the stream that was asked for.
-#[tactic(auto, unfolding(crate::specs::Extracted::stream_extracted))]
-fn stream_extracted<S: Source>(
-    alloc: Global,
-    file: &mut PDB<S>,
-    asked: &Extract<'_>,
-) -> Result<Stream>
-    ensures { ReadsFile S.state file.old file.new (λ stream. stream) result
-        (λ file head. stream_extracted file head asked.now) }
-{
-    let number = number_meant(alloc, file, asked.stream)?;
-    file.get(alloc, number, None)
 }
 
 /// Writes a part of the bytes of a stream of a file that was opened.
@@ -50,10 +29,10 @@ pub(crate) fn extract_opened<S: Source + Drop, W: Write>(
     asked: &Extract<'_>,
     out: &mut Output<W>,
 ) -> Result<()>
-    ensures { WritesRead (Reads (S.state file.source) (λ bytes. stream_extracted bytes file.head asked.now))
-        (λ stream. Writes (part_of asked.now.skip asked.now.limit stream)) out.old out.new result }
+    ensures { IsExtracted asked.now (S.state file.source) file.head out.old out.new result }
 {
-    let stream = stream_extracted(alloc, &mut file, asked)?;
+    let number = number_meant(alloc, &mut file, asked.stream)?;
+    let stream = file.get(alloc, number, None)?;
     write_part(&stream, asked.skip, asked.limit, out)
 }
 
@@ -64,9 +43,9 @@ pub(crate) fn dump_opened<S: Source + Drop, W: Write>(
     asked: &Extract<'_>,
     out: &mut Output<W>,
 ) -> Result<()>
-    ensures { WritesRead (Reads (S.state file.source) (λ bytes. stream_extracted bytes file.head asked.now))
-        (λ stream. WritesWhat (λ text. ⊤)) out.old out.new result }
+    ensures { IsAppended out.old out.new result }
 {
-    let stream = stream_extracted(alloc, &mut file, asked)?;
+    let number = number_meant(alloc, &mut file, asked.stream)?;
+    let stream = file.get(alloc, number, None)?;
     write_dump(alloc, &stream, asked.skip, asked.limit, out)
 }

@@ -7,13 +7,9 @@ ghost use Rattle.pdb_validation.specs.Finding.{error_count, finding_view, warnin
 ghost use Rattle.pdbdump_rows.specs.{Line.AddsRow, Rows.WritesLines, Sink.AddsLines};
 ghost use Rattle.pdbdump_cli.specs.Validated.{AreFindingsWritten};
 
-use crate::names::{
-    BYTE, CODE, ERRORS, FILE, FILE_BYTE, PART, PROBLEM, SEVERITY, STREAM, WARNINGS, WHOLE,
-};
 use pdb_base::{RawString, Result};
 use pdb_output::Output;
 use pdb_validation::{Finding, Problem};
-use pdbdump_rows::names::INDEX;
 use pdbdump_rows::{Field, Form, Line, Rows, Sheet, Value, error_text, optional_number};
 use pdbdump_types::{TextBuffer, plural};
 use std::alloc::{AllocError, Global};
@@ -84,10 +80,10 @@ fn number_value<'t>(number: Option<u64>) -> Value<'t> {
 /// Returns the fields of the place of a finding.
 fn place_fields(finding: &Finding) -> [Field<'static>; 4] {
     [
-        (STREAM, optional_number(finding.stream)),
-        (INDEX, number_value(finding.index)),
-        (BYTE, number_value(finding.byte)),
-        (FILE_BYTE, number_value(finding.file_byte)),
+        ("stream", optional_number(finding.stream)),
+        ("index", number_value(finding.index)),
+        ("byte", number_value(finding.byte)),
+        ("file_byte", number_value(finding.file_byte)),
     ]
 }
 
@@ -95,12 +91,12 @@ fn place_fields(finding: &Finding) -> [Field<'static>; 4] {
 fn show_finding(alloc: Global, line: &mut Line, path: &str, finding: &Finding)
     ensures { AddsRow [] line.old line.new }
 {
-    line.field(FILE, Value::Text(RawString::from(path)));
-    line.field(SEVERITY, Value::Word(severity(&finding.problem)));
-    line.made_text(CODE, code_text(alloc, finding));
-    line.field(PART, Value::Word(finding.part.code()));
+    line.field("file", Value::Text(RawString::from(path)));
+    line.field("severity", Value::Word(severity(&finding.problem)));
+    line.made_text("code", code_text(alloc, finding));
+    line.field("part", Value::Word(finding.part.code()));
     line.fields(&place_fields(finding));
-    line.made_text(PROBLEM, problem_text(alloc, &finding.problem));
+    line.made_text("problem", problem_text(alloc, &finding.problem));
 }
 
 /// Writes the row of a finding in the file at a path.
@@ -175,10 +171,10 @@ fn write_file<W: Write>(rows: &mut Rows<'_, W>, path: &str, tally: Tally)
     ensures { AddsLines rows.old rows.new }
 {
     rows.row(&[
-        (FILE, Value::Text(RawString::from(path))),
-        (WHOLE, Value::Flag(tally.errors == 0)),
-        (ERRORS, Value::Number(tally.errors as u64)),
-        (WARNINGS, Value::Number(tally.warnings as u64)),
+        ("file", Value::Text(RawString::from(path))),
+        ("whole", Value::Flag(tally.errors == 0)),
+        ("errors", Value::Number(tally.errors as u64)),
+        ("warnings", Value::Number(tally.warnings as u64)),
     ]);
 }
 

@@ -1,10 +1,6 @@
 //! What `id` does with a file.
 
-ghost use Rattle.std.specs.Prelude.{◌≡◌, ◌≢◌, ◌↔◌, IsTrue, IfOk, MatchOption};
-ghost use Rattle.std.specs.Option.{option_map};
-ghost use Rattle.pdb_file.specs.declared.format.Format.TheVariants.{Msf7};
-ghost use Rattle.pdbdump_cli.specs.Identified.{IsConcluded, IsExpected, IsIdDone, IsIdentified, IsIdentityShown};
-ghost use Rattle.pdbdump_cli.specs.Identified.{identity_in};
+ghost use Rattle.pdbdump_cli.specs.Identified.{IsConcluded, IsIdDone, ShowsIdentity, ShowsLine, identity_in};
 ghost use Rattle.pdbdump_tables.specs.Reading.{Reads};
 
 use crate::command::Identify;
@@ -13,7 +9,7 @@ use crate::input_file::InputFile;
 use crate::sentences::tell;
 use crate::served::end;
 use pdb_container::{Error, PDB, Source, SourceView};
-use pdb_file::{Format, Identity};
+use pdb_file::{Format, Identity, UpperKey};
 use pdb_output::Output;
 use pdbdump_rows::Form;
 use pdbdump_tables::{is_key, write_identity};
@@ -27,9 +23,7 @@ const FORMAT_SIZE: u64 = 42;
 const UNEXPECTED: &[u8] = b"the file has another key than the expected one\n";
 
 /// Returns what a file of another format is than the one that is read.
-pub(crate) fn other_format(format: Format) -> Option<&'static str>
-    ensures { MatchOption result (format ≡ Msf7) (λ text. format ≢ Msf7) }
-{
+pub(crate) fn other_format(format: Format) -> Option<&'static str> {
     match format {
         Format::Msf7 => None,
         Format::Msf2 => Some("a program database of the older format MSF 2.00, which is not read"),
@@ -60,17 +54,14 @@ pub(crate) fn identity_in<S: Source + Drop>(alloc: Global, source: S) -> Result<
     Identity::of(alloc, &mut file)
 }
 
-/// Returns whether a file has the key that is expected, if any is.
-fn is_expected(
+/// Returns whether a key is the one that is expected, if any is.
+pub(crate) fn is_expected(
     alloc: Global,
     expected: Option<&str>,
-    identity: &Identity,
-) -> Result<bool, AllocError>
-    ensures { IfOk result (λ is_expected. IsTrue is_expected ↔
-        IsExpected (option_map (λ word. word.now) expected.entry) identity.now) }
-{
+    key: UpperKey,
+) -> Result<bool, AllocError> {
     match expected {
-        Some(word) => is_key(alloc, word, identity),
+        Some(word) => is_key(alloc, word, key),
         None => Ok(true),
     }
 }
@@ -83,9 +74,9 @@ fn write_found<W: Write>(
     form: Form,
     out: &mut Output<W>,
 ) -> Result<bool, Error>
-    ensures { IsIdentityShown (option_map (λ word. word.now) asked.now.expected) identity.now out.old out.new result }
+    ensures { ShowsLine form out.old out.new result }
 {
-    let is_expected = is_expected(alloc, asked.expected, identity)?;
+    let is_expected = is_expected(alloc, asked.expected, identity.key())?;
     write_identity(alloc, asked.style, asked.name, identity, form, out)?;
     Ok(is_expected)
 }
@@ -98,7 +89,7 @@ fn identify<S: Source + Drop, W: Write>(
     form: Form,
     out: &mut Output<W>,
 ) -> Result<bool, Error>
-    ensures { IsIdentified (option_map (λ word. word.now) asked.now.expected) (S.state source) out.old out.new result }
+    ensures { ShowsIdentity form (S.state source) out.old out.new result }
 {
     match identity_in(alloc, source) {
         Ok(identity) => write_found(alloc, asked, &identity, form, out),
@@ -138,8 +129,7 @@ pub(crate) fn serve_id<S: Source + Drop, O: Write, E: Write>(
     out: &mut Output<O>,
     err: &mut Output<E>,
 ) -> u8
-    ensures { IsIdDone (option_map (λ word. word.now) asked.now.expected) (S.state file.source)
-        out.old out.new err.old err.new result }
+    ensures { IsIdDone form (S.state file.source) out.old out.new err.old err.new result }
 {
     let front = match file.front(alloc, FORMAT_SIZE) {
         Ok(front) => front,

@@ -1,16 +1,17 @@
 //! What is told of an image: which program database it names.
 
-ghost use Rattle.pdbdump_cli.specs.Identified.{IsImageDone, IsImageShown};
+ghost use Rattle.pdb_msf.specs.Source.{State};
+ghost use Rattle.pdbdump_cli.specs.Identified.{IsIdDone, ShowsLine};
 
 use crate::command::Identify;
-use crate::identified::conclude;
+use crate::identified::{conclude, is_expected};
 use crate::sentences::tell;
 use pdb_container::{Error, Source};
 use pdb_file::{CodeView, NoDatabase};
 use pdb_msf::CountedSource;
 use pdb_output::Output;
 use pdbdump_rows::Form;
-use pdbdump_tables::{is_key_of_image, write_image};
+use pdbdump_tables::write_image;
 use std::alloc::{AllocError, Global};
 use std::io::Write;
 use std::result;
@@ -74,18 +75,6 @@ pub(crate) fn image_text<S: Source + Drop>(alloc: Global, source: S) -> Result<V
     }
 }
 
-/// Returns whether an image names the key that is expected, if any is.
-fn is_expected(
-    alloc: Global,
-    expected: Option<&str>,
-    image: &CodeView,
-) -> Result<bool, AllocError> {
-    match expected {
-        Some(word) => is_key_of_image(alloc, word, image),
-        None => Ok(true),
-    }
-}
-
 /// Writes what an image says of its database, and returns whether it names the expected key.
 fn write_found<W: Write>(
     alloc: Global,
@@ -94,9 +83,9 @@ fn write_found<W: Write>(
     form: Form,
     out: &mut Output<W>,
 ) -> Result<bool, Error>
-    ensures { IsImageShown out.old out.new result }
+    ensures { ShowsLine form out.old out.new result }
 {
-    let is_expected = is_expected(alloc, asked.expected, image)?;
+    let is_expected = is_expected(alloc, asked.expected, image.key())?;
     let last_part = String::from_utf8_lossy(alloc, image.file_name())?;
     let name = asked.given_name.unwrap_or(&last_part);
     write_image(alloc, asked.style, name, image, form, out)?;
@@ -114,7 +103,7 @@ pub(crate) fn serve_image<S: Source + Drop, O: Write, E: Write>(
     out: &mut Output<O>,
     err: &mut Output<E>,
 ) -> u8
-    ensures { IsImageDone out.old out.new err.old err.new result }
+    ensures { (file : State) → IsIdDone form file out.old out.new err.old err.new result }
 {
     match image_in(alloc, source) {
         Ok(Ok(image)) => {

@@ -1,9 +1,7 @@
 //! A file whose bytes are read as they are needed.
 
-ghost use Rattle.std.specs.Prelude.{◌≡◌, IfErr, IfOk, IfSome};
-ghost use Rattle.pdb_cli.specs.Channels.{IsUnread};
-ghost use Rattle.pdb_msf.specs.Source.{IsKept, in_memory};
-ghost use Rattle.pdbdump_cli.specs.InputFile.{IsFront, bytes_state};
+ghost use Rattle.pdb_msf.specs.Source.{IsKept};
+ghost use Rattle.pdbdump_cli.specs.InputFile.{bytes_state};
 
 use pdb_cli::read_all;
 use pdb_container::{Error, Result, Source};
@@ -56,26 +54,12 @@ fn fault_of(error: io::Error) -> Error {
     }
 }
 
-/// Returns the slice of the first `size` bytes.
-fn first(size: u64) -> SourceSlice
-    ensures { result ≡ record { offset = 0; size = size } }
-{
-    SourceSlice {
-        offset: 0,
-        size: size as usize,
-    }
-}
-
 impl<S: Source + Drop> InputFile<FileBytes<S>> {
     /// Reads the file in an input to its end.
     ///
     /// # Errors
     /// Fails as `read_all` does.
-    pub fn read_whole<I: Read>(alloc: Global, input: &mut I) -> Result<Self>
-        ensures bytes { IfOk result (λ file. IfSome (I.remaining input.old) (λ bytes.
-            bytes_state S.state file.source ≡ in_memory bytes)) }
-        ensures unread { IfErr result IsUnread }
-    {
+    pub fn read_whole<I: Read>(alloc: Global, input: &mut I) -> Result<Self> {
         let bytes = read_all(alloc, input)?;
         let size = bytes.len() as u64;
         Ok(InputFile {
@@ -91,10 +75,13 @@ impl<S: Source> InputFile<S> {
     /// # Errors
     /// Fails with `IoError` if the source fails, and with `OutOfMemory` if an allocation fails.
     pub(crate) fn front(&mut self, alloc: Global, most: u64) -> Result<ReadView>
-        ensures front { IfOk result (IsFront (S.state self.old.source)) }
-        ensures kept { IsKept (S.state self.old.source) (S.state self.new.source) }
+        ensures { IsKept (S.state self.old.source) (S.state self.new.source) }
     {
-        match self.source.view(alloc, &[first(self.size.min(most))]) {
+        let first = SourceSlice {
+            offset: 0,
+            size: self.size.min(most) as usize,
+        };
+        match self.source.view(alloc, &[first]) {
             Ok(front) => Ok(front),
             Err(error) => Err(fault_of(error)),
         }

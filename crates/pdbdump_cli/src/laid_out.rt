@@ -1,7 +1,8 @@
 //! What `layout` does with a file.
 
-ghost use Rattle.pdbdump_cli.specs.LaidOut.{AreLaidOut, stream_bytes, type_bytes};
-ghost use Rattle.pdbdump_tables.specs.Reading.{Reads};
+ghost use Rattle.pdbdump_cli.specs.Requests.{stream_bytes, type_bytes};
+ghost use Rattle.pdbdump_tables.specs.Reading.{AnswersRead, Reads};
+ghost use Rattle.pdbdump_types.specs.Shown.{ShowsTypes};
 
 use crate::command::Layouts;
 use crate::input_file::InputFile;
@@ -40,7 +41,7 @@ pub(crate) fn show_in<S: Source + Drop, O: Write, E: Write>(
     out: &mut Output<O>,
     err: &mut Output<E>,
 ) -> Result<bool>
-    ensures { AreLaidOut (S.state file.source) out.old out.new err.old err.new result }
+    ensures { AnswersRead (S.state file.source) type_bytes (λ stream. ShowsTypes stream err.old err.new) result }
 {
     let stream = type_stream(alloc, file.source)?;
     show_layouts(alloc, stream, asked.names, &asked.options, form, out, err)

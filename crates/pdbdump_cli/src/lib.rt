@@ -22,7 +22,6 @@ mod laid_out;
 mod listed;
 mod located;
 mod matched;
-mod names;
 mod process;
 mod question;
 mod reports;

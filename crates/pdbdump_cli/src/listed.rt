@@ -4,7 +4,7 @@ ghost use Rattle.std.specs.Prelude.{◌≡◌, None, unwrap_or};
 ghost use Rattle.pdb_file.specs.File.{id_stream, type_stream};
 ghost use Rattle.pdb_msf.specs.File.{stream_of};
 ghost use Rattle.pdb_output.specs.Output.{done_of};
-ghost use Rattle.pdbdump_cli.specs.Listed.{AreIds, AreTypes, Does, DoesIn};
+ghost use Rattle.pdbdump_cli.specs.Listed.{AreItems, Does, DoesIn};
 ghost use Rattle.pdbdump_tables.specs.Reading.{Reads, WritesRead};
 
 use crate::command::Command;
@@ -48,7 +48,7 @@ fn list_types<S: Source + Drop, W: Write>(
     out: &mut Output<W>,
 ) -> Result<()>
     ensures { WritesRead (Reads (S.state file.source) (λ bytes. stream_of bytes file.head number None))
-        (AreTypes form index) out.old out.new result }
+        (AreItems form index) out.old out.new result }
 {
     let stream = last_stream(alloc, file, number)?;
     match index {
@@ -69,7 +69,7 @@ fn list_ids<S: Source + Drop, W: Write>(
     out: &mut Output<W>,
 ) -> Result<()>
     ensures { WritesRead (Reads (S.state file.source) (λ bytes. stream_of bytes file.head number None))
-        (AreIds form index) out.old out.new result }
+        (AreItems form index) out.old out.new result }
 {
     let stream = last_stream(alloc, file, number)?;
     match index {

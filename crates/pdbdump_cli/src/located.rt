@@ -1,6 +1,7 @@
 //! What `where` does with a file.
 
-ghost use Rattle.pdbdump_cli.specs.Located.{IsLocated};
+ghost use Rattle.pdb_output.specs.Output.{done_of};
+ghost use Rattle.pdbdump_tables.specs.Listing.{ListsLines};
 
 use crate::input_file::InputFile;
 use pdb_container::{Error, Source};
@@ -46,7 +47,7 @@ pub(crate) fn locate_in<S: Source + Drop, O: Write, E: Write>(
     out: &mut Output<O>,
     err: &mut Output<E>,
 ) -> Result<bool, Error>
-    ensures { IsLocated out.old out.new err.old err.new result }
+    ensures { ListsLines form out.old out.new (done_of result) }
 {
     let past = past_text(alloc, offsets, file.size)?;
     let there = within(alloc, offsets, file.size)?;

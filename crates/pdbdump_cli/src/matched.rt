@@ -1,6 +1,6 @@
 //! What `match` does with a file.
 
-ghost use Rattle.pdbdump_cli.specs.Matched.{IsMatchShown, IsMatched};
+ghost use Rattle.pdbdump_cli.specs.Identified.{ShowsIdentity, ShowsLine};
 
 use crate::command::Matching;
 use crate::identified::identity_in;
@@ -21,7 +21,7 @@ fn write_matched<W: Write>(
     form: Form,
     out: &mut Output<W>,
 ) -> Result<bool>
-    ensures { IsMatchShown asked.now.image.now identity.now out.old out.new result }
+    ensures { ShowsLine form out.old out.new result }
 {
     let pair = Pair {
         image_path: asked.image_path,
@@ -33,7 +33,7 @@ fn write_matched<W: Write>(
     Ok(asked.image.is_of(identity))
 }
 
-/// Identifies a file, and writes whether it is the database that an image names.
+/// Identifies a file, and writes and returns whether it is the database that an image names.
 pub(crate) fn match_in<S: Source + Drop, W: Write>(
     alloc: Global,
     file: InputFile<S>,
@@ -41,7 +41,7 @@ pub(crate) fn match_in<S: Source + Drop, W: Write>(
     form: Form,
     out: &mut Output<W>,
 ) -> Result<bool>
-    ensures { IsMatched asked.now.image.now (S.state file.source) out.old out.new result }
+    ensures { ShowsIdentity form (S.state file.source) out.old out.new result }
 {
     match identity_in(alloc, file.source) {
         Ok(identity) => write_matched(alloc, asked, &identity, form, out),

@@ -1,11 +1,10 @@
 //! What `types` and `ids` list of a file where they select records.
 
 ghost use Rattle.std.specs.Prelude.{Bool, false, IfOk, OnOk};
-ghost use Rattle.pdb_base.specs.Memory.{FailsOnlyForMemory};
 ghost use Rattle.pdb_output.specs.Output.{OutputState, done_of};
-ghost use Rattle.pdbdump_cli.specs.LaidOut.{stream_bytes};
+ghost use Rattle.pdbdump_cli.specs.Requests.{stream_bytes};
 ghost use Rattle.pdbdump_tables.specs.Listing.{ListsLines};
-ghost use Rattle.pdbdump_tables.specs.Reading.{Reads, WritesRead};
+ghost use Rattle.pdbdump_tables.specs.Reading.{AnswersRead};
 ghost use Rattle.pdbdump_types.specs.Shown.{Accounts};
 
 use crate::command::{Selected, Table};
@@ -54,9 +53,8 @@ fn report_line<E: Write>(line: &[u8], err: &mut Output<E>)
 
 /// Reports that a name was not found in a table.
 fn report_name<E: Write>(alloc: Global, table: Table, name: &str, err: &mut Output<E>) -> Result<()>
-    ensures reported { OnOk result ((start : OutputState) (whole : Bool) → Accounts start err.old whole
+    ensures { OnOk result ((start : OutputState) (whole : Bool) → Accounts start err.old whole
         → Accounts start err.new false) }
-    ensures memory { FailsOnlyForMemory result }
 {
     let front: &[u8] = match table {
         Table::Types => b"no type is named ",
@@ -78,9 +76,8 @@ fn report_if_missing<E: Write>(
     has_all: bool,
     err: &mut Output<E>,
 ) -> Result<bool>
-    ensures reported { IfOk result (λ all. (start : OutputState) → Accounts start err.old has_all
+    ensures { IfOk result (λ all. (start : OutputState) → Accounts start err.old has_all
         → Accounts start err.new all) }
-    ensures memory { FailsOnlyForMemory result }
 {
     if is_found {
         return Ok(has_all);
@@ -98,9 +95,8 @@ fn report_missing<E: Write>(
     has_all: bool,
     err: &mut Output<E>,
 ) -> Result<bool>
-    ensures reported { IfOk result (λ all. (start : OutputState) → Accounts start err.old has_all
+    ensures { IfOk result (λ all. (start : OutputState) → Accounts start err.old has_all
         → Accounts start err.new all) }
-    ensures memory { FailsOnlyForMemory result }
 {
     let mut has_these = has_all;
     for (place, name) in search.names().iter().enumerate() {
@@ -130,8 +126,7 @@ fn report_lacks<E: Write>(
     search: &Search<'_, '_>,
     err: &mut Output<E>,
 ) -> Result<bool>
-    ensures reported { IfOk result (Accounts err.old err.new) }
-    ensures memory { FailsOnlyForMemory result }
+    ensures { IfOk result (Accounts err.old err.new) }
 {
     let names = report_missing(alloc, table, &search.names, true, err)?;
     let all = report_missing(alloc, table, &search.used_names, names, err)?;
@@ -166,9 +161,9 @@ pub(crate) fn select_in<S: Source + Drop, O: Write, E: Write>(
     out: &mut Output<O>,
     err: &mut Output<E>,
 ) -> Result<bool>
-    ensures lists { WritesRead (Reads (S.state file.source) (stream_bytes asked.now.number))
-        (λ stream. ListsLines form) out.old out.new (done_of result) }
-    ensures reported { IfOk result (Accounts err.old err.new) }
+    ensures lists { ListsLines form out.old out.new (done_of result) }
+    ensures reported { AnswersRead (S.state file.source) (stream_bytes asked.now.number)
+        (λ stream. Accounts err.old err.new) result }
 {
     let stream = stream_in(alloc, file.source, asked.number)?;
     select_of(alloc, stream, asked, form, out, err)

@@ -1,8 +1,7 @@
 //! The header of the types that names mean.
 
-ghost use Rattle.std.specs.Prelude.{◌≡◌, OnOk};
-ghost use Rattle.pdb_base.specs.Memory.{FailsOnlyForMemory};
-ghost use Rattle.pdbdump_types.specs.Shown.{IsShowResult, IsStopped, StaysAccounted};
+ghost use Rattle.std.specs.Prelude.{IfOk, OnOk};
+ghost use Rattle.pdbdump_types.specs.Shown.{ShowsTypes, StaysAccounted};
 
 use crate::class_text::push_class;
 use crate::context::Context;
@@ -74,8 +73,7 @@ fn declare_type<O: Write, E: Write>(
     out: &mut Output<O>,
     err: &mut Output<E>,
 ) -> Result<(), Error>
-    ensures accounted { OnOk result (StaysAccounted progress.old progress.new err.old err.new) }
-    ensures stopped { IsStopped out.new result }
+    ensures { OnOk result (StaysAccounted progress.old progress.new err.old err.new) }
 {
     match type_text(context, index, known) {
         Ok(text) => out.write(&text),
@@ -92,8 +90,7 @@ fn declare_types<O: Write, E: Write>(
     out: &mut Output<O>,
     err: &mut Output<E>,
 ) -> Result<(), Error>
-    ensures accounted { OnOk result (StaysAccounted progress.old progress.new err.old err.new) }
-    ensures stopped { IsStopped out.new result }
+    ensures { OnOk result (StaysAccounted progress.old progress.new err.old err.new) }
 {
     for index in types {
         declare_type(context, *index, known, progress, out, err)?;
@@ -110,8 +107,7 @@ fn declare_ordered<O: Write, E: Write>(
     out: &mut Output<O>,
     err: &mut Output<E>,
 ) -> Result<(), Error>
-    ensures accounted { OnOk result (StaysAccounted progress.old progress.new err.old err.new) }
-    ensures stopped { IsStopped out.new result }
+    ensures { OnOk result (StaysAccounted progress.old progress.new err.old err.new) }
 {
     let header = context.table.definitions.types().items().header();
     let mut known = Known::new(
@@ -132,8 +128,7 @@ fn tell_cycle<E: Write>(
     progress: &mut Progress,
     err: &mut Output<E>,
 ) -> Result<(), Error>
-    ensures accounted { OnOk result (StaysAccounted progress.old progress.new err.old err.new) }
-    ensures memory { FailsOnlyForMemory result }
+    ensures { OnOk result (StaysAccounted progress.old progress.new err.old err.new) }
 {
     for index in cycle {
         tell_index(alloc, *index, HOLDS_ITSELF, progress, err)?;
@@ -150,8 +145,7 @@ fn find_name<E: Write>(
     progress: &mut Progress,
     err: &mut Output<E>,
 ) -> Result<(), Error>
-    ensures accounted { OnOk result (StaysAccounted progress.old progress.new err.old err.new) }
-    ensures memory { FailsOnlyForMemory result }
+    ensures { OnOk result (StaysAccounted progress.old progress.new err.old err.new) }
 {
     let types = types_named(table, walked, name)?;
     if types.is_empty() {
@@ -170,8 +164,7 @@ fn find_names<E: Write>(
     progress: &mut Progress,
     err: &mut Output<E>,
 ) -> Result<(), Error>
-    ensures accounted { OnOk result (StaysAccounted progress.old progress.new err.old err.new) }
-    ensures memory { FailsOnlyForMemory result }
+    ensures { OnOk result (StaysAccounted progress.old progress.new err.old err.new) }
 {
     for name in names {
         find_name(table, walked, name, found, progress, err)?;
@@ -188,8 +181,7 @@ fn declare_asked<O: Write, E: Write>(
     out: &mut Output<O>,
     err: &mut Output<E>,
 ) -> Result<(), Error>
-    ensures accounted { OnOk result (StaysAccounted progress.old progress.new err.old err.new) }
-    ensures stopped { IsStopped out.new result }
+    ensures { OnOk result (StaysAccounted progress.old progress.new err.old err.new) }
 {
     let walked = walk(table)?;
     let naming = Naming::new(table.alloc, &walked, options.language)?;
@@ -232,7 +224,7 @@ pub fn declare<O: Write, E: Write>(
     out: &mut Output<O>,
     err: &mut Output<E>,
 ) -> Result<bool, Error>
-    ensures { IsShowResult stream out.old out.new err.old err.new result }
+    ensures { IfOk result (ShowsTypes stream err.old err.new) }
 {
     let mut progress = Progress::new(stream.as_slice().len());
     let types = learn_table(alloc, stream)?;

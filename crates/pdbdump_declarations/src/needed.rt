@@ -1,7 +1,6 @@
 //! Which types can be declared within the number of fields that a call may read.
 
 ghost use Rattle.std.specs.Prelude.{◌≡◌, ◌⊎◌, false, OnOk};
-ghost use Rattle.pdb_base.specs.Memory.{FailsOnlyForMemory};
 ghost use Rattle.pdbdump_types.specs.Shown.{StaysAccounted};
 
 use crate::memory::AllocResult;
@@ -125,7 +124,6 @@ pub(crate) fn limit_types<E: Write>(
 ) -> Result<(), Error>
     ensures accounted { OnOk result (StaysAccounted progress.old progress.new err.old err.new) }
     ensures told { OnOk result ((types.new ≡ types.old) ⊎ (progress.new.is_whole ≡ false)) }
-    ensures memory { FailsOnlyForMemory result }
 {
     let most = allowed_count(table, types, end, progress)?;
     let Some(index) = types.get(most).copied() else {

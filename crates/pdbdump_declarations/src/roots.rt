@@ -1,7 +1,5 @@
 //! The types that names mean.
 
-ghost use Rattle.pdb_base.specs.Memory.{FailsOnlyForMemory};
-
 use crate::memory::AllocResult;
 use crate::table_walk::{Found, Walked};
 use pdb_base::{Error, TypeIndex};
@@ -70,9 +68,7 @@ pub(crate) fn types_named(
     table: Table<'_, '_>,
     walked: &Walked<'_>,
     name: &str,
-) -> Result<Vec<TypeIndex>, Error>
-    ensures { FailsOnlyForMemory result }
-{
+) -> Result<Vec<TypeIndex>, Error> {
     if let Some(index) = index_named(name) {
         return Ok(definition_at(table, index)?);
     }

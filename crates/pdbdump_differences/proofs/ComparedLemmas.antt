@@ -39,7 +39,7 @@ written was is out out' err (Err e) same shown = tt
 
 -- what was found
 pub finished : (shown whole : Bool) (out out' err err' : OutputState) → IsSilent out out' shown
-    → Accounts err err' whole → IsCompared out out' err err' (Ok (found shown whole))
+    → Accounts err err' whole → IsCompared out out' err err' (found shown whole)
 finished true true out out' err err' silent same = IsCompared.different same
 finished false true out out' err err' silent same = IsCompared.equal silent same
 finished true false out out' err err' silent told = IsCompared.incomplete told

@@ -1,8 +1,6 @@
 -- What a call that compares two tables has written and reported, and what it returns.
-use Rattle.std.specs.Prelude.{◌≡◌, ◌⊎◌, Bool, true, false, not, Result, Ok, Err}
-use Rattle.pdb_base.specs.declared.error.Error.{Error}
-use Rattle.pdb_base.specs.declared.error.Error.TheVariants.{OutOfMemory}
-use Rattle.pdb_output.specs.Output.{IsFailed, OutputState}
+use Rattle.std.specs.Prelude.{◌≡◌, Bool, true, false, not}
+use Rattle.pdb_output.specs.Output.{OutputState}
 use Rattle.pdbdump_types.specs.Shown.{GetsMessages, StaysAccounted}
 use Rattle.pdb_types.specs.declared.comparison.Comparison.{Comparison}
 use Rattle.pdb_types.specs.declared.comparison.Comparison.TheVariants as common
@@ -37,11 +35,9 @@ found shown false = Incomplete
 found true true = Different
 found false true = Equal
 
--- What a comparison returns: `Equal` only if it wrote and reported nothing, `Different` only if it reported nothing,
--- `Incomplete` only if it reported something; or why it ended early.
-pub data IsCompared (out out' err err' : OutputState) : Result Outcome Error → Type 0 where
-  equal : out' ≡ out → err' ≡ err → IsCompared out out' err err' (Ok Equal)
-  different : err' ≡ err → IsCompared out out' err err' (Ok Different)
-  incomplete : GetsMessages err err' → IsCompared out out' err err' (Ok Incomplete)
-  stopped : (fault : Error) → IsFailed out' fault ⊎ (fault ≡ OutOfMemory)
-      → IsCompared out out' err err' (Err fault)
+-- What a comparison finds: `Equal` only if it wrote and reported nothing, `Different` only if it reported nothing, and
+-- `Incomplete` only if it reported something.
+pub data IsCompared (out out' err err' : OutputState) : Outcome → Type 0 where
+  equal : out' ≡ out → err' ≡ err → IsCompared out out' err err' Equal
+  different : err' ≡ err → IsCompared out out' err err' Different
+  incomplete : GetsMessages err err' → IsCompared out out' err err' Incomplete

@@ -5,8 +5,6 @@ use crate::part_change::PartChange;
 use crate::version::Version;
 use pdb_base::Result;
 use pdbdump_rows::Value;
-use pdbdump_rows::names::{INDEX, KIND, NAME, SIZE};
-use pdbdump_types::names::{CHANGE, TYPE};
 use pdbdump_types::{ObjectBuffer, TextAllowance, TextBuffer, show_declared, show_enumerator};
 use std::alloc::Global;
 
@@ -39,13 +37,13 @@ fn push_version(
 ) -> Result<()> {
     let defined = &version.defined;
     object.begin();
-    object.field(INDEX, Value::Hexadecimal(version.index.0));
-    object.field(KIND, Value::Word(defined.word));
+    object.field("index", Value::Hexadecimal(version.index.0));
+    object.field("kind", Value::Word(defined.word));
     if let Some((_, underlying_type)) = defined.enumeration {
-        object.text(TYPE, &texts.bytes(version.table, underlying_type, b"")?);
+        object.text("type", &texts.bytes(version.table, underlying_type, b"")?);
     }
     if let Some(size) = version.table.definitions.size_of(alloc, version.index)? {
-        object.field(SIZE, Value::Number(size));
+        object.field("size", Value::Number(size));
     }
     push_member(name, object, text);
     Ok(())
@@ -82,7 +80,7 @@ fn push_change<'t>(
 ) -> Result<()> {
     let word = change_word(change.old.is_some(), change.new.is_some());
     object.begin();
-    object.field(CHANGE, Value::Word(word));
+    object.field("change", Value::Word(word));
     text.begin_item();
     text.push_fields(object);
     if let (Some(old), Some(part)) = (old, &change.old) {
@@ -110,9 +108,9 @@ pub(crate) fn push_json<'t>(
 ) -> Result<()> {
     let word = change_word(old.is_some(), new.is_some());
     let mut object = ObjectBuffer::new(alloc);
-    object.field(CHANGE, Value::Word(word));
+    object.field("change", Value::Word(word));
     if let Some(version) = old.or(new) {
-        object.field(NAME, Value::Text(version.defined.name));
+        object.field("name", Value::Text(version.defined.name));
     }
     text.push_fields(&object);
     if let Some(old) = old {

@@ -1,9 +1,8 @@
 //! The definitions that differ between two tables of types.
 
-ghost use Rattle.std.specs.Prelude.{◌≡◌, OnOk};
-ghost use Rattle.pdb_base.specs.Memory.{FailsOnlyForMemory};
+ghost use Rattle.std.specs.Prelude.{◌≡◌, IfOk, OnOk};
 ghost use Rattle.pdbdump_differences.specs.Compared.{Compares, IsCompared, counts, found};
-ghost use Rattle.pdbdump_types.specs.Shown.{IsStopped, StaysAccounted};
+ghost use Rattle.pdbdump_types.specs.Shown.{StaysAccounted};
 
 use crate::compared_table::ComparedTable;
 use crate::difference_json::push_json;
@@ -181,7 +180,6 @@ fn tell_change<E: Write>(
 ) -> Result<(), Error>
     ensures accounted { OnOk result (StaysAccounted progress.old progress.new err.old err.new) }
     ensures shown { progress.new.has_shown ≡ progress.old.has_shown }
-    ensures memory { FailsOnlyForMemory result }
 {
     match fault {
         Error::OutOfMemory => Err(Error::OutOfMemory),
@@ -204,8 +202,7 @@ fn write_change<O: Write, E: Write>(
     out: &mut Output<O>,
     err: &mut Output<E>,
 ) -> Result<(), Error>
-    ensures compares { OnOk result (Compares progress.old progress.new out.old out.new err.old err.new) }
-    ensures stopped { IsStopped out.new result }
+    ensures { OnOk result (Compares progress.old progress.new out.old out.new err.old err.new) }
 {
     match change {
         Ok(Some(text)) => write_layout(&text, form, progress, out),
@@ -223,8 +220,7 @@ fn show_changes<O: Write, E: Write>(
     out: &mut Output<O>,
     err: &mut Output<E>,
 ) -> Result<(), Error>
-    ensures compares { OnOk result (Compares progress.old progress.new out.old out.new err.old err.new) }
-    ensures stopped { IsStopped out.new result }
+    ensures { OnOk result (Compares progress.old progress.new out.old out.new err.old err.new) }
 {
     let old = tables.old;
     for (number, index) in old.wanted.iter().enumerate() {
@@ -251,8 +247,7 @@ fn show_arrivals<O: Write, E: Write>(
     out: &mut Output<O>,
     err: &mut Output<E>,
 ) -> Result<(), Error>
-    ensures compares { OnOk result (Compares progress.old progress.new out.old out.new err.old err.new) }
-    ensures stopped { IsStopped out.new result }
+    ensures { OnOk result (Compares progress.old progress.new out.old out.new err.old err.new) }
 {
     for (number, index) in tables.new.wanted.iter().enumerate() {
         let change = tables.arrival_of(alloc, number, *index, form, &mut progress.texts);
@@ -287,7 +282,6 @@ fn tell_if_unknown<E: Write>(
 ) -> Result<(), Error>
     ensures accounted { OnOk result (StaysAccounted progress.old progress.new err.old err.new) }
     ensures shown { progress.new.has_shown ≡ progress.old.has_shown }
-    ensures memory { FailsOnlyForMemory result }
 {
     if is_unknown(alloc, old, new, name)? {
         return tell(alloc, name.as_bytes(), NO_NAME, progress, err);
@@ -306,7 +300,6 @@ fn tell_unknown<E: Write>(
 ) -> Result<(), Error>
     ensures accounted { OnOk result (StaysAccounted progress.old progress.new err.old err.new) }
     ensures shown { progress.new.has_shown ≡ progress.old.has_shown }
-    ensures memory { FailsOnlyForMemory result }
 {
     for name in names {
         tell_if_unknown(alloc, old, new, name, progress, err)?;
@@ -345,7 +338,7 @@ pub fn show_differences<O: Write, E: Write>(
     out: &mut Output<O>,
     err: &mut Output<E>,
 ) -> Result<Outcome, Error>
-    ensures { IsCompared out.old out.new err.old err.new result }
+    ensures { IfOk result (IsCompared out.old out.new err.old err.new) }
 {
     let mut progress = Progress::new(old.bytes.saturating_add(new.bytes));
     tell_unknown(alloc, old, new, names, &mut progress, err)?;

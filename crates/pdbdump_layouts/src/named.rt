@@ -1,7 +1,5 @@
 //! What names mean in a table.
 
-ghost use Rattle.pdb_base.specs.Memory.{FailsOnlyForMemory};
-
 use crate::member_path::{Path, PathEnd, follow};
 use pdb_base::{Result, TypeIndex};
 use pdbdump_types::{
@@ -17,9 +15,7 @@ pub(crate) fn types_named(
     table: Table<'_, '_>,
     name: &str,
     case: LetterCase,
-) -> Result<Vec<TypeIndex>>
-    ensures { FailsOnlyForMemory result }
-{
+) -> Result<Vec<TypeIndex>> {
     if let Some(index) = index_named(name) {
         return Ok(vec![in table.alloc; index]?);
     }

@@ -1,8 +1,7 @@
 //! The layouts that a call shows: of all classes, or of those that names mean.
 
-ghost use Rattle.std.specs.Prelude.{◌≡◌, ◌⊎◌, false, OnOk};
-ghost use Rattle.pdb_base.specs.Memory.{FailsOnlyForMemory};
-ghost use Rattle.pdbdump_types.specs.Shown.{IsShowResult, IsStopped, StaysAccounted};
+ghost use Rattle.std.specs.Prelude.{◌≡◌, ◌⊎◌, false, IfOk, OnOk};
+ghost use Rattle.pdbdump_types.specs.Shown.{ShowsTypes, StaysAccounted};
 
 use crate::c_style::push_c;
 use crate::dt_style::push_dt;
@@ -107,8 +106,7 @@ fn show_layout<O: Write, E: Write>(
     out: &mut Output<O>,
     err: &mut Output<E>,
 ) -> Result<(), Error>
-    ensures accounted { OnOk result (StaysAccounted progress.old progress.new err.old err.new) }
-    ensures stopped { IsStopped out.new result }
+    ensures { OnOk result (StaysAccounted progress.old progress.new err.old err.new) }
 {
     let records = &mut progress.records;
     let rows = &mut progress.rows;
@@ -125,8 +123,7 @@ fn write_enumeration<O: Write>(
     progress: &mut Progress,
     out: &mut Output<O>,
 ) -> Result<(), Error>
-    ensures whole { progress.new.is_whole ≡ progress.old.is_whole }
-    ensures stopped { IsStopped out.new result }
+    ensures { progress.new.is_whole ≡ progress.old.is_whole }
 {
     if asked.options.has_holes {
         return Ok(());
@@ -142,8 +139,7 @@ fn show_enumeration<O: Write, E: Write>(
     out: &mut Output<O>,
     err: &mut Output<E>,
 ) -> Result<(), Error>
-    ensures accounted { OnOk result (StaysAccounted progress.old progress.new err.old err.new) }
-    ensures stopped { IsStopped out.new result }
+    ensures { OnOk result (StaysAccounted progress.old progress.new err.old err.new) }
 {
     let (table, style) = (asked.table, asked.options.style);
     let texts = &mut progress.texts;
@@ -162,8 +158,7 @@ fn show_type<O: Write, E: Write>(
     out: &mut Output<O>,
     err: &mut Output<E>,
 ) -> Result<(), Error>
-    ensures accounted { OnOk result (StaysAccounted progress.old progress.new err.old err.new) }
-    ensures stopped { IsStopped out.new result }
+    ensures { OnOk result (StaysAccounted progress.old progress.new err.old err.new) }
 {
     match class_layout(asked.table, index) {
         Ok(Some(layout)) => {
@@ -185,8 +180,7 @@ fn show_types<O: Write, E: Write>(
     out: &mut Output<O>,
     err: &mut Output<E>,
 ) -> Result<(), Error>
-    ensures accounted { OnOk result (StaysAccounted progress.old progress.new err.old err.new) }
-    ensures stopped { IsStopped out.new result }
+    ensures { OnOk result (StaysAccounted progress.old progress.new err.old err.new) }
 {
     for index in indexes {
         show_type(asked, *index, progress, out, err)?;
@@ -293,8 +287,7 @@ fn find_name<O: Write, E: Write>(
     out: &mut Output<O>,
     err: &mut Output<E>,
 ) -> Result<(), Error>
-    ensures accounted { OnOk result (StaysAccounted progress.old progress.new err.old err.new) }
-    ensures stopped { IsStopped out.new result }
+    ensures { OnOk result (StaysAccounted progress.old progress.new err.old err.new) }
 {
     let (table, case) = (asked.table, asked.options.case);
     let types = types_named(table, name, case)?;
@@ -325,8 +318,7 @@ fn find_names<O: Write, E: Write>(
     out: &mut Output<O>,
     err: &mut Output<E>,
 ) -> Result<(), Error>
-    ensures accounted { OnOk result (StaysAccounted progress.old progress.new err.old err.new) }
-    ensures stopped { IsStopped out.new result }
+    ensures { OnOk result (StaysAccounted progress.old progress.new err.old err.new) }
 {
     for name in names {
         find_name(asked, name, found, progress, out, err)?;
@@ -374,7 +366,6 @@ fn limit_types<E: Write>(
 ) -> Result<(), Error>
     ensures accounted { OnOk result (StaysAccounted progress.old progress.new err.old err.new) }
     ensures told { OnOk result ((found.new ≡ found.old) ⊎ (progress.new.is_whole ≡ false)) }
-    ensures memory { FailsOnlyForMemory result }
 {
     let most = allowed_count(table, found, progress)?;
     let Some(index) = found.get(most).copied() else {
@@ -392,7 +383,6 @@ fn tell_depth<E: Write>(
 ) -> Result<(), Error>
     ensures accounted { OnOk result (StaysAccounted progress.old progress.new err.old err.new) }
     ensures told { OnOk result (progress.old.rows.left ≡ 0 → progress.new.is_whole ≡ false) }
-    ensures memory { FailsOnlyForMemory result }
 {
     if progress.rows.left() > 0 {
         return Ok(());
@@ -409,8 +399,7 @@ fn show_asked<O: Write, E: Write>(
     out: &mut Output<O>,
     err: &mut Output<E>,
 ) -> Result<(), Error>
-    ensures accounted { OnOk result (StaysAccounted progress.old progress.new err.old err.new) }
-    ensures stopped { IsStopped out.new result }
+    ensures { OnOk result (StaysAccounted progress.old progress.new err.old err.new) }
 {
     let (table, options) = (asked.table, asked.options);
     let mut found = first_types(table.alloc, table.definitions.types(), options.all)?;
@@ -439,7 +428,7 @@ pub fn show_layouts<O: Write, E: Write>(
     out: &mut Output<O>,
     err: &mut Output<E>,
 ) -> Result<bool, Error>
-    ensures { IsShowResult stream out.old out.new err.old err.new result }
+    ensures { IfOk result (ShowsTypes stream err.old err.new) }
 {
     let bytes = stream.as_slice().len();
     let types = learn_table(alloc, stream)?;

@@ -9,7 +9,6 @@ use Rattle.pdbdump_rows.specs.declared.form.Form.{Form}
 use Rattle.pdbdump_rows.specs.declared.form.Form.TheVariants.{Text, Json}
 use Rattle.pdbdump_rows.specs.Lines.{field_line, field_text, full_text, is_shown, line_feed, row_text, separator}
 use Rattle.pdbdump_rows.specs.Row.{ShownField, ShownRow, hexadecimal, number}
-use Rattle.pdbdump_rows.specs.declared.names.TheConstants.{INDEX, NUMBER, SOURCE_ADDRESS}
 
 -- A line so far: its form, whether each field has a line of its own, the bytes, whether it shows no field yet, and
 -- whether each allocation since it began succeeded.
@@ -88,14 +87,14 @@ AddsMade field (Err e) old new = new.is_whole ≡ false
 
 -- the field that a row of an index begins with, and that of a number
 abbrev pub indexed : ℕ → ShownRow
-indexed index = (INDEX.now, hexadecimal index) ∷ []
+indexed index = (codes "index", hexadecimal index) ∷ []
 
 abbrev pub numbered : ℕ → ShownRow
-numbered n = (NUMBER.now, number n) ∷ []
+numbered n = (codes "number", number n) ∷ []
 
 -- the field that an OMAP record begins with
 abbrev pub moved_from : ℕ → ShownRow
-moved_from address = (SOURCE_ADDRESS.now, hexadecimal address) ∷ []
+moved_from address = (codes "source_address", hexadecimal address) ∷ []
 
 -- A row that begins with these fields was added to a line.
 pub record HasRow (front : ShownRow) (old new : LineState) : Type 0 where

@@ -7,10 +7,6 @@ ghost use Rattle.pdbdump_rows.specs.Line.{AddsRow, indexed};
 
 use crate::line::Line;
 use crate::lists::{id_numbers, type_numbers};
-use crate::names::{
-    ARGUMENTS, FUNCTION_TYPE, INDEX, KIND, LINE, MODULE, NAME, PARENT, SCOPE, SOURCE_FILE,
-    SUBSTRINGS, UDT,
-};
 use crate::value::{Value, optional_id, type_index};
 use pdb_values::{
     BuildInfoId, FunctionId, IdData, MemberFunctionId, StringId, StringListId,
@@ -22,9 +18,9 @@ fn show_function(line: &mut Line, id: &FunctionId<'_>)
     ensures { AddsRow [] line.old line.new }
 {
     line.fields(&[
-        (NAME, Value::Text(id.name)),
-        (SCOPE, optional_id(id.scope)),
-        (FUNCTION_TYPE, type_index(id.function_type)),
+        ("name", Value::Text(id.name)),
+        ("scope", optional_id(id.scope)),
+        ("function_type", type_index(id.function_type)),
     ]);
 }
 
@@ -33,9 +29,9 @@ fn show_member_function(line: &mut Line, id: &MemberFunctionId<'_>)
     ensures { AddsRow [] line.old line.new }
 {
     line.fields(&[
-        (NAME, Value::Text(id.name)),
-        (PARENT, type_index(id.parent)),
-        (FUNCTION_TYPE, type_index(id.function_type)),
+        ("name", Value::Text(id.name)),
+        ("parent", type_index(id.parent)),
+        ("function_type", type_index(id.function_type)),
     ]);
 }
 
@@ -44,7 +40,7 @@ fn show_build_info(line: &mut Line, id: &BuildInfoId)
     ensures { AddsRow [] line.old line.new }
 {
     let alloc = line.alloc;
-    line.indexes(ARGUMENTS, id_numbers(alloc, &id.arguments));
+    line.indexes("arguments", id_numbers(alloc, &id.arguments));
 }
 
 /// Adds the fields of the parts of a text.
@@ -52,7 +48,7 @@ fn show_string_list(line: &mut Line, id: &StringListId)
     ensures { AddsRow [] line.old line.new }
 {
     let alloc = line.alloc;
-    line.indexes(SUBSTRINGS, type_numbers(alloc, &id.substrings));
+    line.indexes("substrings", type_numbers(alloc, &id.substrings));
 }
 
 /// Adds the fields of a text.
@@ -60,8 +56,8 @@ fn show_string(line: &mut Line, id: &StringId<'_>)
     ensures { AddsRow [] line.old line.new }
 {
     line.fields(&[
-        (NAME, Value::Text(id.name)),
-        (SUBSTRINGS, optional_id(id.substrings)),
+        ("name", Value::Text(id.name)),
+        ("substrings", optional_id(id.substrings)),
     ]);
 }
 
@@ -87,10 +83,10 @@ fn show_source(line: &mut Line, id: &UserDefinedTypeSourceId)
     ensures { AddsRow [] line.old line.new }
 {
     line.fields(&[
-        (UDT, type_index(id.udt)),
-        (SOURCE_FILE, source_file(id.source_file)),
-        (MODULE, source_module(id.source_file)),
-        (LINE, Value::Number(id.line as u64)),
+        ("udt", type_index(id.udt)),
+        ("source_file", source_file(id.source_file)),
+        ("module", source_module(id.source_file)),
+        ("line", Value::Number(id.line as u64)),
     ]);
 }
 
@@ -112,7 +108,7 @@ fn show_value(line: &mut Line, data: &IdData<'_>)
 fn show_fields(line: &mut Line, leaf: u16, data: &IdData<'_>)
     ensures { AddsRow [] line.old line.new }
 {
-    line.field(KIND, Value::Kind(leaf));
+    line.field("kind", Value::Kind(leaf));
     show_value(line, data)
 }
 
@@ -120,6 +116,6 @@ fn show_fields(line: &mut Line, leaf: u16, data: &IdData<'_>)
 pub fn show_id(line: &mut Line, index: u32, leaf: u16, data: &IdData<'_>)
     ensures { AddsRow (indexed index) line.old line.new }
 {
-    line.field(INDEX, Value::Hexadecimal(index));
+    line.field("index", Value::Hexadecimal(index));
     show_fields(line, leaf, data)
 }

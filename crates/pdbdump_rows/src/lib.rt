@@ -9,7 +9,6 @@ mod id_rows;
 pub mod laws;
 mod line;
 mod lists;
-pub mod names;
 mod number;
 mod omap_rows;
 mod push;

@@ -5,7 +5,6 @@
 ghost use Rattle.pdbdump_rows.specs.Line.{AddsRow, moved_from};
 
 use crate::line::Line;
-use crate::names::{SOURCE_ADDRESS, TARGET_ADDRESS};
 use crate::value::Value;
 use pdb_space::OMAPRecord;
 
@@ -13,6 +12,12 @@ use pdb_space::OMAPRecord;
 pub fn show_omap(line: &mut Line, mapping: OMAPRecord)
     ensures { AddsRow (moved_from mapping.source) line.old line.new }
 {
-    line.field(SOURCE_ADDRESS, Value::Hexadecimal(mapping.source_address()));
-    line.field(TARGET_ADDRESS, Value::Hexadecimal(mapping.target_address()));
+    line.field(
+        "source_address",
+        Value::Hexadecimal(mapping.source_address()),
+    );
+    line.field(
+        "target_address",
+        Value::Hexadecimal(mapping.target_address()),
+    );
 }

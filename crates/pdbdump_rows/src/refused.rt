@@ -9,7 +9,6 @@ ghost use Rattle.pdbdump_rows.specs.Line.{AddsRow};
 ghost use Rattle.pdbdump_rows.specs.Sentences.{sentence_of};
 
 use crate::line::Line;
-use crate::names::ERROR;
 use pdb_base::{Error, IO_ERROR_FRONT};
 use std::alloc::{AllocError, Global};
 
@@ -56,5 +55,5 @@ pub fn show_error(line: &mut Line, error: &Error)
     ensures { AddsRow [] line.old line.new }
 {
     let alloc = line.alloc;
-    line.made_text(ERROR, error_text(alloc, error));
+    line.made_text("error", error_text(alloc, error));
 }

@@ -5,11 +5,6 @@
 ghost use Rattle.pdbdump_rows.specs.Line.{AddsRow, numbered};
 
 use crate::line::Line;
-use crate::names::{
-    ALIGNMENT, CHARACTERISTICS, NAME, NUMBER, NUMBER_OF_LINE_NUMBERS, NUMBER_OF_RELOCATIONS,
-    POINTER_TO_LINE_NUMBERS, POINTER_TO_RAW_DATA, POINTER_TO_RELOCATIONS, SIZE_OF_RAW_DATA,
-    VIRTUAL_ADDRESS, VIRTUAL_SIZE,
-};
 use crate::value::Value;
 use crate::words::section_flags;
 use pdb_base::RawString;
@@ -36,39 +31,42 @@ pub fn show_section(line: &mut Line, number: u32, header: &ImageSectionHeader)
     ensures { AddsRow (numbered number) line.old line.new }
 {
     let name = RawString::from(name_bytes(header));
-    line.field(NUMBER, Value::Number(number as u64));
+    line.field("number", Value::Number(number as u64));
     line.fields(&[
-        (NAME, Value::Text(name)),
-        (VIRTUAL_ADDRESS, Value::Hexadecimal(header.virtual_address)),
-        (VIRTUAL_SIZE, Value::Number(header.virtual_size as u64)),
+        ("name", Value::Text(name)),
         (
-            POINTER_TO_RAW_DATA,
+            "virtual_address",
+            Value::Hexadecimal(header.virtual_address),
+        ),
+        ("virtual_size", Value::Number(header.virtual_size as u64)),
+        (
+            "pointer_to_raw_data",
             Value::Hexadecimal(header.pointer_to_raw_data),
         ),
         (
-            SIZE_OF_RAW_DATA,
+            "size_of_raw_data",
             Value::Number(header.size_of_raw_data as u64),
         ),
         (
-            POINTER_TO_RELOCATIONS,
+            "pointer_to_relocations",
             Value::Hexadecimal(header.pointer_to_relocations),
         ),
         (
-            NUMBER_OF_RELOCATIONS,
+            "number_of_relocations",
             Value::Number(header.number_of_relocations as u64),
         ),
         (
-            POINTER_TO_LINE_NUMBERS,
+            "pointer_to_line_numbers",
             Value::Hexadecimal(header.pointer_to_line_numbers),
         ),
         (
-            NUMBER_OF_LINE_NUMBERS,
+            "number_of_line_numbers",
             Value::Number(header.number_of_line_numbers as u64),
         ),
     ]);
     line.field(
-        CHARACTERISTICS,
+        "characteristics",
         Value::Words(&section_flags(header.characteristics)),
     );
-    line.field(ALIGNMENT, alignment(header.characteristics.alignment()));
+    line.field("alignment", alignment(header.characteristics.alignment()));
 }

@@ -16,28 +16,45 @@ use std::alloc::{AllocError, Global};
 
 /// A field with the index of a type: its name, and that of the field with the text of the type,
 /// which only JSON shows.
-#[derive(Clone, Copy)]
-pub(crate) struct TypeField {
-    /// The name.
-    pub(crate) name: &'static str,
+pub(crate) type TypeField = (&'static str, &'static str);
 
-    /// The name of the field with the text.
-    pub(crate) text_name: &'static str,
-}
+pub(crate) const BASE_CLASS: TypeField = ("base_class", "base_class_text");
+
+pub(crate) const BASE_POINTER: TypeField = ("base_pointer", "base_pointer_text");
+
+pub(crate) const CLASS_TYPE: TypeField = ("class_type", "class_type_text");
+
+pub(crate) const CONTAINING_CLASS: TypeField = ("containing_class", "containing_class_text");
+
+pub(crate) const ELEMENT_TYPE: TypeField = ("element_type", "element_type_text");
+
+pub(crate) const FIELD_TYPE: TypeField = ("field_type", "field_type_text");
+
+pub(crate) const INDEXING_TYPE: TypeField = ("indexing_type", "indexing_type_text");
+
+pub(crate) const METHOD_TYPE: TypeField = ("method_type", "method_type_text");
+
+pub(crate) const NESTED_TYPE: TypeField = ("nested_type", "nested_type_text");
+
+pub(crate) const RETURN_TYPE: TypeField = ("return_type", "return_type_text");
+
+pub(crate) const THIS_POINTER_TYPE: TypeField = ("this_pointer_type", "this_pointer_type_text");
+
+pub(crate) const UNDERLYING_TYPE: TypeField = ("underlying_type", "underlying_type_text");
 
 /// Adds a field with the index of a type, and what is shown of the type beside it, if that is known.
 fn show_beside(line: &mut Line, field: TypeField, index: TypeIndex, text: Option<&[u8]>)
     ensures { AddsRow [] line.old line.new }
 {
     let Some(text) = text else {
-        return line.field(field.name, Value::Hexadecimal(index.0));
+        return line.field(field.0, Value::Hexadecimal(index.0));
     };
     match line.form() {
-        Form::Text => line.field(field.name, Value::Text(RawString::from(text))),
+        Form::Text => line.field(field.0, Value::Text(RawString::from(text))),
         Form::Json => {
             line.fields(&[
-                (field.name, Value::Hexadecimal(index.0)),
-                (field.text_name, Value::Text(RawString::from(text))),
+                (field.0, Value::Hexadecimal(index.0)),
+                (field.1, Value::Text(RawString::from(text))),
             ]);
         }
     }

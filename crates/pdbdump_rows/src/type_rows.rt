@@ -16,7 +16,6 @@ mod pointer;
 mod primitive;
 
 use crate::line::Line;
-use crate::names::{INDEX, KIND};
 use crate::type_rows::base_class::{show_base_class, show_table_pointer, show_virtual_base};
 use crate::type_rows::class::{show_class, show_union};
 use crate::type_rows::enumeration::{show_enumerate, show_enumeration};
@@ -67,7 +66,7 @@ fn show_value(line: &mut Line, data: &TypeData<'_>)
 pub(crate) fn show_fields(line: &mut Line, leaf: u16, data: &TypeData<'_>)
     ensures { AddsRow [] line.old line.new }
 {
-    line.field(KIND, Value::Kind(leaf));
+    line.field("kind", Value::Kind(leaf));
     show_value(line, data)
 }
 
@@ -75,6 +74,6 @@ pub(crate) fn show_fields(line: &mut Line, leaf: u16, data: &TypeData<'_>)
 pub fn show_type(line: &mut Line, index: u32, leaf: u16, data: &TypeData<'_>)
     ensures { AddsRow (indexed index) line.old line.new }
 {
-    line.field(INDEX, Value::Hexadecimal(index));
+    line.field("index", Value::Hexadecimal(index));
     show_fields(line, leaf, data)
 }

@@ -1,7 +1,5 @@
-pub mod Records
 pub mod Listed
 pub mod Given
-pub mod HeaderRoles
 pub mod Identity
 pub mod Extracted
 pub mod Listing

@@ -1,7 +1,6 @@
 //! The headers that name streams of symbols and of hashes.
 
-ghost use Rattle.pdb_msf.specs.File.{ReadsFile};
-ghost use Rattle.pdbdump_tables.specs.HeaderRoles.{debug_header};
+ghost use Rattle.pdbdump_tables.specs.Reading.{IsKeptOpen};
 
 use pdb_base::{Error, Result, Stream};
 use pdb_file::{DBIHeader, ID_STREAM, PDB, TYPE_STREAM};
@@ -34,9 +33,8 @@ pub struct Headers {
 ///
 /// # Errors
 /// Fails as `PDB::get` and `DBIHeader::parse` do.
-#[tactic(auto, unfolding(crate::specs::HeaderRoles::debug_header))]
 pub(crate) fn debug_header<S: Source>(alloc: Global, file: &mut PDB<S>) -> Result<DBIHeader>
-    ensures { ReadsFile S.state file.old file.new (λ header. header) result debug_header }
+    ensures { IsKeptOpen S.state file.old file.new }
 {
     let stream = file.get(alloc, DEBUG_STREAM, Some(DEBUG_HEADER_SIZE))?;
     DBIHeader::parse(&stream)

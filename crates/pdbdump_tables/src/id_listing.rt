@@ -1,13 +1,11 @@
 //! Ids in full.
 
-ghost use Rattle.std.specs.Prelude.{Ok};
 ghost use Rattle.pdbdump_rows.specs.Line.{EndsRow, indexed};
 ghost use Rattle.pdbdump_rows.specs.Lines.{full_text};
-ghost use Rattle.pdbdump_tables.specs.Records.{id_shown, id_shown_in};
 ghost use Rattle.pdbdump_tables.specs.Listed.{IsShown};
 
 use crate::refused_record::write_unread;
-use pdb_base::{Error, IdIndex, Result, Stream};
+use pdb_base::{IdIndex, Result, Stream};
 use pdb_output::Output;
 use pdb_tpi::{IdInformation, OpenTable};
 use pdb_values::IdData;
@@ -33,6 +31,7 @@ fn make_full(
 }
 
 /// Writes an id in full.
+#[tactic(auto, using(crate::proofs::ShownLemmas::unshown))]
 fn write_value<W: Write>(
     alloc: Global,
     index: u32,
@@ -41,7 +40,7 @@ fn write_value<W: Write>(
     form: Form,
     out: &mut Output<W>,
 ) -> Result<()>
-    ensures { IsShown form index (Ok (Ok tt)) out.old out.new result }
+    ensures { IsShown form index out.old out.new result }
 {
     let mut line = Line::new(alloc);
     make_full(form, index, leaf, value, &mut line)?;
@@ -50,7 +49,7 @@ fn write_value<W: Write>(
 }
 
 /// Looks up the id of an index in the table of a stream and writes it in full.
-#[tactic(auto, using(crate::proofs::ShownLemmas::id_refused))]
+#[tactic(auto, using(crate::proofs::ShownLemmas::unshown))]
 fn write_id<W: Write>(
     alloc: Global,
     ids: &OpenTable<IdIndex>,
@@ -59,12 +58,11 @@ fn write_id<W: Write>(
     form: Form,
     out: &mut Output<W>,
 ) -> Result<()>
-    ensures { IsShown form index (id_shown index ids.now.table) out.old out.new result }
+    ensures { IsShown form index out.old out.new result }
 {
     let item = ids.item(IdIndex(index))?;
     match item.parse(alloc) {
         Ok(value) => write_value(alloc, index, item.raw_kind(), &value, form, out),
-        Err(Error::OutOfMemory) => Err(Error::OutOfMemory),
         Err(fault) => write_unread(alloc, ids, stream, &item, fault, form, out),
     }
 }
@@ -76,6 +74,7 @@ fn write_id<W: Write>(
 /// the record, after a text that says so and where the record is; with `OutOfMemory` if an
 /// allocation fails; and with `IoError` if the writer fails, after a prefix of what is meant to be
 /// written.
+#[tactic(auto, using(crate::proofs::ShownLemmas::unshown))]
 pub fn id_at<W: Write>(
     alloc: Global,
     stream: Stream,
@@ -84,7 +83,7 @@ pub fn id_at<W: Write>(
     form: Form,
     out: &mut Output<W>,
 ) -> Result<()>
-    ensures { IsShown form index (id_shown_in index stream) out.old out.new result }
+    ensures { IsShown form index out.old out.new result }
 {
     let table = IdInformation::parse(stream)?;
     let ids = OpenTable::new(alloc, table)?;

@@ -2,11 +2,10 @@
 
 #![tactic(auto, using(pdbdump_rows::proofs::lemmas::Line::adding))]
 
-ghost use Rattle.std.specs.Prelude.{◌≡◌, ◌↔◌, [], string_bytes, IsTrue, IfOk};
+ghost use Rattle.std.specs.Prelude.{[]};
 ghost use Rattle.pdbdump_rows.specs.Line.{IsRow, AddsRow, WritesWhat};
 ghost use Rattle.pdbdump_rows.specs.Lines.{row_text};
-ghost use Rattle.pdb_file.specs.Key.{upper_key};
-ghost use Rattle.pdbdump_tables.specs.Identity.{IsIdentity, IsKey};
+ghost use Rattle.pdbdump_tables.specs.Identity.{IsIdentity};
 
 use pdb_base::{Error, RawString};
 use pdb_file::{Features, Identity, LowerKey, UpperKey};
@@ -16,50 +15,22 @@ use std::alloc::{AllocError, Global};
 use std::io::Write;
 use uuid::Uuid;
 
-// The names of the fields.
-
-const FEATURES: &str = "features";
-
-pub(crate) const NAME: &str = "name";
-
-pub(crate) const FORMAT: &str = "format";
-
-pub(crate) const GUID: &str = "guid";
-
-pub(crate) const AGE: &str = "age";
-
-const AGE_FROM: &str = "age_from";
-
-const INFORMATION_AGE: &str = "information_age";
-
-const SIGNATURE: &str = "signature";
-
-const VERSION: &str = "version";
-
-pub(crate) const MACHINE: &str = "machine";
-
-pub(crate) const CPU: &str = "cpu";
-
-const STRIPPED: &str = "stripped";
-
-pub(crate) const KEY: &str = "key";
-
 /// The name in a line of Breakpad of a file that has none.
 const UNNAMED: &str = "-";
 
 /// How the identity of a file is written as text.
 #[derive(Clone, Copy)]
 pub enum KeyStyle {
-    /// The path of the file in a symbol store, `NAME/KEY/NAME`, or the key of a file without a name.
+    /// The path of the file in a symbol store, `"name"/"key"/"name"`, or the key of a file without a name.
     Key,
 
     /// That path in lower case, the name too, as the conventions for SSQP have it.
     Ssqp,
 
-    /// The first line of a symbol file of Breakpad: `MODULE windows CPU KEY NAME`.
+    /// The first line of a symbol file of Breakpad: `MODULE windows "cpu" "key" "name"`.
     Breakpad,
 
-    /// The GUID alone, with hyphens.
+    /// The "guid" alone, with hyphens.
     Guid,
 }
 
@@ -100,13 +71,11 @@ fn lower_path(alloc: Global, name: Option<&str>, key: UpperKey) -> Result<Vec<u8
 
 /// Returns the bytes of the text of a key.
 pub(crate) fn key_bytes(alloc: Global, key: UpperKey) -> Result<Vec<u8>, AllocError> {
-    Ok(format!(in alloc; "{key}")?.into_bytes())
+    Ok(key_text(alloc, key)?.into_bytes())
 }
 
 /// Returns a key as text.
-pub(crate) fn key_text(alloc: Global, key: UpperKey) -> Result<String, AllocError>
-    ensures { IfOk result (λ text. string_bytes text ≡ upper_key key.guid key.age) }
-{
+pub(crate) fn key_text(alloc: Global, key: UpperKey) -> Result<String, AllocError> {
     Ok(format!(in alloc; "{key}")?)
 }
 
@@ -125,7 +94,7 @@ fn breakpad_line(
     Ok(line)
 }
 
-/// Returns the GUID of a file as a line.
+/// Returns the "guid" of a file as a line.
 fn guid_line(alloc: Global, guid: Uuid) -> Result<Vec<u8>, AllocError> {
     let mut buffer = [0u8; 36];
     let guid = guid.hyphenated().encode_upper(&mut buffer);
@@ -187,8 +156,8 @@ fn show_features(line: &mut Line, features: Option<Features>)
     ensures { AddsRow [] line.old line.new }
 {
     match features {
-        Some(features) => line.field(FEATURES, Value::Words(&feature_flags(features))),
-        None => line.field(FEATURES, Value::Absent),
+        Some(features) => line.field("features", Value::Words(&feature_flags(features))),
+        None => line.field("features", Value::Absent),
     }
 }
 
@@ -201,33 +170,33 @@ fn number_fields(identity: &Identity) -> [Field<'static>; 5] {
         ..
     } = identity;
     [
-        (AGE, Value::Number(identity.age() as u64)),
-        (AGE_FROM, Value::Word(age_source(identity))),
-        (INFORMATION_AGE, Value::Number(*information_age as u64)),
-        (SIGNATURE, Value::Number(*signature as u64)),
-        (VERSION, Value::Number(*version as u64)),
+        ("age", Value::Number(identity.age() as u64)),
+        ("age_from", Value::Word(age_source(identity))),
+        ("information_age", Value::Number(*information_age as u64)),
+        ("signature", Value::Number(*signature as u64)),
+        ("version", Value::Number(*version as u64)),
     ]
 }
 
 /// Returns the fields of the machine that a file is for.
 fn machine_fields(identity: &Identity) -> [Field<'static>; 3] {
     [
-        (MACHINE, optional_machine(identity.machine())),
-        (CPU, Value::Word(identity.cpu())),
-        (STRIPPED, optional_flag(identity.is_stripped())),
+        ("machine", optional_machine(identity.machine())),
+        ("cpu", Value::Word(identity.cpu())),
+        ("stripped", optional_flag(identity.is_stripped())),
     ]
 }
 
-/// Adds the fields of a file's name, of its format and of its GUID.
+/// Adds the fields of a file's name, of its format and of its "guid".
 fn show_guid(line: &mut Line, name: Option<&str>, guid: &str)
     ensures { AddsRow [] line.old line.new }
 {
-    line.field(NAME, optional_text(name.map(RawString::from)));
-    line.field(FORMAT, Value::Word("MSF 7.00"));
-    line.field(GUID, Value::Text(RawString::from(guid)));
+    line.field("name", optional_text(name.map(RawString::from)));
+    line.field("format", Value::Word("MSF 7.00"));
+    line.field("guid", Value::Text(RawString::from(guid)));
 }
 
-/// Adds the fields of all that identifies a file, with the text of its GUID.
+/// Adds the fields of all that identifies a file, with the text of its "guid".
 fn show_identity(
     alloc: Global,
     line: &mut Line,
@@ -241,7 +210,7 @@ fn show_identity(
     line.fields(&number_fields(identity));
     show_features(line, identity.features);
     line.fields(&machine_fields(identity));
-    line.made_text(KEY, key_bytes(alloc, identity.key()));
+    line.made_text("key", key_bytes(alloc, identity.key()));
 }
 
 /// Writes all that identifies a file as an object of JSON.
@@ -297,13 +266,11 @@ pub fn write_identity<W: Write>(
     }
 }
 
-/// Returns whether a word is the key of a file, in upper or in lower case.
+/// Returns whether a word is a key, in upper or in lower case.
 ///
 /// # Errors
 /// Fails if an allocation fails.
-pub fn is_key(alloc: Global, word: &str, identity: &Identity) -> Result<bool, AllocError>
-    ensures { IfOk result (λ is_key. IsTrue is_key ↔ IsKey word.now identity.now) }
-{
-    let key = key_text(alloc, identity.key())?;
+pub fn is_key(alloc: Global, word: &str, key: UpperKey) -> Result<bool, AllocError> {
+    let key = key_text(alloc, key)?;
     Ok(word.eq_ignore_ascii_case(&key))
 }

@@ -2,14 +2,12 @@
 
 #![tactic(auto, using(pdbdump_rows::proofs::lemmas::Line::adding, pdbdump_rows::proofs::lemmas::Rows::listing))]
 
-ghost use Rattle.std.specs.Prelude.{◌↔◌, [], IsTrue, IfOk};
+ghost use Rattle.std.specs.Prelude.{[]};
 ghost use Rattle.pdbdump_rows.specs.Line.{IsRow, AddsRow, WritesWhat};
 ghost use Rattle.pdbdump_rows.specs.Lines.{row_text};
-ghost use Rattle.pdbdump_tables.specs.Identity.{IsIdentity, IsKeyOf};
+ghost use Rattle.pdbdump_tables.specs.Identity.{IsIdentity};
 
-use crate::identity::{
-    AGE, CPU, FORMAT, GUID, KEY, KeyStyle, MACHINE, NAME, key_bytes, key_line, key_text,
-};
+use crate::identity::{KeyStyle, key_bytes, key_line};
 use pdb_base::{Error, RawString};
 use pdb_file::CodeView;
 use pdb_output::Output;
@@ -20,9 +18,9 @@ use std::io::Write;
 /// Returns the fields of the numbers that identify the database of an image.
 fn number_fields(image: &CodeView) -> [Field<'static>; 3] {
     [
-        (AGE, Value::Number(image.age as u64)),
-        (MACHINE, Value::Number(image.machine as u64)),
-        (CPU, Value::Word(image.cpu())),
+        ("age", Value::Number(image.age as u64)),
+        ("machine", Value::Number(image.machine as u64)),
+        ("cpu", Value::Word(image.cpu())),
     ]
 }
 
@@ -30,20 +28,20 @@ fn number_fields(image: &CodeView) -> [Field<'static>; 3] {
 fn show_path(line: &mut Line, name: &str, path: &[u8])
     ensures { AddsRow [] line.old line.new }
 {
-    line.field(NAME, Value::Text(RawString::from(name)));
-    line.field(FORMAT, Value::Word("PE"));
+    line.field("name", Value::Text(RawString::from(name)));
+    line.field("format", Value::Word("PE"));
     line.field("image", Value::Flag(true));
     line.field("path", Value::Text(RawString::from(path)));
 }
 
-/// Adds the fields of what an image says of its database, with the text of the GUID.
+/// Adds the fields of what an image says of its database, with the text of the "guid".
 fn show_image(alloc: Global, line: &mut Line, name: &str, image: &CodeView, guid: &str)
     ensures { AddsRow [] line.old line.new }
 {
     show_path(line, name, &image.path);
-    line.field(GUID, Value::Text(RawString::from(guid)));
+    line.field("guid", Value::Text(RawString::from(guid)));
     line.fields(&number_fields(image));
-    line.made_text(KEY, key_bytes(alloc, image.key()));
+    line.made_text("key", key_bytes(alloc, image.key()));
 }
 
 /// Writes what an image says of its database as an object of JSON.
@@ -97,15 +95,4 @@ pub fn write_image<W: Write>(
         Form::Text => write_key(alloc, style, name, image, out),
         Form::Json => write_object(alloc, name, image, out),
     }
-}
-
-/// Returns whether a word is the key of an image's database, in upper or in lower case.
-///
-/// # Errors
-/// Fails if an allocation fails.
-pub fn is_key_of_image(alloc: Global, word: &str, image: &CodeView) -> Result<bool, AllocError>
-    ensures { IfOk result (λ is_key. IsTrue is_key ↔ IsKeyOf image.now.guid image.now.age word.now) }
-{
-    let key = key_text(alloc, image.key())?;
-    Ok(word.eq_ignore_ascii_case(&key))
 }

@@ -7,7 +7,7 @@ ghost use Rattle.pdbdump_rows.specs.Line.{IsRow, AddsRow, WritesWhat};
 ghost use Rattle.pdbdump_rows.specs.Lines.{row_text};
 ghost use Rattle.pdbdump_tables.specs.Identity.{IsIdentity};
 
-use crate::identity::{KEY, key_bytes};
+use crate::identity::key_bytes;
 use pdb_base::{Error, RawString};
 use pdb_file::{CodeView, Identity};
 use pdb_output::Output;
@@ -54,7 +54,7 @@ fn show_match(alloc: Global, line: &mut Line, pair: &Pair<'_>)
     line.field("file", Value::Text(RawString::from(pair.path)));
     line.field("image", Value::Text(RawString::from(pair.image_path)));
     line.field("belongs", Value::Flag(pair.image.is_of(pair.identity)));
-    line.made_text(KEY, key_bytes(alloc, pair.identity.key()));
+    line.made_text("key", key_bytes(alloc, pair.identity.key()));
     line.made_text("image_key", key_bytes(alloc, pair.image.key()));
 }
 

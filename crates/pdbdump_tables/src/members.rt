@@ -1,14 +1,10 @@
 //! The members of a type: the fields of a class, a union or an enumeration, through all lists that
 //! hold them, and the methods of a list.
 
-ghost use Rattle.std.specs.Prelude.{◌≡◌, []};
-ghost use Rattle.std.specs.Option.{option_map};
-ghost use Rattle.pdb_values.specs.TypeView.{type_value};
-ghost use Rattle.pdbdump_rows.specs.Line.{AddsText, IsRow, AddsRow};
+ghost use Rattle.std.specs.Prelude.{[], OnOk};
+ghost use Rattle.pdbdump_rows.specs.Line.{AddsRow, AddsText, HasText, IsRow};
 ghost use Rattle.pdbdump_rows.specs.Lines.{row_text};
 ghost use Rattle.pdbdump_rows.specs.Rows.{AreLines};
-ghost use Rattle.pdbdump_tables.specs.Listed.{Pushes};
-ghost use Rattle.pdbdump_tables.specs.Records.{fields_end, list_of_fields, members_end};
 
 use pdb_base::{Result, TypeIndex};
 use pdb_tpi::OpenTable;
@@ -101,7 +97,6 @@ fn push_methods(
 }
 
 /// Appends a line for each field of a list and of the lists in which it continues.
-#[tactic(auto, unfolding(crate::specs::Records::fields_end))]
 fn push_list(
     alloc: Global,
     form: Form,
@@ -111,7 +106,7 @@ fn push_list(
     line: &mut Line,
     lines: &mut Vec<u8>,
 ) -> Result<()>
-    ensures { Pushes form result lines.old.items lines.new.items (fields_end types.now.table list.0) }
+    ensures { OnOk result (HasText (AreLines form) lines.old.items lines.new.items) }
 {
     let fields = types.fields(alloc, list)?;
     push_entries(form, fields.as_slice(), underlying_type, line, lines)?;
@@ -120,9 +115,7 @@ fn push_list(
 
 /// Returns the list in which the fields of a type begin: the type itself if it is a list of fields,
 /// or the list that a class, a union or an enumeration names.
-pub(crate) fn list_of_fields(index: TypeIndex, value: &TypeData<'_>) -> Option<TypeIndex>
-    ensures { option_map (λ list. list.0) result ≡ list_of_fields index.0 (type_value value.now) }
-{
+pub(crate) fn list_of_fields(index: TypeIndex, value: &TypeData<'_>) -> Option<TypeIndex> {
     match value {
         TypeData::Class(class) => class.fields,
         TypeData::Union(union_type) => Some(union_type.fields),
@@ -154,8 +147,7 @@ pub(crate) fn push_members(
     line: &mut Line,
     lines: &mut Vec<u8>,
 ) -> Result<()>
-    ensures { Pushes form result lines.old.items lines.new.items
-        (members_end types.now.table index.0 (type_value value.now)) }
+    ensures { OnOk result (HasText (AreLines form) lines.old.items lines.new.items) }
 {
     if let TypeData::MethodList(list) = value {
         return push_methods(form, &list.methods, line, lines);

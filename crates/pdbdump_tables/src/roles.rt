@@ -1,45 +1,78 @@
-//! The role of a stream.
+//! The roles of streams.
 
 use crate::headers::Headers;
 use pdb_base::StreamIndex;
 use pdb_file::{DBIExtraStreams, DBIHeader};
 use pdb_tpi::Header;
 
+/// The roles of streams 1 to 4.
+const FIXED_ROLES: [&str; 4] = ["pdb_information", "types", "debug_information", "ids"];
+
+/// The roles that the debug header gives, in the order of `listed_streams`.
+const LISTED_ROLES: [&str; 11] = [
+    "fpo",
+    "exception",
+    "fixup",
+    "omap_to_src",
+    "omap_from_src",
+    "section_headers",
+    "token_rid_map",
+    "xdata",
+    "pdata",
+    "framedata",
+    "original_section_headers",
+];
+
+/// Returns the streams to which the debug header gives roles.
+fn listed_streams(streams: &DBIExtraStreams) -> [StreamIndex; 11] {
+    [
+        streams.fpo,
+        streams.exception,
+        streams.fixup,
+        streams.omap_to_src,
+        streams.omap_from_src,
+        streams.section_headers,
+        streams.token_rid_map,
+        streams.xdata,
+        streams.pdata,
+        streams.framedata,
+        streams.original_section_headers,
+    ]
+}
+
+/// Returns the place of a role among others.
+fn place_of(word: &str, roles: &[&str]) -> Option<usize> {
+    roles.iter().position(|role| *role == word)
+}
+
+/// Returns the number of the stream whose role is fixed, if the word is that of such a role.
+pub(crate) fn fixed_stream(word: &str) -> Option<u32> {
+    let place = place_of(word, &FIXED_ROLES)?;
+    u32::try_from(place).ok()?.checked_add(1)
+}
+
+/// Returns whether a word is that of a role that the debug header gives.
+pub(crate) fn is_listed_role(word: &str) -> bool {
+    place_of(word, &LISTED_ROLES).is_some()
+}
+
+/// Returns the stream to which the debug header gives a role.
+pub(crate) fn listed_stream(streams: &DBIExtraStreams, word: &str) -> Option<StreamIndex> {
+    let place = place_of(word, &LISTED_ROLES)?;
+    listed_streams(streams).get(place).copied()
+}
+
 /// Returns whether an index names the stream with this number.
 fn is_of(index: StreamIndex, number: u32) -> bool {
-    match index.msf_number() {
-        Some(named) => named == number,
-        None => false,
-    }
+    index.msf_number() == Some(number)
 }
 
 /// Returns the role that the debug header gives a stream, the first one if it gives several.
-fn listed_role(roles: &DBIExtraStreams, number: u32) -> Option<&'static str> {
-    if is_of(roles.fpo, number) {
-        Some("fpo")
-    } else if is_of(roles.exception, number) {
-        Some("exception")
-    } else if is_of(roles.fixup, number) {
-        Some("fixup")
-    } else if is_of(roles.omap_to_src, number) {
-        Some("omap_to_src")
-    } else if is_of(roles.omap_from_src, number) {
-        Some("omap_from_src")
-    } else if is_of(roles.section_headers, number) {
-        Some("section_headers")
-    } else if is_of(roles.token_rid_map, number) {
-        Some("token_rid_map")
-    } else if is_of(roles.xdata, number) {
-        Some("xdata")
-    } else if is_of(roles.pdata, number) {
-        Some("pdata")
-    } else if is_of(roles.framedata, number) {
-        Some("framedata")
-    } else if is_of(roles.original_section_headers, number) {
-        Some("original_section_headers")
-    } else {
-        None
-    }
+fn listed_role(streams: &DBIExtraStreams, number: u32) -> Option<&'static str> {
+    let place = listed_streams(streams)
+        .iter()
+        .position(|index| is_of(*index, number))?;
+    LISTED_ROLES.get(place).copied()
 }
 
 /// Returns the role that the header of the stream of debug information gives a stream.
@@ -89,23 +122,14 @@ fn header_role(headers: &Headers, number: u32) -> Option<&'static str> {
 
 /// Returns the role of a stream whose role is fixed.
 pub(crate) fn fixed_role(number: u32) -> Option<&'static str> {
-    match number {
-        1 => Some("pdb_information"),
-        2 => Some("types"),
-        3 => Some("debug_information"),
-        4 => Some("ids"),
-        _ => None,
-    }
+    let place = number.checked_sub(1)?;
+    FIXED_ROLES.get(place as usize).copied()
 }
 
 /// Returns the role of a stream, if it has one. The roles of streams 1 to 4 are fixed, and the
 /// debug header and other headers give those of others.
-pub fn role_of(roles: &DBIExtraStreams, headers: &Headers, number: u32) -> Option<&'static str> {
-    if let Some(role) = fixed_role(number) {
-        return Some(role);
-    }
-    match listed_role(roles, number) {
-        Some(role) => Some(role),
-        None => header_role(headers, number),
-    }
+pub fn role_of(streams: &DBIExtraStreams, headers: &Headers, number: u32) -> Option<&'static str> {
+    fixed_role(number)
+        .or(listed_role(streams, number))
+        .or(header_role(headers, number))
 }

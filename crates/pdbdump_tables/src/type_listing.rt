@@ -1,35 +1,21 @@
 //! Types in full.
 
-ghost use Rattle.std.specs.Prelude.{Ok, ◌≡◌, IfOk};
-ghost use Rattle.pdb_base.specs.Memory.{FailsOnlyForMemory};
-ghost use Rattle.pdb_values.specs.TypeView.{type_value};
 ghost use Rattle.pdbdump_rows.specs.Line.{EndsRow, indexed};
 ghost use Rattle.pdbdump_rows.specs.Lines.{full_text};
-ghost use Rattle.pdbdump_tables.specs.Records.{members_end, type_shown, type_shown_in};
 ghost use Rattle.pdbdump_tables.specs.Listed.{IsShown};
 
 use crate::members::push_members;
 use crate::refused_record::write_unread;
 use crate::shown_texts::texts_of;
-use pdb_base::{Error, Result, Stream, TypeIndex};
+use pdb_base::{Result, Stream, TypeIndex};
 use pdb_output::Output;
-use pdb_tpi::{OpenTable, TypeInformation};
+use pdb_tpi::OpenTable;
 use pdb_values::TypeData;
 use pdbdump_rows::{Form, Line, show_type};
+use pdbdump_types::learn_table;
 use std::alloc::{AllocError, Global};
 use std::io::Write;
 use std::result;
-
-/// Opens a table for look-ups of all its types.
-fn open_table(alloc: Global, table: TypeInformation) -> Result<OpenTable<TypeIndex>>
-    ensures table { IfOk result (λ types. types.table ≡ table) }
-    ensures memory { FailsOnlyForMemory result }
-{
-    let last = table.header().maximum_index.saturating_sub(1);
-    let mut types = OpenTable::new(alloc, table)?;
-    types.learn(TypeIndex(last));
-    Ok(types)
-}
 
 /// Makes the text of a type in full.
 #[tactic(auto, using(pdbdump_rows::proofs::lemmas::Line::showing))]
@@ -49,6 +35,7 @@ fn make_full(
 
 /// Writes a type of a table in full, with the texts of the types to which it refers, and then a line
 /// for each of its members.
+#[tactic(auto, using(crate::proofs::ShownLemmas::unshown))]
 fn write_value<W: Write>(
     alloc: Global,
     types: &OpenTable<TypeIndex>,
@@ -58,8 +45,7 @@ fn write_value<W: Write>(
     form: Form,
     out: &mut Output<W>,
 ) -> Result<()>
-    ensures { IsShown form index (Ok (members_end types.now.table index (type_value value.now)))
-        out.old out.new result }
+    ensures { IsShown form index out.old out.new result }
 {
     let mut line = Line::new(alloc);
     line.show_texts(texts_of(alloc, types, TypeIndex(index), value, form)?);
@@ -81,7 +67,7 @@ fn write_value<W: Write>(
 
 /// Looks up the type of an index in the table of a stream and writes it in full, and then a line for
 /// each of its members.
-#[tactic(auto, using(crate::proofs::ShownLemmas::type_refused))]
+#[tactic(auto, using(crate::proofs::ShownLemmas::unshown))]
 fn write_type<W: Write>(
     alloc: Global,
     types: &OpenTable<TypeIndex>,
@@ -90,12 +76,11 @@ fn write_type<W: Write>(
     form: Form,
     out: &mut Output<W>,
 ) -> Result<()>
-    ensures { IsShown form index (type_shown index types.now.table) out.old out.new result }
+    ensures { IsShown form index out.old out.new result }
 {
     let item = types.item(TypeIndex(index))?;
     match item.parse(alloc) {
         Ok(value) => write_value(alloc, types, index, item.raw_kind(), &value, form, out),
-        Err(Error::OutOfMemory) => Err(Error::OutOfMemory),
         Err(fault) => write_unread(alloc, types, stream, &item, fault, form, out),
     }
 }
@@ -110,6 +95,7 @@ fn write_type<W: Write>(
 /// the record, after a text that says so and where the record is; with the error of the lists of
 /// fields, after the type itself; with `IoError` if the writer fails,
 /// after a prefix of what is meant to be written; and with `OutOfMemory` if an allocation fails.
+#[tactic(auto, using(crate::proofs::ShownLemmas::unshown))]
 pub fn type_at<W: Write>(
     alloc: Global,
     stream: Stream,
@@ -118,9 +104,8 @@ pub fn type_at<W: Write>(
     form: Form,
     out: &mut Output<W>,
 ) -> Result<()>
-    ensures { IsShown form index (type_shown_in index stream) out.old out.new result }
+    ensures { IsShown form index out.old out.new result }
 {
-    let table = TypeInformation::parse(stream)?;
-    let types = open_table(alloc, table)?;
+    let types = learn_table(alloc, stream)?;
     write_type(alloc, &types, number, index, form, out)
 }

@@ -1,2 +1,1 @@
-pub mod Pattern
 pub mod Shown

@@ -10,7 +10,6 @@ mod defined;
 mod enumerators;
 mod field_text;
 mod letter_case;
-pub mod names;
 mod object;
 mod object_buffer;
 mod pattern;

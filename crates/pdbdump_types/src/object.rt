@@ -2,14 +2,12 @@
 
 use crate::enumerators::Enumerator;
 use crate::field_text::bit_field_text;
-use crate::names::{BIT, BITS, CUT, DECLARATION, DEPTH, TYPE, TYPE_INDEX, VIRTUAL_BASE};
 use crate::object_buffer::ObjectBuffer;
 use crate::shown_gap::{GapRole, gap_place};
 use crate::table::Table;
 use crate::text_allowance::TextAllowance;
 use pdb_base::{RawString, Result};
 use pdb_types::{Extent, FieldKind, Gap, LayoutField, TypeText};
-use pdbdump_rows::names::{DIRECT, KIND, NAME, OFFSET, POSITION, SIZE, VALUE};
 use pdbdump_rows::{Value, optional_text};
 
 /// Returns the word for what a field is.
@@ -34,10 +32,10 @@ fn role_name<'t>(kind: &FieldKind<'t>) -> Option<RawString<'t>> {
 /// and how many it has.
 fn show_extent(object: &mut ObjectBuffer, extent: &Extent) {
     match extent {
-        Extent::Bytes(size) => object.field(SIZE, Value::Number(*size)),
+        Extent::Bytes(size) => object.field("size", Value::Number(*size)),
         Extent::Bits(bits) => {
-            object.field(BIT, Value::Number(bits.position as u64));
-            object.field(BITS, Value::Number(bits.length as u64));
+            object.field("bit", Value::Number(bits.position as u64));
+            object.field("bits", Value::Number(bits.length as u64));
         }
         Extent::Unknown => {}
     }
@@ -47,9 +45,9 @@ fn show_extent(object: &mut ObjectBuffer, extent: &Extent) {
 /// names it, and its position in the table of virtual bases.
 fn show_virtual_base(object: &mut ObjectBuffer, kind: &FieldKind<'_>) {
     if let FieldKind::VirtualBasePointer(base) = kind {
-        object.field(VIRTUAL_BASE, Value::Hexadecimal(base.base_class.0));
-        object.field(DIRECT, Value::Flag(base.direct));
-        object.field(POSITION, Value::Number(base.position as u64));
+        object.field("virtual_base", Value::Hexadecimal(base.base_class.0));
+        object.field("direct", Value::Flag(base.direct));
+        object.field("position", Value::Number(base.position as u64));
     }
 }
 
@@ -76,24 +74,24 @@ pub fn show_field(
     texts: FieldTexts<'_>,
 ) {
     let kind = &part.place.kind;
-    object.field(KIND, Value::Word(role_word(kind)));
-    object.field(DEPTH, Value::Number(depth as u64));
-    object.field(NAME, optional_text(role_name(kind)));
-    object.field(TYPE_INDEX, Value::Hexadecimal(part.place.field_type.0));
-    object.text(TYPE, texts.type_text);
-    object.text(DECLARATION, texts.declaration);
+    object.field("kind", Value::Word(role_word(kind)));
+    object.field("depth", Value::Number(depth as u64));
+    object.field("name", optional_text(role_name(kind)));
+    object.field("type_index", Value::Hexadecimal(part.place.field_type.0));
+    object.text("type", texts.type_text);
+    object.text("declaration", texts.declaration);
     if texts.is_cut {
-        object.field(CUT, Value::Flag(true));
+        object.field("cut", Value::Flag(true));
     }
-    object.field(OFFSET, Value::Number(offset));
+    object.field("offset", Value::Number(offset));
     show_extent(object, &part.extent);
     show_virtual_base(object, kind);
 }
 
 /// Adds what the object of an enumerator holds.
 pub fn show_enumerator(object: &mut ObjectBuffer, enumerator: &Enumerator<'_>) {
-    object.field(KIND, Value::Word("enumerator"));
-    object.field(NAME, Value::Text(enumerator.name));
+    object.field("kind", Value::Word("enumerator"));
+    object.field("name", Value::Text(enumerator.name));
     let value = match u64::try_from(enumerator.value) {
         Ok(number) => Value::Number(number),
         Err(_) => match i64::try_from(enumerator.value) {
@@ -101,7 +99,7 @@ pub fn show_enumerator(object: &mut ObjectBuffer, enumerator: &Enumerator<'_>) {
             Err(_) => Value::Absent,
         },
     };
-    object.field(VALUE, value);
+    object.field("value", value);
 }
 
 /// Returns the word for what a gap is.
@@ -118,14 +116,14 @@ fn gap_word(role: GapRole) -> &'static str {
 /// shown, and is so deep in it.
 pub fn show_gap(object: &mut ObjectBuffer, depth: u32, start: u64, gap: &Gap, role: GapRole) {
     let place = gap_place(start, gap);
-    object.field(KIND, Value::Word(gap_word(role)));
-    object.field(DEPTH, Value::Number(depth as u64));
-    object.field(OFFSET, Value::Number(place.offset));
+    object.field("kind", Value::Word(gap_word(role)));
+    object.field("depth", Value::Number(depth as u64));
+    object.field("offset", Value::Number(place.offset));
     if role == GapRole::UnusedBits {
-        object.field(BIT, Value::Number(place.bit));
-        object.field(BITS, Value::Number(place.bits));
+        object.field("bit", Value::Number(place.bit));
+        object.field("bits", Value::Number(place.bits));
     } else {
-        object.field(SIZE, Value::Number(place.bytes));
+        object.field("size", Value::Number(place.bytes));
     }
 }
 

@@ -1,8 +1,7 @@
 //! How far definitions are shown, and what is reported of those that can't be.
 
 ghost use Rattle.std.specs.Prelude.{◌≡◌, false, true, OnOk};
-ghost use Rattle.pdb_base.specs.Memory.{FailsOnlyForMemory};
-ghost use Rattle.pdbdump_types.specs.Shown.{IsStopped, StaysAccounted};
+ghost use Rattle.pdbdump_types.specs.Shown.{StaysAccounted};
 
 use crate::allowance::Allowance;
 use crate::classes::records_of;
@@ -89,7 +88,6 @@ pub fn tell<E: Write>(
     ensures accounted { OnOk result (StaysAccounted progress.old progress.new err.old err.new) }
     ensures told { OnOk result (progress.new.is_whole ≡ false) }
     ensures shown { progress.new.has_shown ≡ progress.old.has_shown }
-    ensures memory { FailsOnlyForMemory result }
 {
     let mut line = TextBuffer::new(alloc);
     line.push_escaped(what);
@@ -115,7 +113,6 @@ pub fn tell_index<E: Write>(
 ) -> Result<(), Error>
     ensures accounted { OnOk result (StaysAccounted progress.old progress.new err.old err.new) }
     ensures told { OnOk result (progress.new.is_whole ≡ false) }
-    ensures memory { FailsOnlyForMemory result }
 {
     let number = index.0;
     let what = format!(in alloc; "0x{number:x}")?;
@@ -135,7 +132,6 @@ pub fn tell_fault<E: Write>(
 ) -> Result<(), Error>
     ensures accounted { OnOk result (StaysAccounted progress.old progress.new err.old err.new) }
     ensures told { OnOk result (progress.new.is_whole ≡ false) }
-    ensures memory { FailsOnlyForMemory result }
 {
     match fault {
         Error::OutOfMemory => Err(Error::OutOfMemory),
@@ -163,7 +159,6 @@ pub fn write_layout<O: Write>(
 ) -> Result<(), Error>
     ensures whole { progress.new.is_whole ≡ progress.old.is_whole }
     ensures shown { OnOk result (progress.new.has_shown ≡ true) }
-    ensures stopped { IsStopped out.new result }
 {
     out.write(separator(form, progress.has_shown))?;
     progress.has_shown = true;

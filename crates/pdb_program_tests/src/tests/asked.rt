@@ -12,16 +12,22 @@ use std::io;
 use std::io::{BufWriter, ErrorKind, Read, Write};
 use std::test::Fail;
 
-/// Questions, of which so many bytes are read at a time, and whether a read fails in the end.
+/// Questions, of which so many bytes are read at a time, whether the last read was interrupted, as
+/// each other read is, and whether a read fails in the end.
 #[derive(Drop)]
 struct Questions<'t> {
     bytes: &'t [u8],
     at_once: usize,
+    was_interrupted: bool,
     is_failing: bool,
 }
 
 impl Read for Questions<'_> {
     fn read(&mut self, room: &mut [u8]) -> io::Result<usize> {
+        self.was_interrupted = !self.was_interrupted;
+        if self.was_interrupted {
+            return Err(io::Error::from(ErrorKind::Interrupted));
+        }
         if self.bytes.is_empty() && self.is_failing {
             return Err(io::Error::from(ErrorKind::PermissionDenied));
         }
@@ -56,6 +62,7 @@ fn answers(alloc: Global, row: &Asked, at_once: usize) -> Result<bool> {
     let mut questions = Questions {
         bytes,
         at_once,
+        was_interrupted: false,
         is_failing: false,
     };
     let mut out = Output::new(Vec::new(alloc));
@@ -102,6 +109,7 @@ fn unread_questions(rt: HostRuntime) -> std::result::Result<(), Fail> {
     let mut questions = Questions {
         bytes: b"stream 3 1\nstream 3 2\nstream 3",
         at_once: 4,
+        was_interrupted: false,
         is_failing: true,
     };
     let mut out = Output::new(Vec::new(rt.alloc()));

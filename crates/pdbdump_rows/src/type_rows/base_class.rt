@@ -6,11 +6,7 @@ ghost use Rattle.std.specs.Prelude.{[]};
 ghost use Rattle.pdbdump_rows.specs.Line.{AddsRow};
 
 use crate::line::Line;
-use crate::names::{
-    ACCESS, ATTRIBUTES, BASE_CLASS, BASE_POINTER, BASE_POINTER_OFFSET, DIRECT, OFFSET, TABLE,
-    VIRTUAL_BASE_OFFSET,
-};
-use crate::type_fields::show_type_field;
+use crate::type_fields::{BASE_CLASS, BASE_POINTER, show_type_field};
 use crate::value::{Value, optional_word, type_index};
 use crate::words::{access_word, field_flags};
 use pdb_values::{BaseClassType, VirtualBaseClassType, VirtualFunctionTablePointerType};
@@ -20,10 +16,10 @@ pub(crate) fn show_base_class(line: &mut Line, base: BaseClassType)
     ensures { AddsRow [] line.old line.new }
 {
     let attributes = field_flags(base.attributes);
-    line.field(ACCESS, optional_word(access_word(base.attributes)));
-    line.field(ATTRIBUTES, Value::Words(&attributes));
+    line.field("access", optional_word(access_word(base.attributes)));
+    line.field("attributes", Value::Words(&attributes));
     show_type_field(line, BASE_CLASS, base.base_class);
-    line.field(OFFSET, Value::Number(base.offset as u64));
+    line.field("offset", Value::Number(base.offset as u64));
 }
 
 /// Adds the fields of a virtual base class.
@@ -32,19 +28,19 @@ pub(crate) fn show_virtual_base(line: &mut Line, base: VirtualBaseClassType)
 {
     let attributes = field_flags(base.attributes);
     line.fields(&[
-        (DIRECT, Value::Flag(base.direct)),
-        (ACCESS, optional_word(access_word(base.attributes))),
+        ("direct", Value::Flag(base.direct)),
+        ("access", optional_word(access_word(base.attributes))),
     ]);
-    line.field(ATTRIBUTES, Value::Words(&attributes));
+    line.field("attributes", Value::Words(&attributes));
     show_type_field(line, BASE_CLASS, base.base_class);
     show_type_field(line, BASE_POINTER, base.base_pointer);
     line.fields(&[
         (
-            BASE_POINTER_OFFSET,
+            "base_pointer_offset",
             Value::Number(base.base_pointer_offset as u64),
         ),
         (
-            VIRTUAL_BASE_OFFSET,
+            "virtual_base_offset",
             Value::Number(base.virtual_base_offset as u64),
         ),
     ]);
@@ -54,5 +50,5 @@ pub(crate) fn show_virtual_base(line: &mut Line, base: VirtualBaseClassType)
 pub(crate) fn show_table_pointer(line: &mut Line, pointer: VirtualFunctionTablePointerType)
     ensures { AddsRow [] line.old line.new }
 {
-    line.field(TABLE, type_index(pointer.table));
+    line.field("table", type_index(pointer.table));
 }

@@ -6,11 +6,7 @@ ghost use Rattle.std.specs.Prelude.{[]};
 ghost use Rattle.pdbdump_rows.specs.Line.{AddsRow};
 
 use crate::line::Line;
-use crate::names::{
-    ACCESS, ATTRIBUTES, COUNT, FIELDS, HFA, MOCOM, NAME, PROPERTIES, UNDERLYING_TYPE, UNIQUE_NAME,
-    VALUE,
-};
-use crate::type_fields::show_type_field;
+use crate::type_fields::{UNDERLYING_TYPE, show_type_field};
 use crate::value::{Value, nonzero, optional_text, optional_word, type_index};
 use crate::words::{access_word, field_flags, property_flags};
 use pdb_base::Variant;
@@ -21,19 +17,19 @@ pub(crate) fn show_enumeration(line: &mut Line, enumeration: &EnumerationType<'_
     ensures { AddsRow [] line.old line.new }
 {
     line.fields(&[
-        (NAME, Value::Text(enumeration.name)),
-        (COUNT, Value::Number(enumeration.count as u64)),
+        ("name", Value::Text(enumeration.name)),
+        ("count", Value::Number(enumeration.count as u64)),
     ]);
     line.field(
-        PROPERTIES,
+        "properties",
         Value::Words(&property_flags(enumeration.properties)),
     );
-    line.field(HFA, nonzero(enumeration.properties.hfa()));
-    line.field(MOCOM, nonzero(enumeration.properties.mocom()));
+    line.field("hfa", nonzero(enumeration.properties.hfa()));
+    line.field("mocom", nonzero(enumeration.properties.mocom()));
     show_type_field(line, UNDERLYING_TYPE, enumeration.underlying_type);
     line.fields(&[
-        (FIELDS, type_index(enumeration.fields)),
-        (UNIQUE_NAME, optional_text(enumeration.unique_name)),
+        ("fields", type_index(enumeration.fields)),
+        ("unique_name", optional_text(enumeration.unique_name)),
     ]);
 }
 
@@ -56,9 +52,9 @@ pub(crate) fn show_enumerate(line: &mut Line, value: &EnumerateType<'_>)
     ensures { AddsRow [] line.old line.new }
 {
     line.fields(&[
-        (NAME, Value::Text(value.name)),
-        (ACCESS, optional_word(access_word(value.attributes))),
+        ("name", Value::Text(value.name)),
+        ("access", optional_word(access_word(value.attributes))),
     ]);
-    line.field(ATTRIBUTES, Value::Words(&field_flags(value.attributes)));
-    line.field(VALUE, variant(value.value));
+    line.field("attributes", Value::Words(&field_flags(value.attributes)));
+    line.field("value", variant(value.value));
 }

@@ -6,11 +6,9 @@ ghost use Rattle.std.specs.Prelude.{[]};
 ghost use Rattle.pdbdump_rows.specs.Line.{AddsRow};
 
 use crate::line::Line;
-use crate::names::{
-    ARGUMENT_LIST, ATTRIBUTES, CALLING_CONVENTION, CLASS_TYPE, PARAMETER_COUNT, RETURN_TYPE,
-    THIS_ADJUSTMENT, THIS_POINTER_TYPE,
+use crate::type_fields::{
+    CLASS_TYPE, RETURN_TYPE, THIS_POINTER_TYPE, show_optional_type, show_type_field,
 };
-use crate::type_fields::{show_optional_type, show_type_field};
 use crate::value::{Value, type_index};
 use crate::words::function_flags;
 use pdb_values::{MemberFunctionType, ProcedureType};
@@ -21,17 +19,17 @@ pub(crate) fn show_procedure(line: &mut Line, procedure: ProcedureType)
 {
     let convention = procedure.attributes.calling_convention();
     show_optional_type(line, RETURN_TYPE, procedure.return_type);
-    line.field(CALLING_CONVENTION, Value::Number(convention as u64));
+    line.field("calling_convention", Value::Number(convention as u64));
     line.field(
-        ATTRIBUTES,
+        "attributes",
         Value::Words(&function_flags(procedure.attributes)),
     );
     line.fields(&[
         (
-            PARAMETER_COUNT,
+            "parameter_count",
             Value::Number(procedure.parameter_count as u64),
         ),
-        (ARGUMENT_LIST, type_index(procedure.argument_list)),
+        ("argument_list", type_index(procedure.argument_list)),
     ]);
 }
 
@@ -43,19 +41,19 @@ pub(crate) fn show_member_function(line: &mut Line, function: MemberFunctionType
     show_type_field(line, RETURN_TYPE, function.return_type);
     show_type_field(line, CLASS_TYPE, function.class_type);
     show_optional_type(line, THIS_POINTER_TYPE, function.this_pointer_type);
-    line.field(CALLING_CONVENTION, Value::Number(convention as u64));
+    line.field("calling_convention", Value::Number(convention as u64));
     line.field(
-        ATTRIBUTES,
+        "attributes",
         Value::Words(&function_flags(function.attributes)),
     );
     line.fields(&[
         (
-            PARAMETER_COUNT,
+            "parameter_count",
             Value::Number(function.parameter_count as u64),
         ),
-        (ARGUMENT_LIST, type_index(function.argument_list)),
+        ("argument_list", type_index(function.argument_list)),
         (
-            THIS_ADJUSTMENT,
+            "this_adjustment",
             Value::Number(function.this_adjustment as u64),
         ),
     ]);

@@ -7,11 +7,7 @@ ghost use Rattle.pdbdump_rows.specs.Line.{AddsRow};
 
 use crate::line::Line;
 use crate::lists::{byte_numbers, method_numbers};
-use crate::names::{
-    ARGUMENTS, CONTINUATION, COUNT, DESCRIPTORS, DIMENSIONS, ELEMENT_TYPE, INDEXING_TYPE, METHODS,
-    STRIDE,
-};
-use crate::type_fields::{show_type_field, show_type_list};
+use crate::type_fields::{ELEMENT_TYPE, INDEXING_TYPE, show_type_field, show_type_list};
 use crate::value::{Value, optional_number, optional_type};
 use pdb_values::{ArgumentList, ArrayType, FieldList, MethodList, VirtualTableShapeType};
 
@@ -22,8 +18,8 @@ pub(crate) fn show_array(line: &mut Line, array: &ArrayType)
     show_type_field(line, ELEMENT_TYPE, array.element_type);
     show_type_field(line, INDEXING_TYPE, array.indexing_type);
     line.fields(&[
-        (STRIDE, optional_number(array.stride)),
-        (DIMENSIONS, Value::Numbers(&array.dimensions)),
+        ("stride", optional_number(array.stride)),
+        ("dimensions", Value::Numbers(&array.dimensions)),
     ]);
 }
 
@@ -32,8 +28,8 @@ pub(crate) fn show_field_list(line: &mut Line, list: &FieldList<'_>)
     ensures { AddsRow [] line.old line.new }
 {
     line.fields(&[
-        (COUNT, Value::Number(list.fields.as_slice().len() as u64)),
-        (CONTINUATION, optional_type(list.continuation)),
+        ("count", Value::Number(list.fields.as_slice().len() as u64)),
+        ("continuation", optional_type(list.continuation)),
     ]);
 }
 
@@ -41,7 +37,7 @@ pub(crate) fn show_field_list(line: &mut Line, list: &FieldList<'_>)
 pub(crate) fn show_argument_list(line: &mut Line, list: &ArgumentList)
     ensures { AddsRow [] line.old line.new }
 {
-    show_type_list(line, ARGUMENTS, &list.arguments)
+    show_type_list(line, "arguments", &list.arguments)
 }
 
 /// Adds the fields of a list of methods.
@@ -49,16 +45,16 @@ pub(crate) fn show_method_list(line: &mut Line, list: &MethodList)
     ensures { AddsRow [] line.old line.new }
 {
     let methods = list.methods.as_slice();
-    line.field(COUNT, Value::Number(methods.len() as u64));
+    line.field("count", Value::Number(methods.len() as u64));
     let alloc = line.alloc;
-    line.indexes(METHODS, method_numbers(alloc, methods));
+    line.indexes("methods", method_numbers(alloc, methods));
 }
 
 /// Adds the fields of the shape of a table of virtual functions.
 pub(crate) fn show_table_shape(line: &mut Line, shape: VirtualTableShapeType<'_>)
     ensures { AddsRow [] line.old line.new }
 {
-    line.field(COUNT, Value::Number(shape.count as u64));
+    line.field("count", Value::Number(shape.count as u64));
     let alloc = line.alloc;
-    line.indexes(DESCRIPTORS, byte_numbers(alloc, shape.descriptors));
+    line.indexes("descriptors", byte_numbers(alloc, shape.descriptors));
 }

@@ -6,8 +6,7 @@ ghost use Rattle.std.specs.Prelude.{[]};
 ghost use Rattle.pdbdump_rows.specs.Line.{AddsRow};
 
 use crate::line::Line;
-use crate::names::{ACCESS, ATTRIBUTES, FIELD_TYPE, NAME, NESTED_TYPE, OFFSET};
-use crate::type_fields::show_type_field;
+use crate::type_fields::{FIELD_TYPE, NESTED_TYPE, show_type_field};
 use crate::value::{Value, optional_word};
 use crate::words::{access_word, field_flags};
 use pdb_values::{MemberType, NestedType, StaticMemberType};
@@ -17,12 +16,12 @@ pub(crate) fn show_member(line: &mut Line, member: &MemberType<'_>)
     ensures { AddsRow [] line.old line.new }
 {
     line.fields(&[
-        (NAME, Value::Text(member.name)),
-        (ACCESS, optional_word(access_word(member.attributes))),
+        ("name", Value::Text(member.name)),
+        ("access", optional_word(access_word(member.attributes))),
     ]);
-    line.field(ATTRIBUTES, Value::Words(&field_flags(member.attributes)));
+    line.field("attributes", Value::Words(&field_flags(member.attributes)));
     show_type_field(line, FIELD_TYPE, member.field_type);
-    line.field(OFFSET, Value::Number(member.offset));
+    line.field("offset", Value::Number(member.offset));
 }
 
 /// Adds the fields of a static data member.
@@ -30,10 +29,10 @@ pub(crate) fn show_static_member(line: &mut Line, member: &StaticMemberType<'_>)
     ensures { AddsRow [] line.old line.new }
 {
     line.fields(&[
-        (NAME, Value::Text(member.name)),
-        (ACCESS, optional_word(access_word(member.attributes))),
+        ("name", Value::Text(member.name)),
+        ("access", optional_word(access_word(member.attributes))),
     ]);
-    line.field(ATTRIBUTES, Value::Words(&field_flags(member.attributes)));
+    line.field("attributes", Value::Words(&field_flags(member.attributes)));
     show_type_field(line, FIELD_TYPE, member.field_type);
 }
 
@@ -42,9 +41,9 @@ pub(crate) fn show_nested(line: &mut Line, nested: &NestedType<'_>)
     ensures { AddsRow [] line.old line.new }
 {
     line.fields(&[
-        (NAME, Value::Text(nested.name)),
-        (ACCESS, optional_word(access_word(nested.attributes))),
+        ("name", Value::Text(nested.name)),
+        ("access", optional_word(access_word(nested.attributes))),
     ]);
-    line.field(ATTRIBUTES, Value::Words(&field_flags(nested.attributes)));
+    line.field("attributes", Value::Words(&field_flags(nested.attributes)));
     show_type_field(line, NESTED_TYPE, nested.nested_type);
 }

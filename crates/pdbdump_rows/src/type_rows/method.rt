@@ -6,8 +6,7 @@ ghost use Rattle.std.specs.Prelude.{[]};
 ghost use Rattle.pdbdump_rows.specs.Line.{AddsRow};
 
 use crate::line::Line;
-use crate::names::{ACCESS, ATTRIBUTES, COUNT, METHOD_LIST, METHOD_TYPE, NAME, VTABLE_OFFSET};
-use crate::type_fields::show_type_field;
+use crate::type_fields::{METHOD_TYPE, show_type_field};
 use crate::value::{Value, optional_number, optional_word, type_index};
 use crate::words::{access_word, field_flags};
 use pdb_values::{MethodListEntry, MethodType, OverloadedMethodType};
@@ -17,9 +16,9 @@ pub(crate) fn show_overloaded_method(line: &mut Line, methods: &OverloadedMethod
     ensures { AddsRow [] line.old line.new }
 {
     line.fields(&[
-        (NAME, Value::Text(methods.name)),
-        (COUNT, Value::Number(methods.count as u64)),
-        (METHOD_LIST, type_index(methods.method_list)),
+        ("name", Value::Text(methods.name)),
+        ("count", Value::Number(methods.count as u64)),
+        ("method_list", type_index(methods.method_list)),
     ]);
 }
 
@@ -28,12 +27,12 @@ pub(crate) fn show_method(line: &mut Line, method: &MethodType<'_>)
     ensures { AddsRow [] line.old line.new }
 {
     line.fields(&[
-        (NAME, Value::Text(method.name)),
-        (ACCESS, optional_word(access_word(method.attributes))),
+        ("name", Value::Text(method.name)),
+        ("access", optional_word(access_word(method.attributes))),
     ]);
-    line.field(ATTRIBUTES, Value::Words(&field_flags(method.attributes)));
+    line.field("attributes", Value::Words(&field_flags(method.attributes)));
     show_type_field(line, METHOD_TYPE, method.method_type);
-    line.field(VTABLE_OFFSET, optional_number(method.vtable_offset));
+    line.field("vtable_offset", optional_number(method.vtable_offset));
 }
 
 /// Adds the fields of one of the methods of a name.
@@ -41,8 +40,8 @@ pub fn show_listed_method(line: &mut Line, method: MethodListEntry)
     ensures { AddsRow [] line.old line.new }
 {
     let attributes = field_flags(method.attributes);
-    line.field(ACCESS, optional_word(access_word(method.attributes)));
-    line.field(ATTRIBUTES, Value::Words(&attributes));
+    line.field("access", optional_word(access_word(method.attributes)));
+    line.field("attributes", Value::Words(&attributes));
     show_type_field(line, METHOD_TYPE, method.method_type);
-    line.field(VTABLE_OFFSET, optional_number(method.vtable_offset));
+    line.field("vtable_offset", optional_number(method.vtable_offset));
 }

@@ -6,11 +6,7 @@ ghost use Rattle.std.specs.Prelude.{[]};
 ghost use Rattle.pdbdump_rows.specs.Line.{AddsRow};
 
 use crate::line::Line;
-use crate::names::{
-    ATTRIBUTES, CONTAINING_CLASS, LENGTH, MODIFIERS, POINTER_KIND, POINTER_MODE, POSITION, SIZE,
-    UNDERLYING_TYPE,
-};
-use crate::type_fields::{show_optional_type, show_type_field};
+use crate::type_fields::{CONTAINING_CLASS, UNDERLYING_TYPE, show_optional_type, show_type_field};
 use crate::value::Value;
 use crate::words::{kind_word, mode_word, modifier_flags, pointer_flags};
 use pdb_values::{BitfieldType, ModifierType, PointerType};
@@ -22,11 +18,11 @@ pub(crate) fn show_pointer(line: &mut Line, pointer: PointerType)
     let word = pointer.attributes;
     show_type_field(line, UNDERLYING_TYPE, pointer.underlying_type);
     line.fields(&[
-        (POINTER_KIND, Value::Word(kind_word(word.pointer_kind()))),
-        (POINTER_MODE, Value::Word(mode_word(word.pointer_mode()))),
+        ("pointer_kind", Value::Word(kind_word(word.pointer_kind()))),
+        ("pointer_mode", Value::Word(mode_word(word.pointer_mode()))),
     ]);
-    line.field(ATTRIBUTES, Value::Words(&pointer_flags(word)));
-    line.field(SIZE, Value::Number(word.size() as u64));
+    line.field("attributes", Value::Words(&pointer_flags(word)));
+    line.field("size", Value::Number(word.size() as u64));
     show_optional_type(line, CONTAINING_CLASS, pointer.containing_class);
 }
 
@@ -35,7 +31,7 @@ pub(crate) fn show_modifier(line: &mut Line, modifier: ModifierType)
     ensures { AddsRow [] line.old line.new }
 {
     show_type_field(line, UNDERLYING_TYPE, modifier.underlying_type);
-    line.field(MODIFIERS, Value::Words(&modifier_flags(modifier)));
+    line.field("modifiers", Value::Words(&modifier_flags(modifier)));
 }
 
 /// Adds the fields of a bit field, a member that takes some bits of its type.
@@ -44,7 +40,7 @@ pub(crate) fn show_bitfield(line: &mut Line, bitfield: BitfieldType)
 {
     show_type_field(line, UNDERLYING_TYPE, bitfield.underlying_type);
     line.fields(&[
-        (LENGTH, Value::Number(bitfield.length as u64)),
-        (POSITION, Value::Number(bitfield.position as u64)),
+        ("length", Value::Number(bitfield.length as u64)),
+        ("position", Value::Number(bitfield.position as u64)),
     ]);
 }

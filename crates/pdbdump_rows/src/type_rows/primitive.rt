@@ -6,7 +6,6 @@ ghost use Rattle.std.specs.Prelude.{[]};
 ghost use Rattle.pdbdump_rows.specs.Line.{AddsRow};
 
 use crate::line::Line;
-use crate::names::{INDIRECTION, PRIMITIVE_KIND};
 use crate::value::Value;
 use crate::words::{indirection_word, primitive_word};
 use pdb_values::{Indirection, PrimitiveType};
@@ -24,7 +23,10 @@ pub(crate) fn show_primitive(line: &mut Line, primitive: PrimitiveType)
     ensures { AddsRow [] line.old line.new }
 {
     line.fields(&[
-        (PRIMITIVE_KIND, Value::Word(primitive_word(primitive.kind))),
-        (INDIRECTION, indirection(primitive.indirection)),
+        (
+            "primitive_kind",
+            Value::Word(primitive_word(primitive.kind)),
+        ),
+        ("indirection", indirection(primitive.indirection)),
     ]);
 }

@@ -1,14 +1,9 @@
 -- Steps of showing layouts.
-use Rattle.std.proofs.Common.{◌≡◌, ◌⊎◌, ◌∙◌, ap, refl, inl, inr, subst, ℕ, Bool, true, false, List, Result, Ok, Err}
+use Rattle.std.proofs.Common.{◌≡◌, subst, ℕ, Bool, true, false, List, Result, Ok, Err}
 use Rattle.std.specs.Prelude.{OnOk}
-use Rattle.pdb_base.specs.Answer.{Answer, ◌>>=◌}
-use Rattle.pdb_base.specs.Refusal.{refusal_of}
 use Rattle.pdb_base.specs.declared.error.Error.{Error}
-use Rattle.pdb_base.specs.declared.error.Error.TheVariants.{OutOfMemory}
 use Rattle.pdb_output.specs.Output.{GetsUnlessFailed, OutputState}
-use Rattle.pdb_tpi.specs.Table.{Table, table_of}
-use Rattle.pdb_types.specs.Definition.{whole_table}
-use Rattle.pdbdump_types.specs.Shown.{Accounts, GetsMessages, IsShowResult}
+use Rattle.pdbdump_types.specs.Shown.{Accounts, GetsMessages}
 
 -- one message more
 pub reported : (start old new : OutputState) (message : List ℕ) (whole : Bool) → Accounts start old whole
@@ -30,16 +25,3 @@ pub accounted_then : (was mid is : Bool) (err err' err'' : OutputState) (result 
     → OnOk result ((start : OutputState) → Accounts start err was → Accounts start err'' is)
 accounted_then was mid is err err' err'' (Ok done) first next = λ start before. next start (first start before)
 accounted_then was mid is err err' err'' (Err e) first next = tt
-
--- faults of the table
-pub table_refused : (stream : List ℕ) (out err : OutputState) (e : Error)
-    → (table_of stream ≡ Err (refusal_of e)) ⊎ (e ≡ OutOfMemory) → IsShowResult stream out out err err (Err e)
-table_refused stream out err e (inl is) =
-    IsShowResult.refused e (ap (λ (a : Answer Table). a >>= whole_table) is) refl refl
-table_refused stream out err e (inr memory) = IsShowResult.stopped e (inr memory)
-
-pub walk_refused : (stream : List ℕ) (out err : OutputState) (table : Table) (e : Error) → table_of stream ≡ Ok table
-    → (whole_table table ≡ Err (refusal_of e)) ⊎ (e ≡ OutOfMemory) → IsShowResult stream out out err err (Err e)
-walk_refused stream out err table e read (inl is) =
-    IsShowResult.refused e (ap (λ (a : Answer Table). a >>= whole_table) read ∙ is) refl refl
-walk_refused stream out err table e read (inr memory) = IsShowResult.stopped e (inr memory)

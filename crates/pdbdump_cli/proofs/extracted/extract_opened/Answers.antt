@@ -1,12 +1,18 @@
-use Rattle.std.proofs.Common.{refl}
-use Rattle.pdb_base.proofs.lemmas.Refused.{passed_on}
-use Rattle.pdbdump_tables.proofs.lemmas.Reading.{read_of}
-use Rattle.pdbdump_tables.specs.Reading.{unread, written}
+use Rattle.std.proofs.Common.{None, Ok}
+use Rattle.pdb_msf.specs.File.{stream_of}
+use Rattle.pdbdump_tables.proofs.lemmas.Reading.{read_later}
+use Rattle.pdbdump_cli.proofs.WrittenLemmas.{extracted}
 use Rattle.pdbdump_cli.proofs.extracted.extract_opened.Goals as goal
 
-pub returns-in_err-stream : goal.returns-in_err-stream
-returns-in_err-stream g c =
-    unread _ (passed_on _ _ c.from_residual.ensures.1) (read_of _ _ _ _ _ c.in_err-stream.ensures) refl
-
 pub returns : goal.returns
-returns g c = written _ (read_of _ _ _ _ _ c.in_ok-stream.ensures) c.write_part.ensures
+returns g c =
+    extracted c.args.asked.now (g.S.Source.state c.args.file.source) c.args.file.head c.in_ok-number.number
+    c.in_ok-stream.stream _ _ _
+    (read_later g.S.Source.state (λ bytes head. stream_of bytes head c.in_ok-number.number None)
+    c.args.file c.number_meant.new.file c.get.new.self
+    (Ok c.in_ok-stream.stream) c.number_meant.ensures.source c.number_meant.ensures.head (record {
+      answer = c.in_ok-stream.ensures.answer;
+      source = c.in_ok-stream.ensures.source;
+      head = c.in_ok-stream.ensures.head;
+    }))
+    c.write_part.ensures

@@ -1,9 +1,5 @@
-use Rattle.std.proofs.Common.{refl}
-use Rattle.pdbdump_cli.specs.Identified.{found, refused}
+use Rattle.pdbdump_cli.proofs.WrittenLemmas.{answered}
 use Rattle.pdbdump_cli.proofs.identified.identify.Goals as goal
 
 pub returns-in-Ok : goal.returns-in-Ok
-returns-in-Ok g c = found c.in-Ok.identity c.in-Ok.ensures c.write_found.ensures
-
-pub returns-in-Err : goal.returns-in-Err
-returns-in-Err g c = refused c.in-Err.fault refl c.in-Err.ensures refl
+returns-in-Ok g c = answered _ _ c.in-Ok.identity _ _ c.in-Ok.ensures c.write_found.ensures

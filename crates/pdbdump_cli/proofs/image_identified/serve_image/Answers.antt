@@ -1,13 +1,13 @@
 use Rattle.std.proofs.Common.{refl}
-use Rattle.pdbdump_cli.specs.Identified.{nameless, shown, unread}
+use Rattle.pdbdump_cli.specs.Identified.{image, other, unread}
 use Rattle.pdbdump_cli.proofs.image_identified.serve_image.Goals as goal
 
 pub returns-in-Ok-Ok : goal.returns-in-Ok-Ok
-returns-in-Ok-Ok g c =
-    shown c.write_found-shown.new.out c.write_found-shown.result c.write_found-shown.ensures c.conclude.ensures
+returns-in-Ok-Ok g c = λ file.
+    image c.write_found-shown.new.out c.write_found-shown.result c.write_found-shown.ensures c.conclude.ensures
 
 pub returns-in-Ok-Err : goal.returns-in-Ok-Err
-returns-in-Ok-Err g c = nameless _ refl c.report.ensures refl
+returns-in-Ok-Err g c = λ file. other _ refl c.report.ensures refl
 
 pub returns-in-Err : goal.returns-in-Err
-returns-in-Err g c = unread c.in-Err.fault refl c.tell.ensures
+returns-in-Err g c = λ file. unread c.in-Err.fault refl c.tell.ensures

@@ -1,4 +1,4 @@
 use Rattle.pdbdump_cli.proofs.selected.report_if_missing.Goals as goal
 
-pub returns-clause-reported : goal.returns-clause-reported
-returns-clause-reported g c = λ start was. c.in_ok-report_name.ensures.reported start _ was
+pub returns : goal.returns
+returns g c = λ start was. c.in_ok-report_name.ensures start _ was

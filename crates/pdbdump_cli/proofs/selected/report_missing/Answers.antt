@@ -5,4 +5,4 @@ loop-place-init g c = λ start was. was
 
 pub loop-place-preserved : goal.loop-place-preserved
 loop-place-preserved g c =
-    λ start was. c.in_ok-has_these.ensures.reported start (c.loop-place.invariant start was)
+    λ start was. c.in_ok-has_these.ensures start (c.loop-place.invariant start was)

@@ -1,11 +1,10 @@
-use Rattle.std.proofs.Common.{refl}
-use Rattle.pdb_base.proofs.lemmas.Refused.{passed_on}
-use Rattle.pdbdump_tables.specs.Reading.{unread, written}
+use Rattle.std.proofs.Common.{inl}
+use Rattle.pdbdump_rows.proofs.lemmas.Rows.{lines_none}
+use Rattle.pdbdump_cli.proofs.WrittenLemmas.{answered}
 use Rattle.pdbdump_cli.proofs.selected.select_in.Goals as goal
 
 pub returns-in_err-stream-clause-lists : goal.returns-in_err-stream-clause-lists
-returns-in_err-stream-clause-lists g c =
-    rw (passed_on _ _ c.from_residual.ensures.1) (unread _ refl c.in_err-stream.ensures refl)
+returns-in_err-stream-clause-lists g c = inl (lines_none _ _)
 
-pub returns-clause-lists : goal.returns-clause-lists
-returns-clause-lists g c = written _ c.in_ok-stream.ensures c.select_of.ensures.lists
+pub returns-clause-reported : goal.returns-clause-reported
+returns-clause-reported g c = answered _ _ _ _ _ c.in_ok-stream.ensures c.select_of.ensures.reported

@@ -7,6 +7,6 @@ loop-number-init g c = none_yet _ _ _
 pub loop-number-preserved : goal.loop-number-preserved
 loop-number-preserved g c =
     compared_then _ _ _ _ _ _ _ _ _ c.loop-number.invariant (record {
-      silent = c.in_ok-write_change.ensures.compares.silent;
-      accounted = c.in_ok-write_change.ensures.compares.accounted;
+      silent = c.in_ok-write_change.ensures.silent;
+      accounted = c.in_ok-write_change.ensures.accounted;
     })

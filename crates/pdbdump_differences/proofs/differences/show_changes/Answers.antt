@@ -7,13 +7,13 @@ loop-number-init g c = none_yet _ _ _
 pub loop-number-preserved : goal.loop-number-preserved
 loop-number-preserved g c =
     compared_then _ _ _ _ _ _ _ _ _ c.loop-number.invariant (record {
-      silent = c.in_ok-write_change.ensures.compares.silent;
-      accounted = c.in_ok-write_change.ensures.compares.accounted;
+      silent = c.in_ok-write_change.ensures.silent;
+      accounted = c.in_ok-write_change.ensures.accounted;
     })
 
-pub returns-then-is_spent-clause-compares : goal.returns-then-is_spent-clause-compares
-returns-then-is_spent-clause-compares g c =
+pub returns-then-is_spent : goal.returns-then-is_spent
+returns-then-is_spent g c =
     compared_then _ _ _ _ _ _ _ _ _ c.loop-number.invariant (record {
-      silent = c.in_ok-write_change.ensures.compares.silent;
-      accounted = c.in_ok-write_change.ensures.compares.accounted;
+      silent = c.in_ok-write_change.ensures.silent;
+      accounted = c.in_ok-write_change.ensures.accounted;
     })

@@ -5,4 +5,4 @@ loop-name-init g c = λ start was. was
 
 pub loop-name-preserved : goal.loop-name-preserved
 loop-name-preserved g c = λ start was.
-    c.in_ok-find_name.ensures.accounted start (c.loop-name.invariant start was)
+    c.in_ok-find_name.ensures start (c.loop-name.invariant start was)

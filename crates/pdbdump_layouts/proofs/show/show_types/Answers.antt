@@ -5,4 +5,4 @@ loop-index-init g c = λ start was. was
 
 pub loop-index-preserved : goal.loop-index-preserved
 loop-index-preserved g c = λ start was.
-    c.in_ok-show_type.ensures.accounted start (c.loop-index.invariant start was)
+    c.in_ok-show_type.ensures start (c.loop-index.invariant start was)

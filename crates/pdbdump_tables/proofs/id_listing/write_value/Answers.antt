@@ -1,23 +1,16 @@
 -- What stands there at each exit.
-use Rattle.std.proofs.Common.{refl}
 use Rattle.pdb_base.proofs.lemmas.Refused.{passed_on}
 use Rattle.pdbdump_rows.specs.Lines.{full_text}
 use Rattle.pdbdump_rows.proofs.lemmas.Line.{made_written}
-use Rattle.pdbdump_tables.proofs.ShownLemmas.{cut_record, lacks_early, shows_record}
+use Rattle.pdbdump_tables.proofs.ShownLemmas.{row_cut, shown_alone}
 use Rattle.pdbdump_tables.proofs.id_listing.write_value.Goals as goal
-
-pub returns-in_err-make_full : goal.returns-in_err-make_full
-returns-in_err-make_full g c =
-    rw (passed_on _ _ c.from_residual.ensures.1) (lacks_early _ _ _ _ _ refl)
 
 pub returns-in_err-write : goal.returns-in_err-write
 returns-in_err-write g c =
     rw (passed_on _ _ c.from_residual-in_err-write.ensures.1)
-    (cut_record _ _ _ _ _ _ _ refl c.in_err-write.ensures.failed
-    (made_written (full_text c.args.form) _ _ _ _ _ _ c.in_ok-make_full.ensures
+    (row_cut _ _ _ _ _ (made_written (full_text c.args.form) _ _ _ _ _ _ c.in_ok-make_full.ensures
     c.as_bytes.ensures c.in_err-write.ensures.bytes))
 
 pub returns : goal.returns
-returns g c = shows_record _ _ _ _ _ refl
-    (made_written (full_text c.args.form) _ _ _ _ _ _ c.in_ok-make_full.ensures
+returns g c = shown_alone _ _ _ _ (made_written (full_text c.args.form) _ _ _ _ _ _ c.in_ok-make_full.ensures
     c.as_bytes.ensures c.in_ok-write.ensures.bytes)

@@ -1,11 +1,11 @@
--- The lines that end in what was read so far were answered, and what follows them is kept.
-use Rattle.pdbdump_cli.specs.Asked.{IsKeptOpen}
-use Rattle.pdbdump_cli.proofs.AnsweredLemmas.{AreReadSoFar}
+-- The tables are those of the file, and lines were written so far.
+use Rattle.std.proofs.Common.{Ok}
+use Rattle.pdbdump_rows.specs.Rows.{WritesLines}
+use Rattle.pdbdump_cli.specs.Asked.{IsReady}
 use Rattle.pdbdump_cli.proofs.answers.AskedFile.answer_all.Given as goal
 
 abbrev pub invariant-loop : goal.invariant-loop
 invariant-loop g l = record {
-  kept : IsKeptOpen g.S.Source.state l.fn.self l.self;
-  so_far : AreReadSoFar g.S.Source.state l.fn.self l.self (g.Q.Read.remaining l.fn.questions)
-      (g.Q.Read.remaining l.questions) l.fn.out l.out l.all;
+  ready : IsReady g.S.Source.state l.self;
+  lines : WritesLines l.form l.fn.out l.out (Ok tt);
 }
