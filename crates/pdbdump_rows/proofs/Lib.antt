@@ -1,5 +1,6 @@
 pub mod Digits
 pub mod LineLaws
+pub mod ObjectLaws
 pub mod PlainText
 pub mod Separated
 pub mod ShownLaws

@@ -1,8 +1,10 @@
--- What rows are written as: a row is a single line, and a text in JSON is a JSON string.
-use Rattle.std.specs.Prelude.{◌≡◌, ℕ, ◌==◌, ◌||◌, ◌&&◌, not, nat_le, Bool, IsTrue, List, [], ◌∷◌, ◌++◌}
+-- What rows are written as: a row is a single line, which in JSON is an object.
+use Rattle.std.specs.Prelude.{◌≡◌, ◌≢◌, ⊤, ℕ, ◌+◌, ◌<◌, ◌^◌, ◌==◌, ◌||◌, ◌&&◌, not, nat_le, pos, negsuc, Bool, IsTrue}
+use Rattle.std.specs.Prelude.{All, List, [], ◌∷◌, ◌++◌, codes}
 use Rattle.std.specs.Char.{encode_utf8}
 use Rattle.std.specs.List.{flat_map, list_all}
-use Rattle.pdbdump_rows.specs.Lines.{line_feed}
+use Rattle.pdbdump_rows.specs.Lines.{line_feed, separate}
+use Rattle.pdbdump_rows.specs.Row.{ShownField, hexadecimal, indexes, number, numbers, signed}
 use Rattle.pdbdump_rows.specs.Text.{quote, backslash, is_hidden}
 
 -- no byte is below 0x20, as a line feed or the first byte of a terminal's escape sequence is
@@ -56,3 +58,54 @@ pub record IsString (text : List ℕ) : Type 0 where
   pub inside : List ℕ
   pub good : IsInside inside
   pub between : text ≡ quote ∷ inside ++ quote ∷ []
+
+-- a decimal digit
+abbrev pub is_digit : ℕ → Bool
+is_digit byte = nat_le 0x30 byte && nat_le byte 0x39
+
+-- the digits of a number: `0` alone, or digits of which the first is another
+pub data AreDigits : List ℕ → Type 0 where
+  nought : AreDigits (0x30 ∷ [])
+  digits : (first : ℕ) (rest : List ℕ) → IsTrue (is_digit first) → first ≢ 0x30 → IsTrue (list_all is_digit rest)
+      → AreDigits (first ∷ rest)
+
+-- what a value of JSON is on a line, if it is no list
+pub data IsScalar : List ℕ → Type 0 where
+  string : (text : List ℕ) → IsString text → IsScalar text
+  natural : (text : List ℕ) → AreDigits text → IsScalar text
+  negative : (text : List ℕ) → AreDigits text → IsScalar (0x2d ∷ text)
+  true_word : IsScalar (codes "true")
+  false_word : IsScalar (codes "false")
+
+-- items with a comma between each two
+abbrev pub with_commas : List (List ℕ) → List ℕ
+with_commas items = separate (codes ",") (λ item. item) items
+
+-- a value of JSON
+pub data IsValue : List ℕ → Type 0 where
+  scalar : (text : List ℕ) → IsScalar text → IsValue text
+  list : (items : List (List ℕ)) → All IsScalar items → IsValue (codes "[" ++ with_commas items ++ codes "]")
+
+-- a member of an object: its name, a colon and its value
+pub record IsMember (text : List ℕ) : Type 0 where
+  pub name : List ℕ
+  pub value : List ℕ
+  pub named : IsString name
+  pub valued : IsValue value
+  pub is : text ≡ name ++ codes ":" ++ value
+
+-- an object of JSON (RFC 8259, section 4), and a line feed behind it
+pub record IsObjectLine (text : List ℕ) : Type 0 where
+  pub members : List (List ℕ)
+  pub are : All IsMember members
+  pub is : text ≡ codes "{" ++ with_commas members ++ codes "}" ++ line_feed ∷ []
+
+-- The numbers that a field shows have 64 bits.
+abbrev pub HasSmallNumbers : ShownField → Type 0
+HasSmallNumbers (name, number n) = n < 2 ^ 64
+HasSmallNumbers (name, signed (pos n)) = n < 2 ^ 64
+HasSmallNumbers (name, signed (negsuc n)) = n + 1 < 2 ^ 64
+HasSmallNumbers (name, hexadecimal n) = n < 2 ^ 64
+HasSmallNumbers (name, numbers ns) = All (λ n. n < 2 ^ 64) ns
+HasSmallNumbers (name, indexes ns) = All (λ n. n < 2 ^ 64) ns
+HasSmallNumbers field = ⊤

@@ -1,8 +1,8 @@
 //! What the definitions of lines come to. The functions do nothing: each contract is a law.
 
-ghost use Rattle.std.specs.Prelude.{◌≡◌, ℕ, List};
+ghost use Rattle.std.specs.Prelude.{◌≡◌, ℕ, All, List};
 ghost use Rattle.pdbdump_rows.specs.declared.form.Form.{Form};
-ghost use Rattle.pdbdump_rows.specs.Laws.{HasNoneHidden, IsLine, IsString};
+ghost use Rattle.pdbdump_rows.specs.Laws.{HasNoneHidden, HasSmallNumbers, IsLine, IsObjectLine, IsString};
 ghost use Rattle.pdbdump_rows.specs.Line.{all_shown, begun, begun_full, line_bytes};
 ghost use Rattle.pdbdump_rows.specs.Lines.{field_line, full_text, row_text};
 ghost use Rattle.pdbdump_rows.specs.Row.{ShownField, ShownRow};
@@ -34,4 +34,10 @@ pub fn texts()
 #[tactic(auto, using(crate::proofs::StringLaws::text_is_string))]
 pub fn strings()
     ensures { (bytes : List ℕ) → IsString (in_quotes Form.Json bytes) }
+{}
+
+/// A record in JSON is one object of RFC 8259, if its numbers have 64 bits, as those of `Value` have.
+#[tactic(auto, using(crate::proofs::ObjectLaws::row_is_object))]
+pub fn objects()
+    ensures { (row : ShownRow) → All HasSmallNumbers row → IsObjectLine (row_text Form.Json row) }
 {}
