@@ -2,7 +2,8 @@
 use Rattle.std.specs.Prelude.{◌≡◌, ℕ, Bool, false, IfOk, List, Result, Ok}
 use Rattle.pdb_base.specs.Answer.{Answer, ◌>>=◌}
 use Rattle.pdb_base.specs.declared.error.Error.{Error}
-use Rattle.pdb_file.specs.Identity.{file_identity}
+use Rattle.pdb_file.specs.{Format.format_of, Identity.file_identity}
+use Rattle.pdb_file.specs.declared.format.Format.TheVariants.{Image}
 use Rattle.pdb_file.specs.declared.identity.Identity.{Identity}
 use Rattle.pdb_msf.specs.Header.{file_head}
 use Rattle.pdb_msf.specs.Source.{State, IsKept}
@@ -10,6 +11,7 @@ use Rattle.pdb_output.specs.Output.{GetsUnlessFailed, OutputState, done_of}
 use Rattle.pdbdump_rows.specs.declared.form.Form.{Form}
 use Rattle.pdbdump_rows.specs.Line.{WritesWhat}
 use Rattle.pdbdump_tables.specs.{Identity.IsIdentity, Reading.AnswersRead}
+use Rattle.pdbdump_cli.specs.InputFile.{IsFront}
 use Rattle.pdbdump_cli.specs.Sentences.{IsFaultTold}
 use Rattle.pdbdump_cli.specs.Served.{IsEnded}
 
@@ -26,6 +28,10 @@ abbrev pub ShowsIdentity : Form → State → OutputState → OutputState → Re
 ShowsIdentity form file old new answer =
     AnswersRead file identity_in (λ identity is. WritesWhat (IsIdentity form) old new (Ok tt)) answer
 
+-- By its front, a file is an image.
+abbrev pub IsImage : State → Type 0
+IsImage file = (front : List ℕ) × IsFront file front × (format_of front ≡ Image)
+
 -- How the program ends after a file was identified: as behind a listing; or, if the file is not the expected one,
 -- it says so behind that, with status 1.
 pub data IsConcluded (result : Result Bool Error) (written out' err err' : OutputState) (status : ℕ) : Type 0 where
@@ -35,13 +41,13 @@ pub data IsConcluded (result : Result Bool Error) (written out' err err' : Outpu
       → IsEnded (Ok tt) written out' err told ended → GetsUnlessFailed told err' message → status ≡ 1
       → IsConcluded result written out' err err' status
 
--- What `id` does with a file: it writes what identifies it, or the database that an image names, and ends; or it
--- reports why there is none, or that the file can't be read, and writes no output.
+-- What `id` does with a file: it writes what identifies it, or, of an image, the database that it names, and ends; or
+-- it reports why there is none, or that the file can't be read, and writes no output.
 pub data IsIdDone (form : Form) (file : State) (out out' err err' : OutputState) (status : ℕ) : Type 0 where
   identified : (read : State) (written : OutputState) (answer : Result Bool Error) → IsKept file read
       → ShowsIdentity form read out written answer → IsConcluded answer written out' err err' status
       → IsIdDone form file out out' err err' status
-  image : (written : OutputState) (answer : Result Bool Error) → ShowsLine form out written answer
+  image : (written : OutputState) (answer : Result Bool Error) → IsImage file → ShowsLine form out written answer
       → IsConcluded answer written out' err err' status → IsIdDone form file out out' err err' status
   other : (message : List ℕ) → out' ≡ out → GetsUnlessFailed err err' message → status ≡ 1
       → IsIdDone form file out out' err err' status

@@ -1,7 +1,7 @@
 //! What is told of an image: which program database it names.
 
 ghost use Rattle.pdb_msf.specs.Source.{State};
-ghost use Rattle.pdbdump_cli.specs.Identified.{IsIdDone, ShowsLine};
+ghost use Rattle.pdbdump_cli.specs.Identified.{IsIdDone, IsImage, ShowsLine};
 
 use crate::command::Identify;
 use crate::identified::{conclude, is_expected};
@@ -103,7 +103,7 @@ pub(crate) fn serve_image<S: Source + Drop, O: Write, E: Write>(
     out: &mut Output<O>,
     err: &mut Output<E>,
 ) -> u8
-    ensures { (file : State) → IsIdDone form file out.old out.new err.old err.new result }
+    ensures { (file : State) → IsImage file → IsIdDone form file out.old out.new err.old err.new result }
 {
     match image_in(alloc, source) {
         Ok(Ok(image)) => {

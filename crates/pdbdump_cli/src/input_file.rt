@@ -1,7 +1,8 @@
 //! A file whose bytes are read as they are needed.
 
+ghost use Rattle.std.specs.Prelude.{IfOk};
 ghost use Rattle.pdb_msf.specs.Source.{IsKept};
-ghost use Rattle.pdbdump_cli.specs.InputFile.{bytes_state};
+ghost use Rattle.pdbdump_cli.specs.InputFile.{IsFront, bytes_state};
 
 use pdb_cli::read_all;
 use pdb_container::{Error, Result, Source};
@@ -75,7 +76,8 @@ impl<S: Source> InputFile<S> {
     /// # Errors
     /// Fails with `IoError` if the source fails, and with `OutOfMemory` if an allocation fails.
     pub(crate) fn front(&mut self, alloc: Global, most: u64) -> Result<ReadView>
-        ensures { IsKept (S.state self.old.source) (S.state self.new.source) }
+        ensures front { IfOk result (IsFront (S.state self.old.source)) }
+        ensures kept { IsKept (S.state self.old.source) (S.state self.new.source) }
     {
         let first = SourceSlice {
             offset: 0,

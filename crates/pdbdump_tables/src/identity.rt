@@ -21,16 +21,16 @@ const UNNAMED: &str = "-";
 /// How the identity of a file is written as text.
 #[derive(Clone, Copy)]
 pub enum KeyStyle {
-    /// The path of the file in a symbol store, `"name"/"key"/"name"`, or the key of a file without a name.
+    /// The path of the file in a symbol store, `NAME/KEY/NAME`, or the key of a file without a name.
     Key,
 
     /// That path in lower case, the name too, as the conventions for SSQP have it.
     Ssqp,
 
-    /// The first line of a symbol file of Breakpad: `MODULE windows "cpu" "key" "name"`.
+    /// The first line of a symbol file of Breakpad: `MODULE windows CPU KEY NAME`.
     Breakpad,
 
-    /// The "guid" alone, with hyphens.
+    /// The GUID alone, with hyphens.
     Guid,
 }
 
@@ -94,7 +94,7 @@ fn breakpad_line(
     Ok(line)
 }
 
-/// Returns the "guid" of a file as a line.
+/// Returns the GUID of a file as a line.
 fn guid_line(alloc: Global, guid: Uuid) -> Result<Vec<u8>, AllocError> {
     let mut buffer = [0u8; 36];
     let guid = guid.hyphenated().encode_upper(&mut buffer);
@@ -187,7 +187,7 @@ fn machine_fields(identity: &Identity) -> [Field<'static>; 3] {
     ]
 }
 
-/// Adds the fields of a file's name, of its format and of its "guid".
+/// Adds the fields of a file's name, of its format and of its GUID.
 fn show_guid(line: &mut Line, name: Option<&str>, guid: &str)
     ensures { AddsRow [] line.old line.new }
 {
@@ -196,7 +196,7 @@ fn show_guid(line: &mut Line, name: Option<&str>, guid: &str)
     line.field("guid", Value::Text(RawString::from(guid)));
 }
 
-/// Adds the fields of all that identifies a file, with the text of its "guid".
+/// Adds the fields of all that identifies a file, with the text of its GUID.
 fn show_identity(
     alloc: Global,
     line: &mut Line,

@@ -34,7 +34,7 @@ fn show_path(line: &mut Line, name: &str, path: &[u8])
     line.field("path", Value::Text(RawString::from(path)));
 }
 
-/// Adds the fields of what an image says of its database, with the text of the "guid".
+/// Adds the fields of what an image says of its database, with the text of the GUID.
 fn show_image(alloc: Global, line: &mut Line, name: &str, image: &CodeView, guid: &str)
     ensures { AddsRow [] line.old line.new }
 {
