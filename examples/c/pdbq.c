@@ -33,7 +33,10 @@ static void print_fields(pdb_types *types, uint32_t index) {
     char *names = room_for(size, 1);
     pdb_type_fields(types, index, 1, fields, count, &count, names, size, &size);
     check(&types->handle);
-    for (size_t i = 0; i < count; i++) puts(fields[i].has_name ? names + fields[i].name_offset : "-");
+    for (size_t i = 0; i < count; i++) { /* pdbq prints no names of methods that are not overloaded */
+        int has_name = fields[i].has_name && fields[i].info.row.shape != PDB_METHOD;
+        puts(has_name ? names + fields[i].name_offset : "-");
+    }
     free(fields);
     free(names);
 }

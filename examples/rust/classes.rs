@@ -16,14 +16,14 @@ fn main() -> Result<(), Box<dyn Error>> {
     // Records of a kind that is not read are passed over.
     let mut classes: Vec<_> =
         types.iter().flatten().filter(|it| it.shape() == Shape::Class && it.is_definition()).collect();
-    classes.sort_by_key(|it| Reverse(it.row.number()));
+    classes.sort_by_key(|it| Reverse(it.row.size()));
     for class in classes.iter().take(MOST) {
-        println!("{} {}", class.row.number().unwrap_or_default(), class.name()?.unwrap_or_default());
-        let Some(list) = class.row.list_index() else {
+        println!("{} {}", class.row.size().unwrap_or_default(), class.name()?.unwrap_or_default());
+        let Some(list) = class.row.fields() else {
             continue;
         };
         for field in types.fields(list)?.iter().filter(|it| it.shape() == Shape::Member) {
-            println!("  +{} {}", field.row.number().unwrap_or_default(), field.name.unwrap_or_default());
+            println!("  +{} {}", field.row.offset().unwrap_or_default(), field.name.unwrap_or_default());
         }
     }
     Ok(())

@@ -14,7 +14,7 @@ fn fields(types: &Types, base: &mut Entries, list: u32, under: Option<u32>) -> R
     let mut fields = Vec::new();
     let found = under.map_or_else(|| types.fields(list), |under| types.enumerators(list, under))?;
     for it in found.iter() {
-        let (offset, of) = (it.row.number().unwrap_or_default(), it.row.type_index().unwrap_or_default());
+        let (offset, of) = (it.row.offset().unwrap_or_default(), it.row.field_type().unwrap_or_default());
         let text = match it.shape() {
             Shape::Member => format!(r#"{{"offset":{offset},"type":{}}}"#, reference(types, base, of)?),
             Shape::Enumerate => it.row.value().unwrap_or_default().to_string(),
@@ -35,9 +35,9 @@ fn main() -> Result<(), Box<dyn Error>> {
     {
         if types.definitions()?.definition_of(it.index)?.is_none_or(|definition| definition == it.index) {
             let size = types.definitions()?.size_of(it.index)?.unwrap_or_default();
-            let list = it.row.list_index().filter(|list| *list != 0);
-            let fields = list.map_or(Ok("{}".into()), |list| fields(&types, &mut base, list, it.row.type_index()))?;
-            if let (Shape::Enumeration, Some(of)) = (it.shape(), it.row.type_index()) {
+            let (list, under) = (it.row.fields().filter(|list| *list != 0), it.row.underlying_type());
+            let fields = list.map_or(Ok("{}".into()), |list| fields(&types, &mut base, list, under))?;
+            if let (Shape::Enumeration, Some(of)) = (it.shape(), under) {
                 let of = base_type(&types, &mut base, of, size)?;
                 enums.insert(key_of(&it)?, format!(r#"{{"size":{size},"base":{of},"constants":{fields}}}"#));
             } else {

@@ -39,7 +39,7 @@ pub fn reference(types: &Types, base: &mut Entries, index: u32) -> Result<String
         Shape::Pointer => ("pointer", format!(r#""subtype":{}"#, of(inner)?)),
         Shape::Array => ("array", format!(r#""count":{},"subtype":{}"#, size / size_of(inner)?.max(1), of(inner)?)),
         Shape::Bitfield => {
-            let (at, count) = (it.row.extra().unwrap_or_default(), it.row.count().unwrap_or_default());
+            let (at, count) = (it.row.position().unwrap_or_default(), it.row.length().unwrap_or_default());
             ("bitfield", format!(r#""bit_position":{at},"bit_length":{count},"type":{}"#, of(inner)?))
         }
         Shape::Procedure | Shape::MemberFunction => return Ok(r#"{"kind":"function"}"#.into()),

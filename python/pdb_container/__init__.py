@@ -20,7 +20,7 @@ from ._library import LibraryError, PdbError
 from ._rows import Row
 from ._sys import (
     ClassKind, Feature, FieldAttribute, Format, FrameKind, FunctionAttribute, IdentityFlag, Inconsistency, KeyForm,
-    LayoutKind, ModifierBit, Part, PointerAttribute, Property, Shape, Status,
+    LayoutKind, ModifierBit, Part, PointerAttribute, Property, SectionCharacteristics, Shape, Status,
 )  # fmt: skip
 from ._tables import Ids, Types
 from ._types import (
@@ -38,8 +38,8 @@ __all__ = [
     "Ids", "Inconsistency", "Information", "KeyForm", "Layout", "LayoutKind", "LayoutRow", "LibraryError", "Member",
     "MemberFunction", "MemberFunctionId", "Method", "MethodList", "Modifier", "ModifierBit", "Names", "Nested",
     "Omap", "OverloadedMethod", "Part", "Pdb", "PdbError", "Pointer", "PointerAttribute", "Primitive", "Procedure",
-    "Property", "Roles", "Row", "Section", "Shape", "StaticMember", "Status", "Stream", "Streams", "StringId",
-    "StringList", "Translation", "Type", "Types", "UdtSource", "Union", "Unreadable", "UnreadableId",
-    "UserDefinedType", "VirtualBaseClass", "VirtualFunctionTablePointer", "VirtualTableShape", "format_of", "open",
-    "validate",
+    "Property", "Roles", "Row", "Section", "SectionCharacteristics", "Shape", "StaticMember", "Status", "Stream",
+    "Streams", "StringId", "StringList", "Translation", "Type", "Types", "UdtSource", "Union", "Unreadable",
+    "UnreadableId", "UserDefinedType", "VirtualBaseClass", "VirtualFunctionTablePointer", "VirtualTableShape",
+    "format_of", "open", "validate",
 ]  # fmt: skip

@@ -6,13 +6,13 @@ import operator
 import os
 import uuid
 from ctypes import c_uint32
-from dataclasses import dataclass, fields
+from dataclasses import dataclass, field, fields
 from typing import Any, Callable, Dict, Generic, Iterator, List, Optional, Sequence, Tuple, TypeVar, Union, overload
 
 from . import _sys
 from ._identity import Identity, identity_of
-from ._library import Buffer, Lent, Opened, PdbError, library, unsigned
-from ._sys import AddressForm, FrameKind, Status, StreamNumber
+from ._library import Buffer, Keyed, Lent, Opened, PdbError, library, unsigned, utf8
+from ._sys import AddressForm, FrameKind, SectionCharacteristics, Status, StreamNumber
 from ._tables import Ids, Types
 
 _T = TypeVar("_T")
@@ -58,7 +58,15 @@ class Section:
     pointer_to_line_numbers: int
     number_of_relocations: int
     number_of_line_numbers: int
-    characteristics: int
+    characteristics: SectionCharacteristics
+
+    @property
+    def alignment(self) -> Optional[int]:
+        """The alignment of its start in bytes, None if the characteristics give none."""
+        exponent = (self.characteristics & SectionCharacteristics.ALIGN_MASK) >> 20  # plus one
+        if self.characteristics & SectionCharacteristics.TYPE_NO_PAD:
+            return None if exponent else 1
+        return 1 << exponent - 1 if 0 < exponent < 15 else None
 
 
 @dataclass(frozen=True)
@@ -80,7 +88,7 @@ class Frame:
     program: Optional[int]  # the offset of the frame's program in the string table
 
 
-class Names:
+class Names(Keyed):
     """A string table: the name at an offset, or each offset and name, in their order."""
 
     def __init__(self, file: Opened):
@@ -125,6 +133,7 @@ class Omap(_Ranges):
     """A table of moved addresses."""
 
     def __init__(self, file: Opened, number: int):
+        number = unsigned(number)
         self._table = file.open(library().pdb_omap_open, number, stream=number)
 
     def lookup(self, address: int) -> Optional[int]:
@@ -239,14 +248,13 @@ def _frame(it: _sys.Frame) -> Frame:
     )
 
 
+@dataclass(frozen=True)
 class Stream:
-    """A stream of a file: its number, and its size in bytes as the directory gives it, None for one that is absent."""
+    """A stream of a file."""
 
-    def __init__(self, pdb: "Pdb", number: int, size: Optional[int]):
-        self._pdb, self.number, self.size = pdb, number, size
-
-    def __repr__(self) -> str:
-        return f"Stream(number={self.number}, size={self.size})"
+    _pdb: "Pdb" = field(repr=False)
+    number: int
+    size: Optional[int]  # in bytes, as the directory gives it; None for one that is absent
 
     def read(self, limit: Optional[int] = None) -> memoryview:
         """Its bytes, at most `limit` of them."""
@@ -346,7 +354,7 @@ class _Source(Opened):
     def size(self, number: int) -> Optional[int]:
         """The size of a stream, None if it is absent."""
         try:
-            size: int = self.written(c_uint32, library().pdb_file_stream_size, number).value
+            size: int = self.written(c_uint32, library().pdb_file_stream_size, unsigned(number)).value
             return size
         except PdbError as error:
             if error.status != Status.STREAM_NOT_FOUND:
@@ -391,12 +399,12 @@ class Pdb:
 
     def stream(self, number: int, limit: Optional[int] = None) -> memoryview:
         """The bytes of a stream, at most `limit` of them."""
-        most = 2**64 - 1 if limit is None else unsigned(limit, 64)
-        return self._source.read(library().pdb_file_stream, unsigned(number), most, stream=number)
+        number, most = unsigned(number), 2**64 - 1 if limit is None else unsigned(limit, 64)
+        return self._source.read(library().pdb_file_stream, number, most, stream=number)
 
     def named_stream(self, name: Union[str, bytes]) -> memoryview:
         """The bytes of the first stream with this name, such as `/names`."""
-        word = name.encode() if isinstance(name, str) else bytes(name)
+        word = utf8(name) if isinstance(name, str) else bytes(memoryview(name))
         return self._source.read(library().pdb_file_named_stream, word, len(word))
 
     @_Kept
@@ -457,11 +465,13 @@ class Pdb:
         number = getattr(self.roles, role)
         if number is None:
             return []
-        words = [field.name for field in fields(Section)][1:]
-        return [
-            Section(bytes(it.name).split(b"\0")[0].decode(errors="replace"), *(getattr(it, word) for word in words))
-            for it in self._source.items(_sys.Section, library().pdb_file_sections, number, stream=number) or ()
-        ]
+        sections = []
+        for it in self._source.items(_sys.Section, library().pdb_file_sections, number, stream=number) or ():
+            numbers: Dict[str, Any] = {field.name: getattr(it, field.name) for field in fields(Section)}
+            numbers["name"] = bytes(it.name).split(b"\0")[0].decode(errors="replace")
+            numbers["characteristics"] = SectionCharacteristics(it.characteristics)
+            sections.append(Section(**numbers))
+        return sections
 
     @property
     def omap_to_src(self) -> Optional[Omap]:

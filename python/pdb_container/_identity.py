@@ -6,7 +6,7 @@ from dataclasses import dataclass
 from typing import FrozenSet, Optional
 
 from . import _sys
-from ._library import Buffer, Lent, Opened, library
+from ._library import Buffer, Lent, Opened, library, unsigned
 from ._sys import Feature, Format, IdentityFlag, KeyForm
 
 
@@ -30,7 +30,7 @@ class Identity:
 
     def key(self, form: KeyForm = KeyForm.UPPER) -> str:
         """The key under which a symbol server stores the file."""
-        about, buffer = _sys.Identity(age=self.age, guid=(c_uint8 * 16)(*self.guid.bytes_le)), (c_char * 64)()
+        about, buffer = _sys.Identity(age=unsigned(self.age), guid=(c_uint8 * 16)(*self.guid.bytes_le)), (c_char * 64)()
         library().pdb_key(byref(about), KeyForm(form), buffer, len(buffer), byref(c_size_t()))
         return buffer.value.decode()
 

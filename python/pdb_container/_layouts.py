@@ -5,7 +5,7 @@ from dataclasses import dataclass
 from typing import List, Optional
 
 from . import _sys
-from ._library import Opened, library, unsigned
+from ._library import Opened, library, unsigned, utf8
 from ._sys import Extent, LayoutKind
 
 
@@ -61,7 +61,7 @@ class Definitions:
 
     def named(self, name: str) -> List[int]:
         """The indexes of all definitions of a name, in increasing order."""
-        word = name.encode()
+        word = utf8(name)
         return list(self._table.items(c_uint32, library().pdb_types_named, word, len(word)) or ())
 
     def definition_of(self, index: int) -> Optional[int]:
@@ -77,7 +77,7 @@ class Definitions:
 
     def text_of(self, index: int, name: str = "") -> str:
         """The declaration of a name that has a type, in C++, or the text of the type alone if the name is empty."""
-        word = name.encode()
+        word = str.encode(name)
         return (self._table.copied(library().pdb_type_text, unsigned(index), word, len(word)) or b"").decode(errors="replace")
 
     def layout_of(self, index: int) -> Optional[Layout]:

@@ -47,6 +47,11 @@ def unsigned(number: SupportsIndex, bits: int = 32) -> int:
     return whole
 
 
+def utf8(name: str) -> bytes:
+    """The bytes of a name that is looked for. A surrogate has those that no text in UTF-8 has, so that it isn't found."""
+    return str.encode(name, errors="surrogatepass")
+
+
 def _restored(fault: bytes, stream: Optional[int], offset: Optional[int]) -> "PdbError":
     return PdbError(Fault.from_buffer_copy(fault), stream, offset)
 
@@ -78,6 +83,21 @@ class PdbError(ValueError):
 
     def __reduce__(self) -> Tuple[Any, ...]:
         return _restored, (self._fault, self.stream, self.offset)
+
+
+class Keyed:
+    """What has something under each of its keys."""
+
+    def __contains__(self, key: object) -> bool:
+        """Whether something is under a key, also a record that can't be read. What can't be a key is none."""
+        try:
+            self[key]  # type: ignore[index]
+        except (KeyError, OverflowError, TypeError):
+            return False
+        except PdbError as error:
+            if error.offset is None:  # no record, but the table
+                raise
+        return True
 
 
 def _place() -> str:

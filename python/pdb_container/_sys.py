@@ -334,6 +334,29 @@ class Extent(IntEnum):
     UNKNOWN = 2
 
 
+class SectionCharacteristics(IntFlag):
+    """The bits of the characteristics of a section, as the PE format has IMAGE_SCN_*."""
+
+    TYPE_NO_PAD = 0x00000008
+    CODE = 0x00000020
+    INITIALIZED_DATA = 0x00000040
+    UNINITIALIZED_DATA = 0x00000080
+    LINK_OTHER = 0x00000100
+    LINK_INFO = 0x00000200
+    LINK_REMOVE = 0x00000800
+    LINK_COMDAT = 0x00001000
+    GP_RELATIVE = 0x00008000
+    LINK_RELOCATIONS_OVERFLOW = 0x01000000
+    DISCARDABLE = 0x02000000
+    NOT_CACHED = 0x04000000
+    NOT_PAGED = 0x08000000
+    SHARED = 0x10000000
+    EXECUTE = 0x20000000
+    READ = 0x40000000
+    WRITE = 0x80000000
+    ALIGN_MASK = 0x00f00000
+
+
 class Fault(Structure):
     _fields_ = [
         ("status", c_uint32),
@@ -603,18 +626,18 @@ NUMBERS = {
 
 # The name of each primitive type in C++, by its kind.
 PRIMITIVES = {
-    0x00: "no type",
+    0x00: "<no type>",
     0x03: "void",
     0x08: "HRESULT",
     0x10: "signed char",
     0x11: "short",
     0x12: "long",
-    0x13: "long long",
+    0x13: "__int64",
     0x14: "__int128",
     0x20: "unsigned char",
     0x21: "unsigned short",
     0x22: "unsigned long",
-    0x23: "unsigned long long",
+    0x23: "unsigned __int64",
     0x24: "unsigned __int128",
     0x30: "bool",
     0x31: "__bool16",
@@ -625,8 +648,8 @@ PRIMITIVES = {
     0x42: "long double",
     0x43: "__float128",
     0x44: "__float48",
-    0x45: "__float32pp",
-    0x46: "__float16",
+    0x45: "float",
+    0x46: "__half",
     0x50: "_Complex float",
     0x51: "_Complex double",
     0x52: "_Complex long double",

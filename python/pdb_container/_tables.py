@@ -2,12 +2,12 @@
 
 from contextlib import suppress
 from ctypes import byref, c_size_t, c_uint32
-from typing import Callable, Dict, Generic, Iterator, List, Optional, TypeVar, Union, overload
+from typing import Callable, Dict, Generic, Iterator, List, Optional, SupportsIndex, TypeVar, Union, overload
 
 from . import _ids, _sys, _types
 from ._ids import Id
 from ._layouts import Definitions, Layout
-from ._library import NONE, OK, Opened, PdbError, library, unsigned
+from ._library import NONE, OK, Keyed, Opened, PdbError, library, unsigned
 from ._rows import FIELD, FIELD_NAME, NO_SHAPE, TYPE, Record, raw_of
 from ._sys import Fault, Status, StreamNumber
 from ._types import FIELDS, FIRST_RECORD, Field, Method, Type, UserDefinedType
@@ -17,10 +17,12 @@ BATCH = 512  # the records that a walk takes from the library at a time
 _R = TypeVar("_R", bound=Record)
 
 
-class _Table(Generic[_R]):
+class _Table(Keyed, Generic[_R]):
     """A table of records, which stays open when its file is closed."""
 
     _classes: "Dict[int, type[_R]]"  # the class of each shape
+    _least: int  # the least index of a record; those of types below it have none
+    __reversed__ = None  # indexes do not count from 0, as those of a sequence do
 
     def __init__(self, file: Opened, number: int):
         self.number, self._opened = number, file.open(library().pdb_types_open, number, stream=number)
@@ -57,6 +59,22 @@ class _Table(Generic[_R]):
             for raw in TYPE.iter_unpack(batch):
                 yield classes[NO_SHAPE if raw[3] else raw[6]](self, raw)
 
+    def _indexed(self, index: SupportsIndex) -> _R:
+        """The record of an index. KeyError if there is none."""
+        number = unsigned(index)
+        found = self._find(number)
+        status = found.fault.status
+        if status == NONE and number >= self._least:
+            raise KeyError(index)
+        try:
+            if status not in (OK, NONE):
+                raise PdbError(found.fault, self.number)
+            return self._parse(number, found.position)
+        except PdbError as error:
+            if error.status == Status.TYPE_NOT_FOUND:
+                raise KeyError(index) from None
+            raise
+
     def _find(self, index: int) -> _sys.FoundRecord:
         """Where the record of an index is, or why it isn't found."""
         opened, wanted, found, count = self._opened, c_uint32(index), _sys.FoundRecord(), c_size_t()
@@ -76,7 +94,7 @@ class _Table(Generic[_R]):
 class Types(_Table[Type]):
     """A table of types: by an index or by the name of a class, a union or an enumeration, or one after another."""
 
-    _classes = _types.CLASSES
+    _classes, _least = _types.CLASSES, FIRST_RECORD
 
     def __init__(self, file: Opened):
         super().__init__(file, TYPES)
@@ -95,28 +113,7 @@ class Types(_Table[Type]):
     def __getitem__(self, key: Union[int, str]) -> Type:
         """The type of an index, or the definition of the first class, union or enumeration of a name. KeyError if there
         is none."""
-        if isinstance(key, str):
-            return self[self._first_named(key)]
-        found = self._find(unsigned(key))
-        status = found.fault.status
-        if status == NONE and key >= FIRST_RECORD:
-            raise KeyError(key)
-        try:
-            if status not in (OK, NONE):
-                raise PdbError(found.fault, self.number)
-            return self._parse(key, found.position)
-        except PdbError as error:
-            if error.status == Status.TYPE_NOT_FOUND:
-                raise KeyError(key) from None
-            raise
-
-    def __contains__(self, key: object) -> bool:
-        """Whether `types[key]` is a type. What is neither a number nor a text is none."""
-        try:
-            self[key]  # type: ignore[call-overload]
-        except (KeyError, OverflowError, TypeError):
-            return False
-        return True
+        return self._indexed(self._first_named(key) if isinstance(key, str) else key)
 
     def get(self, key: Union[int, str], default: Optional[Type] = None) -> Optional[Type]:
         """The type that `types[key]` is, or the default if there is none."""
@@ -128,24 +125,30 @@ class Types(_Table[Type]):
     def fields(self, list_index: int, underlying_type: Optional[int] = None) -> List[Field]:
         """The fields of the list of an index, and of the lists in which it continues. If the type under an enumeration is
         given, the values are numbers of it; or else they have the signs that their records have, where -128 may be
-        128."""
-        found = self._opened.named_items(_sys.Field, library().pdb_type_fields, unsigned(list_index), 1)
+        128. KeyError if there is no such index."""
+        number = unsigned(list_index)
+        try:
+            found = self._opened.named_items(_sys.Field, library().pdb_type_fields, number, 1)
+        except PdbError:
+            if number not in self:
+                raise KeyError(list_index) from None
+            raise
         if found is None:
             return []
         rows, count, names = found
         if underlying_type is not None:
+            number = unsigned(underlying_type)
             for row in rows[:count]:
-                library().pdb_enumerator_typed(byref(row.info), underlying_type)
+                library().pdb_enumerator_typed(byref(row.info), number)
         data = memoryview(rows).cast("B")[: count * FIELD.size]
-        fields: List[Field] = []
-        for raw, (at, length, has_name) in zip(FIELD.iter_unpack(data), FIELD_NAME.iter_unpack(data)):
-            name = names[at : at + length].decode("utf-8", "replace") if has_name else None
-            fields.append(FIELDS[raw[0]](self, raw, name))
-        return fields
+        return [
+            FIELDS[raw[0]](self, raw, str(names[at : at + length], "utf-8", "replace") if has_name else None)
+            for raw, (at, length, has_name) in zip(FIELD.iter_unpack(data), FIELD_NAME.iter_unpack(data))
+        ]
 
     def methods(self, list_index: int) -> List[Method]:
-        """The methods of the list of an index."""
-        found = self[list_index]
+        """The methods of the list of an index. KeyError if there is no such index."""
+        found = self._indexed(list_index)
         rows = self._opened.items(_sys.Row, library().pdb_type_methods, found.index, offset=found._raw[1])
         if rows is None:
             fault = Fault(Status.UNIMPLEMENTED_TYPE_KIND, int.from_bytes(found.record[:2], "little"))
@@ -162,7 +165,7 @@ class Types(_Table[Type]):
     def layout(self, key: Union[int, str]) -> Layout:
         """The layout of the type of an index, or of the first class, structure, interface or union of a name. KeyError
         if there is none."""
-        indexes = self.definitions.named(key) if isinstance(key, str) else [key]
+        indexes = self.definitions.named(key) if isinstance(key, str) else [self[key].index]
         layout = next(filter(None, map(self.definitions.layout_of, indexes)), None)
         if layout is None:
             raise KeyError(key)
@@ -178,7 +181,7 @@ class Types(_Table[Type]):
 class Ids(_Table[Id]):
     """A table of ids: by an index, or one after another."""
 
-    _classes = _ids.CLASSES
+    _classes, _least = _ids.CLASSES, 0
 
     def __init__(self, file: Opened, types: Callable[[], Types]):
         super().__init__(file, IDS)
@@ -202,11 +205,4 @@ class Ids(_Table[Id]):
 
     def __getitem__(self, index: int) -> Id:
         """The id of an index. KeyError if there is none."""
-        found = self._find(unsigned(index))
-        if found.fault.status != OK:
-            raise KeyError(index)
-        return self._parse(index, found.position)
-
-    def __contains__(self, index: object) -> bool:
-        """Whether there is an id of this index. What is no whole number is none."""
-        return isinstance(index, int) and 0 <= index < 1 << 32 and bool(self._find(index).fault.status == OK)
+        return self._indexed(index)

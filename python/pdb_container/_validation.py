@@ -58,7 +58,7 @@ def validate(data: Buffer, every: bool = False) -> List[Finding]:
         lent.release()
         while status == TOO_SMALL:
             findings = (_sys.Finding * count.value)()
-            status = library().pdb_validate(*place, int(every), findings, len(findings), byref(count))
+            status = library().pdb_validate(*place, bool(every), findings, len(findings), byref(count))
     if status != OK:
         raise PdbError(Fault(status))
     return [_finding(it) for it in findings[: count.value]]

@@ -1,11 +1,13 @@
 """Reads examples/sample.pdb, and copies of it with damage."""
 
 import contextlib
+import dataclasses
 import io
 import mmap
 import os
 import pathlib
 import random
+import struct
 import subprocess
 import sys
 import tempfile
@@ -16,8 +18,8 @@ from unittest import mock
 
 import pdb_container
 from pdb_container import (
-    Feature, Format, IdShape, Inconsistency, KeyForm, LayoutKind, Part, Pdb, PdbError, Shape, Status, format_of,
-    validate,
+    Feature, Format, IdShape, Inconsistency, KeyForm, LayoutKind, Part, Pdb, PdbError, SectionCharacteristics, Shape, Status,
+    format_of, validate,
 )  # fmt: skip
 from pdb_container.__main__ import main
 
@@ -291,6 +293,29 @@ class OfFile(unittest.TestCase):
         moved = by_map.internal_rva_ranges(range(0x1000, 0x1020))
         self.assertEqual([address for it in moved for address in it], [to_src.lookup(it) for it in range(0x1000, 0x1020)])
         self.assertEqual(to_src.ranges(range(0x1000, 0x1020)), moved)
+
+    def test_sections(self):
+        """The flags of a section, and its alignment, which is a number among their bits, as the PE format has them."""
+        text, rdata, data, reloc = (it.characteristics for it in self.pdb.sections)
+        of = SectionCharacteristics
+        self.assertEqual(text, of.CODE | of.EXECUTE | of.READ)
+        self.assertEqual(rdata, of.INITIALIZED_DATA | of.READ)
+        self.assertEqual(data, of.INITIALIZED_DATA | of.READ | of.WRITE)
+        self.assertEqual(reloc, of.INITIALIZED_DATA | of.DISCARDABLE | of.READ)
+        self.assertEqual({type(it.characteristics) for it in self.pdb.sections + self.pdb.original_sections}, {of})
+        self.assertIn(of.EXECUTE, text)
+        self.assertNotIn(of.WRITE, text)
+        headers = bytes(self.pdb.stream(self.pdb.roles.section_headers))
+        self.assertEqual([text, rdata, data, reloc], [number for (number,) in struct.iter_unpack("<36xI", headers)])
+        section = self.pdb.sections[0]
+        self.assertIsNone(section.alignment)
+        powers = [None, *(1 << power for power in range(14)), None]
+        for number, power in enumerate(powers):
+            aligned = of(text | number << 20)
+            self.assertEqual(aligned & ~of.ALIGN_MASK, text)
+            self.assertEqual(dataclasses.replace(section, characteristics=aligned).alignment, power)
+            older = dataclasses.replace(section, characteristics=aligned | of.TYPE_NO_PAD)
+            self.assertEqual(older.alignment, None if number else 1)
 
     def test_frames(self):
         older, newer = self.pdb.frames.at(0x1000), self.pdb.frames.at(0x10B1)

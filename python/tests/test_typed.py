@@ -70,6 +70,9 @@ with pdb_container.open("") as pdb:
         if isinstance(id, Function):
             function: Type = id.type
             scope: Optional[Id] = id.scope
+    flags: SectionCharacteristics = pdb.sections[0].characteristics
+    alignment: int = pdb.sections[0].alignment  # refused
+    is_there: bool = "Derived" in pdb.types and 5 in pdb.names
 """
 
 MATCH = """
@@ -202,9 +205,11 @@ class Typed(unittest.TestCase):
         bases = [it.base_class.name for it in self.types["Derived"].fields if isinstance(it, (BaseClass, VirtualBaseClass))]
         self.assertEqual(bases[-1], "Shared")
 
+    def test_names_of_methods(self):
+        methods = [it for it in self.types["Derived"].fields if type(it).__name__ in ("Method", "OverloadedMethod")]
+        self.assertEqual([it.name for it in methods], ["Derived", "area", "share", "scale", "make"])
+
     def test_primitives(self):
-        # Kinds that have other names where a declaration is written.
-        others = {0x00: "<no type>", 0x13: "__int64", 0x23: "unsigned __int64", 0x45: "float", 0x46: "__half"}
         count, text_of = 0, self.types.definitions.text_of
         for index in range(0x1000):
             it = self.types.get(index)
@@ -212,8 +217,7 @@ class Typed(unittest.TestCase):
                 count += 1
                 self.assertIsInstance(it, Primitive)
                 self.assertEqual((it.kind, it.indirection), (index & 0xFF, index >> 8))
-                name = it.name if it.kind not in others else others[it.kind] + (" *" if it.indirection else "")
-                self.assertEqual(name, text_of(index))
+                self.assertEqual(it.name, text_of(index))
                 self.assertEqual(it.target, self.types[index & 0xFF] if index >> 8 else None)
         self.assertEqual(count, 336)
 

@@ -7,21 +7,47 @@ use crate::sys;
 
 /// The header of a section.
 #[derive(Debug, Clone, Copy, PartialEq, Eq)]
-pub struct Section(pub sys::Section);
-
-impl Section {
-    /// Its name, up to the first NUL.
-    pub fn name(&self) -> Name<'_> {
-        let name = &self.0.name;
-        Name::new(name.split(|it| *it == 0).next().unwrap_or(name))
-    }
+pub struct Section {
+    pub(crate) name: [u8; 8],
+    /// The size of the section in the image in bytes.
+    pub virtual_size: u32,
+    /// The address at which it begins.
+    pub virtual_address: u32,
+    /// How many bytes of it the image's file has.
+    pub size_of_raw_data: u32,
+    /// Where in the image's file they begin.
+    pub pointer_to_raw_data: u32,
+    /// Where in the image's file its relocations begin, 0 if there are none.
+    pub pointer_to_relocations: u32,
+    /// Where in the image's file its line numbers begin, 0 if there are none.
+    pub pointer_to_line_numbers: u32,
+    /// How many relocations it has.
+    pub number_of_relocations: u16,
+    /// How many line numbers it has.
+    pub number_of_line_numbers: u16,
+    /// Its flags, added up, which the PE format calls `IMAGE_SCN_*`.
+    pub characteristics: u32,
 }
 
-impl std::ops::Deref for Section {
-    type Target = sys::Section;
+impl Section {
+    fn of(section: &sys::Section) -> Section {
+        Section {
+            name: section.name,
+            virtual_size: section.virtual_size,
+            virtual_address: section.virtual_address,
+            size_of_raw_data: section.size_of_raw_data,
+            pointer_to_raw_data: section.pointer_to_raw_data,
+            pointer_to_relocations: section.pointer_to_relocations,
+            pointer_to_line_numbers: section.pointer_to_line_numbers,
+            number_of_relocations: section.number_of_relocations,
+            number_of_line_numbers: section.number_of_line_numbers,
+            characteristics: section.characteristics,
+        }
+    }
 
-    fn deref(&self) -> &sys::Section {
-        &self.0
+    /// Its name, up to the first NUL.
+    pub fn name(&self) -> Name<'_> {
+        Name::new(self.name.split(|it| *it == 0).next().unwrap_or(&self.name))
     }
 }
 
@@ -31,7 +57,7 @@ impl std::ops::Deref for Section {
 pub(crate) fn sections(file: &Handle<sys::File>, number: u32) -> Result<Vec<Section>> {
     let found =
         file.items(0, |file, to, size, count| unsafe { sys::pdb_file_sections(file, number, to, size, count) })?;
-    Ok(found.unwrap_or_default().into_iter().map(Section).collect())
+    Ok(found.unwrap_or_default().iter().map(Section::of).collect())
 }
 
 fn ranges(found: Result<Option<Vec<sys::Span>>>) -> Result<Vec<Range<u32>>> {

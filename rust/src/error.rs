@@ -8,14 +8,16 @@ use crate::sys;
 pub type Result<T, E = Error> = std::result::Result<T, E>;
 
 /// Why a file, or a part of it, can't be read, and where that is.
-#[derive(Debug, Clone, Copy, PartialEq, Eq)]
+#[derive(Debug, Clone, PartialEq, Eq)]
 #[non_exhaustive]
 pub struct Error {
     /// Which error it is.
     pub kind: ErrorKind,
     /// The number of the stream that has it, where that is known.
     pub stream: Option<u32>,
-    /// The place in that stream of the record that has it, where that is known.
+    /// The name of the stream that has it, or that is missing, where it was asked for by its name.
+    pub name: Option<Box<str>>,
+    /// The place in that stream of the record or the name that has it, where that is known.
     pub offset: Option<u32>,
 }
 
@@ -26,27 +28,37 @@ impl Error {
 
     /// The same error in a stream, and at an offset, unless it says already where it is.
     pub(crate) fn at(self, stream: Option<u32>, offset: Option<u32>) -> Error {
-        match self.stream {
-            Some(_) => self,
-            None => Error { stream, offset: stream.and(offset), ..self },
+        match (self.stream, &self.name) {
+            (None, None) => Error { stream, offset: stream.and(offset), ..self },
+            _ => self,
+        }
+    }
+
+    /// The same error in the stream of a name, and at an offset, unless it says already where it is.
+    pub(crate) fn in_named(self, name: &[u8], offset: Option<u32>) -> Error {
+        match (self.stream, &self.name) {
+            (None, None) => Error { name: Some(String::from_utf8_lossy(name).into()), offset, ..self },
+            _ => self,
         }
     }
 }
 
 impl From<ErrorKind> for Error {
     fn from(kind: ErrorKind) -> Error {
-        Error { kind, stream: None, offset: None }
+        Error { kind, stream: None, name: None, offset: None }
     }
 }
 
 impl fmt::Display for Error {
     fn fmt(&self, f: &mut fmt::Formatter<'_>) -> fmt::Result {
         self.kind.fmt(f)?;
-        match (self.stream, self.offset) {
-            (Some(stream), Some(offset)) => write!(f, " [stream {stream} byte {offset:#x}]"),
-            (Some(stream), None) => write!(f, " [stream {stream}]"),
-            (None, _) => Ok(()),
+        match (self.stream, &self.name) {
+            (Some(stream), _) => write!(f, " [stream {stream}")?,
+            (None, Some(name)) => write!(f, " [stream {name}")?,
+            (None, None) => return Ok(()),
         }
+        self.offset.map_or(Ok(()), |offset| write!(f, " byte {offset:#x}"))?;
+        f.write_str("]")
     }
 }
 

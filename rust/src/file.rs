@@ -52,8 +52,9 @@ impl<'f> Pdb<'f> {
 
     /// The size of a stream in bytes, as the directory gives it.
     pub fn stream_size(&self, number: u32) -> Result<u32> {
-        let size = self.file.value(|file, size| unsafe { sys::pdb_file_stream_size(file, number, size) })?;
-        Ok(size.ok_or(ErrorKind::StreamNotFound { number })?)
+        let size = self.file.value(|file, size| unsafe { sys::pdb_file_stream_size(file, number, size) });
+        let size = size.and_then(|size| Ok(size.ok_or(ErrorKind::StreamNotFound { number })?));
+        size.map_err(|error| error.at(Some(number), None))
     }
 
     /// The bytes of a stream.
@@ -97,9 +98,10 @@ impl<'f> Pdb<'f> {
     /// The bytes of the first stream with this name, such as `/names`.
     pub fn named_stream(&self, name: impl AsRef<[u8]>) -> Result<Vec<u8>> {
         let name = name.as_ref();
-        self.file.stream(|file, to, size, count| unsafe {
+        let bytes = self.file.stream(|file, to, size, count| unsafe {
             sys::pdb_file_named_stream(file, name.as_ptr(), name.len(), to, size, count)
-        })
+        });
+        bytes.map_err(|error| error.in_named(name, None))
     }
 
     /// The numbers of the streams in eleven roles.

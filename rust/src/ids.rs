@@ -4,7 +4,8 @@ use std::sync::Arc;
 use crate::error::{Error, ErrorKind, Result};
 use crate::file::Pdb;
 use crate::names::Name;
-use crate::row::{IdShape, Row};
+use crate::row::Row;
+use crate::shapes::IdShape;
 use crate::sys;
 use crate::table::{Record, Table, Walk};
 
@@ -73,7 +74,7 @@ impl Ids {
 
     /// Why the table ends before its end, if it does.
     pub(crate) fn stop(&self) -> Option<Error> {
-        self.stop
+        self.stop.clone()
     }
 }
 

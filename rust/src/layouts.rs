@@ -81,11 +81,43 @@ impl Layout {
     }
 
     /// Each row: the fields in the order of their records, and then the bits that no field takes.
-    pub fn iter(&self) -> impl Iterator<Item = LayoutRow<'_>> {
-        let name = |row: &sys::LayoutRow| Name::new(&self.names[row.name_offset..][..row.name_length]);
-        self.rows.iter().map(move |row| LayoutRow::of(row, name(row)))
+    pub fn iter(&self) -> LayoutIter<'_> {
+        LayoutIter { rows: self.rows.iter(), names: &self.names }
     }
 }
+
+impl<'l> IntoIterator for &'l Layout {
+    type Item = LayoutRow<'l>;
+    type IntoIter = LayoutIter<'l>;
+
+    fn into_iter(self) -> LayoutIter<'l> {
+        self.iter()
+    }
+}
+
+/// Each row of a layout: the fields in the order of their records, and then the bits that no field takes.
+#[derive(Debug, Clone)]
+pub struct LayoutIter<'l> {
+    rows: std::slice::Iter<'l, sys::LayoutRow>,
+    names: &'l [u8],
+}
+
+impl<'l> Iterator for LayoutIter<'l> {
+    type Item = LayoutRow<'l>;
+
+    fn next(&mut self) -> Option<LayoutRow<'l>> {
+        let row = self.rows.next()?;
+        Some(LayoutRow::of(row, Name::new(&self.names[row.name_offset..][..row.name_length])))
+    }
+
+    fn size_hint(&self) -> (usize, Option<usize>) {
+        self.rows.size_hint()
+    }
+}
+
+impl ExactSizeIterator for LayoutIter<'_> {}
+
+impl std::iter::FusedIterator for LayoutIter<'_> {}
 
 /// A row of a layout: a field, or bits that no field takes.
 #[derive(Debug, Clone, Copy, PartialEq, Eq)]
@@ -136,6 +168,8 @@ pub enum LayoutKind<'l> {
     UnusedBits,
     /// The bytes after all fields of a class that has virtual bases, whose places no record says.
     VirtualBases,
+    /// A kind that this version of the crate does not know.
+    Other,
 }
 
 /// How far a row of a layout goes.
@@ -170,7 +204,7 @@ impl<'l> LayoutRow<'l> {
             sys::PDB_LAYOUT_HOLE => LayoutKind::Hole,
             sys::PDB_LAYOUT_UNUSED_BITS => LayoutKind::UnusedBits,
             sys::PDB_LAYOUT_VIRTUAL_BASES => LayoutKind::VirtualBases,
-            kind => unreachable!("the library has no kind {kind} of a row"),
+            _ => LayoutKind::Other,
         };
         let extent = match row.extent {
             sys::PDB_EXTENT_BYTES => Extent::Bytes(row.size),
@@ -178,5 +212,16 @@ impl<'l> LayoutRow<'l> {
             _ => Extent::Unknown,
         };
         LayoutRow { kind, offset: row.offset, extent }
+    }
+}
+
+#[cfg(test)]
+mod tests {
+    use super::*;
+
+    #[test]
+    fn a_row_of_a_newer_library() {
+        let row = LayoutRow::of(&sys::LayoutRow { kind: 99, extent: 99, ..sys::LayoutRow::default() }, Name::default());
+        assert_eq!((row.kind, row.extent), (LayoutKind::Other, Extent::Unknown));
     }
 }

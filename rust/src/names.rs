@@ -63,6 +63,10 @@ impl AsRef<[u8]> for Name<'_> {
     }
 }
 
+/// The stream that has the string table, and how many of its bytes stand before the names.
+const STREAM: &[u8] = b"/names";
+const HEADER: u32 = 12;
+
 /// A string table, and the stream that has it.
 pub struct Names {
     stream: Vec<u8>,
@@ -103,10 +107,10 @@ impl std::iter::FusedIterator for NameIter<'_> {}
 
 impl Names {
     pub(crate) fn open(pdb: &Pdb<'_>) -> Result<Names> {
-        let stream = pdb.named_stream("/names")?;
+        let stream = pdb.named_stream(STREAM)?;
         // SAFETY: the file is open, and the handle is all zero.
-        let table = pdb.file.table(|file, names| unsafe { sys::pdb_names_open(file, names) })?;
-        Ok(Names { stream, table })
+        let table = pdb.file.table(|file, names| unsafe { sys::pdb_names_open(file, names) });
+        Ok(Names { stream, table: table.map_err(|error| error.in_named(STREAM, None))? })
     }
 
     /// The name at an offset of the table.
@@ -114,10 +118,11 @@ impl Names {
         // SAFETY: the arrays are of one item, and the places stay in one call.
         let place =
             self.table.value(|names, place| unsafe { sys::pdb_names_places(names, &offset, 1, place, 1, &mut 0) });
-        match place? {
+        let name = place.and_then(|place| match place {
             Some(sys::Name { offset: 0, .. }) | None => Err(ErrorKind::UnexpectedEof.into()),
             Some(place) => Ok(Name(&self.stream[place.offset..][..place.length])),
-        }
+        });
+        name.map_err(|error| error.in_named(STREAM, offset.checked_add(HEADER)))
     }
 
     /// The offset of each name, and the name, in their order.

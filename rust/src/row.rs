@@ -1,90 +1,7 @@
 use crate::sys;
 
-macro_rules! shapes {
-    ($name:ident $about:literal $($(#[$of:meta])* $shape:ident = $value:ident)*) => {
-        #[doc = $about]
-        #[derive(Debug, Clone, Copy, PartialEq, Eq, Hash)]
-        #[non_exhaustive]
-        #[repr(u32)]
-        pub enum $name { $($(#[$of])* $shape = sys::$value,)* }
-
-        impl $name {
-            pub(crate) fn of(value: u32) -> $name {
-                match value {
-                    $(sys::$value => $name::$shape,)*
-                    _ => unreachable!("the library has no shape {value}"),
-                }
-            }
-        }
-    };
-}
-
-shapes! { Shape "The shapes of types, and of the fields in a list."
-    /// A primitive type, which has no record.
-    Primitive = PDB_PRIMITIVE
-    /// A class, a structure or an interface.
-    Class = PDB_CLASS
-    /// A member of a class.
-    Member = PDB_MEMBER
-    /// The type of a method.
-    MemberFunction = PDB_MEMBER_FUNCTION
-    /// Methods of one name.
-    OverloadedMethod = PDB_OVERLOADED_METHOD
-    /// A method.
-    Method = PDB_METHOD
-    /// A static member.
-    StaticMember = PDB_STATIC_MEMBER
-    /// A type that is declared in a class.
-    Nested = PDB_NESTED
-    /// A base class.
-    BaseClass = PDB_BASE_CLASS
-    /// A virtual base class.
-    VirtualBaseClass = PDB_VIRTUAL_BASE_CLASS
-    /// The pointer to a table of virtual functions.
-    VirtualFunctionTablePointer = PDB_VIRTUAL_FUNCTION_TABLE_POINTER
-    /// The type of a function.
-    Procedure = PDB_PROCEDURE
-    /// A pointer, a reference, or a pointer to a member.
-    Pointer = PDB_POINTER
-    /// A type with `const`, `volatile` or `unaligned`.
-    Modifier = PDB_MODIFIER
-    /// An enumeration.
-    Enumeration = PDB_ENUMERATION
-    /// A value of an enumeration.
-    Enumerate = PDB_ENUMERATE
-    /// An array.
-    Array = PDB_ARRAY
-    /// A union.
-    Union = PDB_UNION
-    /// The type of a bit field.
-    Bitfield = PDB_BITFIELD
-    /// A list of fields.
-    FieldList = PDB_FIELD_LIST
-    /// A list of arguments.
-    ArgumentList = PDB_ARGUMENT_LIST
-    /// A list of methods.
-    MethodList = PDB_METHOD_LIST
-    /// The shape of a table of virtual functions.
-    VirtualTableShape = PDB_VIRTUAL_TABLE_SHAPE
-}
-
-shapes! { IdShape "The shapes of ids."
-    /// A function.
-    Function = PDB_FUNCTION_ID
-    /// A method.
-    MemberFunction = PDB_MEMBER_FUNCTION_ID
-    /// How a module was built.
-    BuildInfo = PDB_BUILD_INFO_ID
-    /// The parts of a text.
-    StringList = PDB_STRING_LIST_ID
-    /// A text.
-    String = PDB_STRING_ID
-    /// Where a type is declared.
-    TypeSource = PDB_TYPE_SOURCE_ID
-}
-
-/// The numbers in a record: what it says besides names and lists. Those that a record of its shape doesn't have are
-/// None.
+/// The numbers in a record: what it says besides names and lists, each by the name that it has in its shape, and by the
+/// field of a row in which it is. Those that a record of its shape doesn't have are None.
 #[derive(Debug, Clone, Copy, Default, PartialEq, Eq)]
 #[repr(transparent)]
 pub struct Row(pub(crate) sys::Row);
@@ -143,11 +60,32 @@ impl Row {
     /// The value of an enumeration's value, which may be below 0.
     pub fn value(&self) -> Option<i128> {
         let bits = self.number()?;
-        Some(if self.kind() == Some(1) { i128::from(bits as i64) } else { i128::from(bits) })
+        Some(if self.is_signed() == Some(true) { i128::from(bits as i64) } else { i128::from(bits) })
     }
 
     /// Whether a class, a union or an enumeration is only declared here, and defined by another record.
     pub fn is_forward(&self) -> bool {
         self.properties().is_some_and(|it| it & Row::FORWARD != 0)
+    }
+}
+
+#[cfg(test)]
+mod tests {
+    use super::*;
+    use crate::shapes::{IdShape, Shape};
+
+    #[test]
+    fn a_shape_that_is_not_known() {
+        let row = Row(sys::Row { shape: 99, has: u32::MAX, number: 7, type_index: 8, ..sys::Row::default() });
+        assert_eq!((Shape::of(row.0.shape), IdShape::of(row.0.shape)), (Shape::Other, IdShape::Other));
+        assert_eq!((row.number(), row.size(), row.offset(), row.field_type()), (Some(7), None, None, None));
+    }
+
+    #[test]
+    fn each_shape_has_its_number() {
+        for shape in [Shape::Primitive, Shape::Member, Shape::Bitfield, Shape::VirtualTableShape] {
+            assert_eq!(Shape::of(shape as u32), shape);
+        }
+        assert_eq!(IdShape::of(IdShape::TypeSource as u32), IdShape::TypeSource);
     }
 }

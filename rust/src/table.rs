@@ -222,6 +222,11 @@ impl<'t> Record<'t> {
         result.map_err(|error| error.at(Some(self.table.number), Some(self.offset)))
     }
 
+    /// The kind of the record, None for a primitive type.
+    pub fn kind(&self) -> Option<u16> {
+        self.bytes.first_chunk().map(|kind| u16::from_le_bytes(*kind))
+    }
+
     /// The numbers in it.
     pub fn parse(&self) -> Result<Row> {
         let row = self.table.handle.value(|table, row| unsafe { sys::pdb_type_parse(table, self.index, row) });

@@ -1,7 +1,8 @@
 use crate::error::Result;
 use crate::layouts::{Definitions, Layout};
 use crate::names::Name;
-use crate::row::{Row, Shape};
+use crate::row::Row;
+use crate::shapes::Shape;
 use crate::sys;
 use crate::table::{Record, Table, Walk};
 

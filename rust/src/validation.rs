@@ -2,19 +2,23 @@ use crate::error::{Error, ErrorKind, Result};
 use crate::handle::{check_version, items};
 use crate::sys;
 
-/// An enumeration whose values have the numbers of the library's constants.
+/// An enumeration whose values have the numbers of the library's constants. A newer library may have more of them.
 macro_rules! numbered {
     ($(#[$what:meta])* $name:ident { $($(#[$about:meta])* $case:ident = $value:ident)* }) => {
         $(#[$what])*
         #[derive(Debug, Clone, Copy, PartialEq, Eq, Hash)]
         #[non_exhaustive]
-        pub enum $name { $($(#[$about])* $case,)* }
+        pub enum $name {
+            $($(#[$about])* $case,)*
+            /// One that this version of the crate does not know.
+            Other,
+        }
 
         impl $name {
             fn of(value: u32) -> $name {
                 match value {
                     $(sys::$value => $name::$case,)*
-                    _ => unreachable!("the library has no number {value} here"),
+                    _ => $name::Other,
                 }
             }
         }
@@ -193,4 +197,15 @@ pub fn validate(file: &[u8]) -> Result<Vec<Finding>> {
 /// Everything that is wrong in a file.
 pub fn validate_all(file: &[u8]) -> Result<Vec<Finding>> {
     findings(file, 1)
+}
+
+#[cfg(test)]
+mod tests {
+    use super::*;
+
+    #[test]
+    fn numbers_of_a_newer_library() {
+        let found = Finding::of(&sys::Finding { part: 99, inconsistency: 99, ..sys::Finding::default() });
+        assert_eq!((found.part, found.problem), (Part::Other, Problem::Inconsistent(Inconsistency::Other, 0)));
+    }
 }

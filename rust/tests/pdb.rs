@@ -1,6 +1,5 @@
 //! The module with the names of the crate `pdb`, compared with the crate's own names over examples/sample.pdb.
 
-use std::collections::HashMap;
 use std::error::Error;
 use std::fs::File;
 use std::io::Cursor;
@@ -97,81 +96,15 @@ fn check(
 }
 
 #[test]
-fn a_class_by_its_name() -> Result<(), Box<dyn Error>> {
-    let mut file = open();
-    let table = file.type_information()?;
-    let finder = table.finder();
-    let classes: HashMap<_, _> = table
-        .iter()
-        .map(|item| Ok((item.index(), item.parse()?)))
-        .filter(|(_, data)| Ok(matches!(data, pdb::TypeData::Class(it) if !it.properties.forward_reference())))
-        .map(|(index, data)| Ok((data.name().unwrap().to_string(), index)))
-        .collect()?;
-    let pdb::TypeData::Class(derived) = finder.find(classes["Derived"])?.parse()? else { panic!("no class") };
-    assert_eq!((derived.kind, derived.size, derived.count), (pdb::ClassKind::Class, 128, 19));
-    let pdb::TypeData::FieldList(list) = finder.find(derived.fields.unwrap())?.parse()? else { panic!("no list") };
-    let members = list.fields.iter().filter(|it| matches!(it, pdb::TypeData::Member(_)));
-    let names: Vec<_> = members.map(|it| it.name().unwrap().to_string()).collect();
-    assert_eq!(names, ["grid", "flags", "compare", "measure", "axis", "watched", "inner", "state"]);
-    let virtual_base = list.fields.iter().find_map(|it| match it {
-        pdb::TypeData::VirtualBaseClass(it) => Some((it.direct, it.base_pointer_offset, it.virtual_base_offset)),
-        _ => None,
-    });
-    assert_eq!(virtual_base, Some((true, 12, 1)));
-    Ok(())
-}
-
-#[test]
-fn ids_names_and_streams() -> Result<(), Box<dyn Error>> {
-    let mut file = open();
-    let (ids, strings) = (file.id_information()?, file.string_table()?);
-    let found: Vec<_> = ids.iter().map(|item| item.parse()).collect()?;
-    let functions: Vec<_> = found.iter().filter(|it| matches!(it, pdb::IdData::Function(_))).collect();
-    assert!(functions.iter().any(|it| it.name().unwrap().to_string() == "mainCRTStartup"));
-    let build = found.iter().find_map(|it| if let pdb::IdData::BuildInfo(it) = it { Some(it.clone()) } else { None });
-    let source = ids.finder().find(build.unwrap().arguments[2])?.parse()?;
-    assert_eq!(source.name(), Some("sample.cpp".into()));
-    let information = file.pdb_information()?;
-    assert_eq!((information.version, information.age), (20_000_404, 1));
-    let names = information.stream_names()?;
-    let stream = names.iter().find(|it| it.name.as_bytes() == b"/names").unwrap().stream_id;
-    assert_eq!(file.raw_stream(stream)?.unwrap().as_slice(), &*file.named_stream(b"/names")?);
-    assert!(file.raw_stream(pdb::StreamIndex(99))?.is_none());
-    let program = file.frame_table()?.iter().filter(|it| Ok(it.program.is_some())).next()?.unwrap().program.unwrap();
-    assert!(program.to_string_lossy(&strings)?.contains("$T0"));
-    assert!(matches!(strings.get(pdb::StringRef(1 << 20)), Err(pdb::Error::UnexpectedEof)));
-    Ok(())
-}
-
-#[test]
-fn addresses_and_frames() -> Result<(), Box<dyn Error>> {
-    let mut file = open();
-    let (map, sections) = (file.address_map()?, file.sections()?.unwrap());
-    assert_eq!(
-        sections.iter().map(|it| it.name().to_string()).collect::<Vec<_>>(),
-        [".text", ".rdata", ".data", ".reloc"]
-    );
-    let text = sections[0].characteristics;
-    assert!(text.executable() && text.execute() && text.read() && !text.write() && text.alignment().is_none());
-    let rva = pdb::Rva(0x1000) + 8;
-    assert_eq!((rva - pdb::Rva(0x1000), rva.checked_sub(pdb::Rva(0x2000))), (8, None));
-    let (internal, place) = (rva.to_internal_rva(&map).unwrap(), rva.to_section_offset(&map).unwrap());
-    assert_eq!((internal, place), (pdb::PdbInternalRva(0x11a8), pdb::SectionOffset::new(1, 8)));
-    assert_eq!((internal.to_rva(&map), place.to_rva(&map)), (Some(rva), Some(rva)));
-    assert_eq!(rva.to_internal_offset(&map).unwrap().to_rva(&map), Some(rva));
-    assert_eq!(pdb::PdbInternalRva(0x1012).to_rva(&map), None);
-    let moved: u32 = map.rva_ranges(internal..internal + 8).map(|it| it.end - it.start).sum();
-    assert_eq!(moved, 8);
-    let frames = file.frame_table()?;
-    let all: Vec<_> = frames.iter().collect()?;
-    assert!(all.windows(2).all(|it| it[0].code_start <= it[1].code_start));
-    let at: Vec<_> = frames.iter_at_rva(pdb::PdbInternalRva(0x10b1)).collect()?;
-    assert_eq!(
-        (at[0].code_start, at[0].ty, at[0].saved_regs_size),
-        (pdb::PdbInternalRva(0x10b1), pdb::FrameType::FrameData, 4)
-    );
-    assert_eq!(at, all[all.len() - at.len()..]);
-    assert_eq!(frames.iter_at_rva(pdb::PdbInternalRva(u32::MAX)).next()?, None);
+fn frames() -> Result<(), Box<dyn Error>> {
+    let bytes = std::fs::read(SAMPLE)?;
+    let (ours, theirs) = (Pdb::parse(&bytes)?.frames()?, open().frame_table()?);
+    let starts: Vec<_> = theirs.iter().map(|it| Ok(it.code_start.0)).collect()?;
+    assert_eq!(starts, ours.list()?.iter().map(|it| it.code_start).collect::<Vec<_>>());
+    for address in (0..0x1200).chain([u32::MAX]) {
+        let first = theirs.iter_at_rva(pdb::PdbInternalRva(address)).next()?;
+        assert_eq!(first.map(|it| it.code_start.0), ours.at(address)?.map(|it| it.code_start), "{address:#x}");
+    }
     Ok(())
 }
 

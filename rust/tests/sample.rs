@@ -2,8 +2,8 @@
 
 use damaged::damaged;
 use pdb_container::{
-    Address, AddressMap, Error, ErrorKind, Extent, Features, Format, Frames, IdShape, Inconsistency, KeyForm,
-    LayoutKind, LayoutRow, Names, Omap, Part, Pdb, Problem, Shape, Types, validate, validate_all,
+    Address, AddressMap, Error, ErrorKind, Extent, Features, Format, FrameKind, Frames, IdShape, Inconsistency,
+    KeyForm, LayoutIter, LayoutKind, LayoutRow, Names, Omap, Part, Pdb, Problem, Shape, Types, validate, validate_all,
 };
 
 mod damaged;
@@ -43,6 +43,23 @@ fn header_and_streams() {
     let about = pdb.information().unwrap();
     assert_eq!((about.version, about.age), (20000404, 1));
     assert_eq!(about.guid.to_string().len(), 36);
+}
+
+#[test]
+fn errors_say_which_stream_it_is() {
+    let file = sample();
+    let pdb = Pdb::parse(&file).unwrap();
+    let missing = pdb.stream_size(99).unwrap_err();
+    assert_eq!((missing.kind, missing.stream), (ErrorKind::StreamNotFound { number: 99 }, Some(99)));
+    assert_eq!(pdb.stream(99), Err(missing));
+    let unnamed = pdb.named_stream("/none").unwrap_err();
+    assert_eq!((unnamed.kind, unnamed.name.as_deref()), (ErrorKind::StreamNameNotFound, Some("/none")));
+    assert!(unnamed.to_string().ends_with(" [stream /none]"), "{unnamed}");
+    // The table has 128 bytes of names, behind a header of 12 bytes.
+    let behind = pdb.names().unwrap().get(128).unwrap_err();
+    assert_eq!((behind.kind, behind.name.as_deref()), (ErrorKind::UnexpectedEof, Some("/names")));
+    assert!(behind.to_string().ends_with(" [stream /names byte 0x8c]"), "{behind}");
+    assert!(Pdb::parse(b"MZ").unwrap_err().name.is_none());
 }
 
 #[test]
@@ -102,7 +119,8 @@ fn layouts() {
     let types = Pdb::parse(&file).unwrap().types().unwrap();
     let rows_of = |name: &str| {
         let layout = types.layout(name).unwrap().unwrap();
-        assert_eq!(layout.len(), layout.iter().count());
+        let rows: LayoutIter<'_> = layout.iter();
+        assert_eq!((rows.len(), rows.count()), (layout.len(), (&layout).into_iter().count()));
         (layout.size(), layout.iter().map(|it| row_of(&it)).collect::<Vec<_>>())
     };
     let (size, rows) = rows_of("Derived");
@@ -160,15 +178,24 @@ fn types_and_their_fields() {
     }
     let derived = types.find("Derived").unwrap().unwrap();
     assert_eq!((derived.shape(), derived.row.number(), derived.row.is_forward()), (Shape::Class, Some(128), false));
+    // By their names in the shape, which other shapes lack.
+    assert_eq!((derived.row.size(), derived.row.fields()), (Some(128), derived.row.list_index()));
+    assert_eq!((derived.row.vtable_shape(), derived.row.derived_from()), (Some(0x1001), None));
+    assert_eq!((derived.row.offset(), derived.row.element_type(), derived.row.file_name()), (None, None, None));
     assert_eq!(derived.name().unwrap().unwrap(), "Derived");
     assert_eq!(derived.unique_name().unwrap().unwrap(), ".?AVDerived@@");
     let fields = types.fields(derived.row.list_index().unwrap()).unwrap();
     let members: Vec<_> =
         fields.iter().filter(|it| it.shape() == Shape::Member).map(|it| it.name.unwrap().to_string()).collect();
     assert_eq!(members, ["grid", "flags", "compare", "measure", "axis", "watched", "inner", "state"]);
+    let methods: Vec<_> = fields.iter().filter(|it| it.shape() == Shape::Method).filter_map(|it| it.name).collect();
+    assert_eq!(methods, ["Derived", "area", "share", "make"]);
     let scale = fields.iter().find(|it| it.name.is_some_and(|it| it == "scale")).unwrap();
     assert_eq!(types.get(scale.row.list_index().unwrap()).unwrap().methods().unwrap().unwrap().len(), 2);
     let grid = fields.iter().find(|it| it.name.is_some_and(|it| it == "grid")).unwrap();
+    assert_eq!((grid.row.offset(), grid.row.field_type(), grid.row.is_direct()), (Some(20), Some(0x1008), None));
+    let shared = fields.iter().find(|it| it.shape() == Shape::VirtualBaseClass).unwrap();
+    assert_eq!((shared.row.is_direct(), shared.row.base_class()), (Some(true), Some(0x1004)));
     assert_eq!(types.get(grid.row.type_index().unwrap()).unwrap().dimensions().unwrap(), Some(vec![48]));
     let limit = types.find("shapes::Limit").unwrap().unwrap();
     let values: Vec<_> =
@@ -227,9 +254,12 @@ fn ids_and_names() {
 fn addresses_and_frames() {
     let file = sample();
     let pdb = Pdb::parse(&file).unwrap();
-    let names: Vec<_> = pdb.sections().unwrap().iter().map(|it| it.name().to_string()).collect();
+    let (sections, original) = (pdb.sections().unwrap(), pdb.original_sections().unwrap());
+    let names: Vec<_> = sections.iter().map(|it| it.name().to_string()).collect();
     assert_eq!(names, [".text", ".rdata", ".data", ".reloc"]);
-    assert_ne!(pdb.sections().unwrap()[0], pdb.original_sections().unwrap()[0]);
+    assert_eq!((sections[0].virtual_size, original[0].virtual_size), (0x1a0, 0x1a1));
+    assert_eq!((sections[2].virtual_address, sections[2].pointer_to_raw_data), (0x3000, 0x800));
+    assert_eq!((sections[3].size_of_raw_data, sections[3].characteristics), (0x200, 0x4200_0040));
     let (map, to_src) = (pdb.address_map().unwrap(), pdb.omap_to_src().unwrap().unwrap());
     for address in 0x1000..0x1190 {
         let original = map.translate(Address::Rva(address)).unwrap().internal_rva.unwrap();
@@ -253,8 +283,10 @@ fn addresses_and_frames() {
     assert_eq!(map.internal_rva_ranges(0x1000..0x1020), to_src.ranges(0x1000..0x1020));
     let frames = pdb.frames().unwrap();
     let (older, newer) = (frames.at(0x1000).unwrap().unwrap(), frames.at(0x10b1).unwrap().unwrap());
-    assert_eq!((older.code_start, older.code_size, older.has_program), (0x1000, 16, 0));
-    assert_eq!((newer.code_start, newer.saved_regs_size), (0x10b1, 4));
+    assert_eq!((older.kind, older.code_start, older.code_size, older.program), (FrameKind::Fpo, 0x1000, 16, None));
+    assert_eq!((newer.kind, newer.code_start, newer.saved_regs_size), (FrameKind::Data, 0x10b1, 4));
+    assert_eq!((newer.max_stack_size, newer.is_function_start, newer.uses_base_pointer), (Some(0), false, false));
+    assert!(frames.at(0x1010).unwrap().unwrap().is_function_start);
     assert_eq!(frames.at(0x100000), Ok(None));
     let all = frames.list().unwrap();
     assert!(
@@ -278,9 +310,9 @@ fn a_record_that_cannot_be_read() {
     }
     assert_eq!(count, types.count());
     assert_eq!(failed.len(), 1);
-    let (index, error) = failed[0];
+    let (index, error) = failed.remove(0);
     assert_eq!((index, error.kind), (modifier.index, ErrorKind::UnimplementedTypeKind { kind: 0xe }));
-    assert_eq!(types.get(index), Err(error));
+    assert_eq!(types.get(index).as_ref(), Err(&error));
     assert!(are_alike(&types));
     let stream = Pdb::parse(&damaged).unwrap().stream(2).unwrap();
     let record = types.iter().nth((index - types.first_index()) as usize - 1).unwrap().unwrap().record;
@@ -300,8 +332,8 @@ fn a_table_that_is_damaged() {
     let damaged = replaced(&file, &front, &shorter);
     let types = Pdb::parse(&damaged).unwrap().types().unwrap();
     let all: Vec<_> = types.iter().collect();
-    assert_eq!((all.len(), kind(all[2])), (3, Err(ErrorKind::TypeTooShort)));
-    assert_eq!(all[2].unwrap_err().stream, Some(2));
+    let [_, _, Err(error)] = &all[..] else { panic!("{all:?}") };
+    assert_eq!((error.kind, error.stream), (ErrorKind::TypeTooShort, Some(2)));
     assert!(all[..2].iter().all(Result::is_ok));
     let mut fused = types.iter().skip(3);
     assert_eq!((fused.next(), fused.next()), (None, None));

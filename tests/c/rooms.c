@@ -1,6 +1,7 @@
 // Asks each call that is asked twice, first for a length and then for the answer, with arrays of 0, n - 1, n and n + 1
 // items, each of which ends where memory ends: the length is exact, exactly enough room is enough, nothing is written
-// without it, and nothing past the answer. A text takes one byte more than its length, for the NUL.
+// without it, and nothing past the answer. A text takes one byte more than its length, for the NUL. A length may be null.
+// Each is asked of a handle that holds something else too, and of one that is closed.
 //
 // usage: rooms FILE    FILE is examples/sample.pdb. Prints how many answers were asked for.
 #include <pdb_container.h>
@@ -48,7 +49,7 @@ CALL(sections, pdb_section, pdb_file_sections(&file, roles.section_headers, item
 CALL(loaded_ranges, pdb_span, pdb_address_ranges(&map, PDB_INTERNAL_RVA, 0x1000, 0x1190, items, room_length, length))
 CALL(internal_ranges, pdb_span, pdb_address_ranges(&map, PDB_RVA, 0x1000, 0x1190, items, room_length, length))
 CALL(frames_list, pdb_frame, pdb_frames_list(&frames, items, room_length, length))
-CALL(names_get, char, pdb_names_get(&string_table, 1, items, room_length, length))
+CALL(names_get, char, pdb_names_get(&string_table, 2, items, room_length, length))
 CALL(empty_name, char, pdb_names_get(&string_table, 0, items, room_length, length))
 CALL(names_places, pdb_name, pdb_names_places(&string_table, offsets, 3, items, room_length, length))
 CALL(types_find, pdb_found_record, pdb_types_find(&types, indexes, 4, items, room_length, length))
@@ -81,11 +82,41 @@ typedef struct question {
     int is_text;
 } question;
 
-// An answer: how many items it has, how many bytes its names have, and its first item.
+// An answer: how many items it has, how many bytes its names have, and both.
 typedef struct answer {
     size_t length, size;
-    const uint8_t *first;
+    const uint8_t *items, *names;
 } answer;
+
+static int are_same(const question *it, const uint8_t *room, const uint8_t *names, const answer *wanted) {
+    // The last four bytes of these two rows are padding.
+    size_t compared = it->item - (it->asked == stream_names || it->asked == type_fields ? 4 : 0);
+    for (size_t i = 0; i < wanted->length; i++)
+        if (memcmp(room + i * it->item, wanted->items + i * it->item, compared)) return 0;
+    return !wanted->size || !memcmp(names, wanted->names, wanted->size);
+}
+
+// Asks with enough room and no places for the lengths.
+static void ask_without_lengths(const question *it, const answer *wanted) {
+    size_t items = wanted->length + (size_t)it->is_text;
+    uint8_t *room = guarded(items * it->item, FILLED), *names = guarded(wanted->size, FILLED);
+    if (it->asked(room, items, NULL, (char *)names, wanted->size, NULL) != PDB_OK) fail(it->name, "a null length");
+    if (!are_same(it, room, names, wanted)) fail(it->name, "another answer without lengths");
+    if (items && it->asked(NULL, 0, NULL, NULL, 0, NULL) != PDB_TOO_SMALL) fail(it->name, "no room and a null length");
+    unguarded(room, items * it->item);
+    unguarded(names, wanted->size);
+}
+
+// Asks a handle that doesn't hold what the call is about.
+static void ask_in_vain(const question *it) {
+    uint8_t *room = guarded(64 * it->item, FILLED), *names = guarded(64, FILLED);
+    size_t length = 7777, size = 7777;
+    if (it->asked(room, 64, &length, (char *)names, 64, &size) != PDB_NOT_OPEN || length) fail(it->name, "not refused");
+    if (it->asked(room, 64, NULL, (char *)names, 64, NULL) != PDB_NOT_OPEN) fail(it->name, "not refused without lengths");
+    if (!is_filled(room, 64 * it->item) || !is_filled(names, 64)) fail(it->name, "written, though refused");
+    unguarded(room, 64 * it->item);
+    unguarded(names, 64);
+}
 
 // Asks with arrays of so many items and bytes of an answer that is known.
 static void ask(const question *it, size_t room_length, size_t names_length, answer wanted) {
@@ -98,7 +129,7 @@ static void ask(const question *it, size_t room_length, size_t names_length, ans
     size_t written = is_enough ? items * it->item : 0, written_names = is_enough ? size : 0;
     if (room && !is_filled(room + written, room_length * it->item - written)) fail(it->name, "more is written than the answer");
     if (names && !is_filled(names + written_names, names_length - written_names)) fail(it->name, "more is written than the names");
-    if (is_enough && length && memcmp(room, wanted.first, it->item)) fail(it->name, "another answer");
+    if (is_enough && !are_same(it, room, names, &wanted)) fail(it->name, "another answer");
     if (is_enough && it->is_text && strlen((char *)room) != length) fail(it->name, "no NUL at the end");
     if (written_names && names[size - 1]) fail(it->name, "no NUL at the end of the names");
     unguarded(room, room_length * it->item);
@@ -112,22 +143,26 @@ static int is_answered(const question *it) {
     answer wanted = {0};
     if (it->asked(NULL, 0, &wanted.length, NULL, 0, &wanted.size) != PDB_TOO_SMALL) return 0;
     size_t items = wanted.length + (size_t)it->is_text, least = items ? items - 1 : 0, least_size = wanted.size ? wanted.size - 1 : 0;
-    uint8_t *first = guarded(items * it->item, 0), *names = guarded(wanted.size, 0);
-    if (it->asked(first, items, &wanted.length, (char *)names, wanted.size, &wanted.size) != PDB_OK) fail(it->name, "exactly enough room");
-    wanted.first = first;
+    uint8_t *room = guarded(items * it->item, 0), *names = guarded(wanted.size, 0);
+    if (it->asked(room, items, &wanted.length, (char *)names, wanted.size, &wanted.size) != PDB_OK) fail(it->name, "exactly enough room");
+    wanted.items = room, wanted.names = names;
     size_t rooms[] = {0, least, items, items + 1}, sizes[] = {0, least_size, wanted.size, wanted.size + 1};
     for (size_t i = 0; i < 4; i++)
         for (size_t n = 0; n < (wanted.size ? 4 : 1); n++) ask(it, rooms[i], sizes[n], wanted);
-    unguarded(first, items * it->item);
+    ask_without_lengths(it, &wanted);
+    unguarded(room, items * it->item);
     unguarded(names, wanted.size);
     asked_for++;
     return 1;
 }
 
-static const question of_file[] = {
+// Those without a handle, of a file, and of what is opened from one.
+static const question of_bytes[] = {
     {"pdb_fault_text", fault_text, 1, 1},
     {"pdb_key", key, 1, 1},
     {"pdb_validate", validate, sizeof(pdb_finding), 0},
+};
+static const question of_file[] = {
     {"pdb_file_stream", file_stream, 1, 0},
     {"pdb_file_stream with a limit", limited_stream, 1, 0},
     {"pdb_file_named_stream", named_stream, 1, 0},
@@ -155,7 +190,7 @@ static const question of_record[] = {
     {"pdb_type_text", type_text, 1, 1},
     {"pdb_type_layout", layout, sizeof(pdb_layout_row), 0},
 };
-enum { OF_FILE = sizeof of_file / sizeof *of_file, OF_RECORD = sizeof of_record / sizeof *of_record, OF_ID = 4 };
+enum { OF_BYTES = 3, OF_FILE = sizeof of_file / sizeof *of_file, OF_RECORD = sizeof of_record / sizeof *of_record, OF_ID = 4 };
 
 // The first calls on each record of a table that have an answer, and whether each had one.
 static void ask_records(uint32_t number, size_t count) {
@@ -172,6 +207,59 @@ static void ask_records(uint32_t number, size_t count) {
     pdb_close(&types.handle);
 }
 
+// What has no answer of its own to be asked for: a walk, and questions that write one thing.
+static void ask_others_in_vain(void) {
+    pdb_type type;
+    pdb_type_info info;
+    pdb_index_range range;
+    pdb_translation translation;
+    pdb_frame frame;
+    uint32_t number;
+    uint64_t size;
+    size_t written = 7777;
+    uint32_t statuses[] = {
+        pdb_types_read(&types, &type, 1, NULL),          pdb_types_read(&types, &type, 1, &written),
+        pdb_types_range(&types, &range),                 pdb_types_rewind(&types),
+        pdb_type_parse(&types, 0x1000, &info),           pdb_type_definition(&types, 0x1000, &number),
+        pdb_type_size(&types, 0x1000, &size),            pdb_omap_is_sorted(&omap, &number),
+        pdb_omap_lookup(&omap, 0x1000, &number),         pdb_frames_at(&frames, 0x1000, &frame),
+        pdb_translate(&map, PDB_RVA, 0, 0, &translation)};
+    for (size_t i = 0; i < sizeof statuses / sizeof *statuses; i++)
+        if (statuses[i] != PDB_NOT_OPEN) fail("a call on a handle", "not refused");
+    if (written) fail("pdb_types_read", "records, though refused");
+}
+
+// All that is asked of handles, of others than those that the calls are about.
+static void ask_all_in_vain(void) {
+    for (size_t i = 0; i < OF_FILE; i++) ask_in_vain(&of_file[i]);
+    for (size_t i = 0; i < OF_RECORD; i++) ask_in_vain(&of_record[i]);
+    ask_others_in_vain();
+}
+
+// Each handle in turn in the place of all others: the compiler refuses that, but for a cast, and so do the calls.
+static void exchange_handles(void) {
+    pdb_handle *all[] = {&file.handle, &omap.handle, &map.handle, &frames.handle, &string_table.handle, &types.handle}, held[6];
+    for (size_t i = 0; i < 6; i++) held[i] = *all[i];
+    for (size_t by = 1; by < 6; by++) {
+        for (size_t i = 0; i < 6; i++) *all[i] = held[(i + by) % 6];
+        ask_all_in_vain();
+        for (size_t i = 0; i < 6; i++) held[(i + by) % 6] = *all[i];
+    }
+    for (size_t i = 0; i < 6; i++) *all[i] = held[i];
+}
+
+// Arrays of nothing, which may be null.
+static void ask_with_nothing(void) {
+    size_t length = 7777;
+    if (pdb_validate(NULL, 0, 0, NULL, 0, &length) != PDB_TOO_SMALL || !length) fail("pdb_validate", "no bytes");
+    if (pdb_format_of(NULL, 0) != PDB_FORMAT_UNKNOWN) fail("pdb_format_of", "no bytes");
+    if (pdb_types_named(&types, NULL, 0, NULL, 0, &length) != PDB_OK || length) fail("pdb_types_named", "no name");
+    if (pdb_file_named_stream(&file, NULL, 0, NULL, 0, &length) != PDB_STREAM_NAME_NOT_FOUND) fail("pdb_file_named_stream", "no name");
+    if (pdb_types_find(&types, NULL, 0, NULL, 0, &length) != PDB_OK || length) fail("pdb_types_find", "no index");
+    if (pdb_names_places(&string_table, NULL, 0, NULL, 0, &length) != PDB_OK || length) fail("pdb_names_places", "no offset");
+    if (pdb_types_read(&types, NULL, 0, NULL) != PDB_OK) fail("pdb_types_read", "no room");
+}
+
 int main(int count, char **words) {
     FILE *in = fopen(count == 2 ? words[1] : "", "rb");
     if (!in || fseek(in, 0, SEEK_END)) return 2;
@@ -183,16 +271,23 @@ int main(int count, char **words) {
     if (pdb_file_open(bytes, bytes_length, &file) || pdb_file_identity(&file, &identity) || pdb_file_roles(&file, &roles)) fail("file", "not opened");
     if (pdb_omap_open(&file, roles.omap_to_src, &omap) || pdb_address_map_open(&file, &map)) fail("addresses", "not opened");
     if (pdb_frames_open(&file, &frames) || pdb_names_open(&file, &string_table)) fail("frames or names", "not opened");
+    for (size_t i = 0; i < OF_BYTES; i++)
+        if (!is_answered(&of_bytes[i])) fail(of_bytes[i].name, "no answer");
     for (size_t i = 0; i < OF_FILE; i++)
         if (!is_answered(&of_file[i])) fail(of_file[i].name, "no answer");
     ask_records(PDB_TYPES, OF_RECORD);
     ask_records(PDB_IDS, OF_ID);
+    if (pdb_types_open(&file, PDB_TYPES, &types)) fail("table", "not opened");
+    ask_with_nothing();
+    exchange_handles();
+    pdb_close(&types.handle);
     printf("%zu answers\n", asked_for);
     pdb_close(&omap.handle);
     pdb_close(&map.handle);
     pdb_close(&frames.handle);
     pdb_close(&string_table.handle);
     pdb_file_close(&file);
+    ask_all_in_vain();
     unguarded(bytes, bytes_length);
     return 0;
 }

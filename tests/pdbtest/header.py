@@ -235,6 +235,8 @@ def check_header(tally):
     for name in sorted({*exports, *names}):
         ours, theirs = exports.get(name), names.get(name)
         tally.check(ours == theirs, f"{name}: exported as {ours}, declared as {theirs}")
+    calls = [*names, *re.findall(r"^static inline [^;{]*?(pdb_\w+[a-z])\(", text, re.MULTILINE)]
+    tally.check(len({*calls}) == len(calls) <= 50, f"{len(calls)} calls: {calls}")
     crate, header = fields_of_crates(), fields_of_header(text)
     for name, other in STRUCTURES.items():
         ours, theirs = crate.get(name), header.get(other)

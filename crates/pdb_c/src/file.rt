@@ -5,7 +5,7 @@ ghost use Rattle.std.specs.Prelude.{◌≡◌, ◌==◌, if◌then◌else◌};
 ghost use Rattle.pdb_msf.specs.Layout.{size_by};
 ghost use Rattle.pdb_file.specs.Format.{format_of};
 ghost use Rattle.pdb_handles.specs.Copied.{CopiesAnswer, CopiesOrLacks, copied_of, text_if_copied};
-ghost use Rattle.pdb_handles.specs.File.{layout_said, named_stream_said, roles_said, sections_told, sizes_in};
+ghost use Rattle.pdb_handles.specs.File.{layout_said, named_asked, roles_said, sections_told, sizes_in};
 ghost use Rattle.pdb_handles.specs.File.{front_asked};
 ghost use Rattle.pdb_handles.specs.{Findings.findings_said, Found.AsksAnswer, Found.answered_of, Handle.Opens};
 ghost use Rattle.pdb_handles.specs.{Handle.file_held, Identity.format_number, Identity.identity_said};
@@ -14,8 +14,8 @@ ghost use Rattle.pdb_handles.specs.StreamNames.{stream_names_said};
 ghost use Rattle.pdb_handles.specs.Kept.{KeepsFile};
 
 use pdb_file::Format;
-use pdb_handles::copied::{copy_list, copy_stream, write_listing};
-use pdb_handles::file::{OpenFile, Sizes, copy_front, layout_in, named_stream_in, sizes_in};
+use pdb_handles::copied::{copy_list, write_listing};
+use pdb_handles::file::{OpenFile, Sizes, copy_front, copy_named, layout_in, sizes_in};
 use pdb_handles::findings::{FoundFault, findings_in};
 use pdb_handles::found::tell_answered;
 use pdb_handles::identity::{FileIdentity, copy_key, format_number, identity_in};
@@ -96,13 +96,12 @@ pub extern "C" fn pdb_file_named_stream(
     length: &mut usize,
 ) -> u32
     ensures answer { CopiesOrLacks (record { fault = file.new.handle.fault; length = length.new; room = room.new })
-        room.old (copied_of room.old (λ layout. named_stream_said name.now file.old.bytes.now)
-        (file_held file.old.handle.held.content)) }
+        room.old (named_asked file.old.bytes.now name.now room.old (file_held file.old.handle.held.content)) }
     ensures kept { KeepsFile file.old file.new result }
 {
     *length = 0;
     let bytes = file.bytes;
-    ask!(file.handle, alloc, File(_) => copy_stream(named_stream_in(alloc, bytes, name), room, length))
+    ask!(file.handle, alloc, File(layout) => copy_named(alloc, layout, bytes, name, room, length))
 }
 
 /// Writes the streams that a file names, in the order in which it lists them, and their names.

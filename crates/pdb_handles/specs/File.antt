@@ -1,11 +1,11 @@
 -- What is read of a caller's file, as a caller sees it.
-use Rattle.std.specs.Prelude.{ℕ, List, Option, Some, None, Ok, Err, if◌then◌else◌, ◌&&◌, length, map, min, nat_le}
-use Rattle.std.specs.Prelude.{nat_lt}
+use Rattle.std.specs.Prelude.{ℕ, ◌-◌, ◌^◌, List, Option, Some, None, Ok, Err, if◌then◌else◌, ◌&&◌, length, map, min}
+use Rattle.std.specs.Prelude.{nat_le, nat_lt}
 use Rattle.pdb_base.specs.Answer.{Answer, ◌>>=◌}
 use Rattle.pdb_msf.specs.{Directory.stream_count_in, Header.Head, Header.file_head, File.stream_of}
 use Rattle.pdb_msf.specs.Layout.{LayoutValue, layout_of, size_by, stream_by}
 use Rattle.pdb_space.specs.{declared.section_header.ImageSectionHeader.ImageSectionHeader, Omap.omap_table_of}
-use Rattle.pdb_file.specs.File.{file_address_map, file_frame_table, file_named_stream, file_roles, file_string_table}
+use Rattle.pdb_file.specs.File.{file_address_map, file_frame_table, file_number, file_roles, file_string_table}
 use Rattle.pdb_file.specs.{declared.debug_header.DBIExtraStreams.DBIExtraStreams, SectionHeaders.section_headers_of}
 use Rattle.pdb_handles.specs.{declared.content.Content.Content, declared.file.Sizes.Sizes, declared.roles.Roles.Roles}
 use Rattle.pdb_handles.specs.{declared.sections.Section.Section, Copied.Copied, Copied.answer_copied}
@@ -21,9 +21,9 @@ read_of_file says file = file_head file >>= λ head. says file head
 abbrev pub stream_said : ℕ → ℕ → List ℕ → Answer (List ℕ)
 stream_said number limit file = read_of_file (λ bytes head. stream_of bytes head number (Some limit)) file
 
--- the bytes of the first stream with a name
-abbrev pub named_stream_said : List ℕ → List ℕ → Answer (List ℕ)
-named_stream_said name file = read_of_file (λ bytes head. file_named_stream bytes head name) file
+-- the number of the first stream with a name
+abbrev pub number_said : List ℕ → List ℕ → Answer ℕ
+number_said name file = read_of_file (λ bytes head. file_number bytes head name) file
 
 -- the layout of a file, as the contents of a handle
 abbrev pub layout_said : List ℕ → Answer Content
@@ -62,10 +62,21 @@ front_copied layout file number limit room (Err refusal) = nothing_copied (fault
 abbrev pub stream_copied : LayoutValue → List ℕ → ℕ → ℕ → List ℕ → Copied ℕ
 stream_copied layout file number limit room = front_copied layout file number limit room (size_by layout number)
 
--- the same for a file that is open, and else `not_open`
+-- All bytes of the stream of a number are written so, which are fewer than 2^64; or the fault is that with which the
+-- number is refused.
+abbrev pub copied_of_number : LayoutValue → List ℕ → List ℕ → Answer ℕ → Copied ℕ
+copied_of_number layout file room (Ok number) = stream_copied layout file number (2 ^ 64 - 1) room
+copied_of_number layout file room (Err refusal) = nothing_copied (fault_of_refusal refusal) room
+
+-- the first bytes of a stream for a file that is open, and else `not_open`
 abbrev pub front_asked : List ℕ → ℕ → ℕ → List ℕ → Option LayoutValue → Copied ℕ
 front_asked file number limit room (Some layout) = stream_copied layout file number limit room
 front_asked file number limit room None = nothing_copied not_open room
+
+-- the same for all bytes of the first stream with a name
+abbrev pub named_asked : List ℕ → List ℕ → List ℕ → Option LayoutValue → Copied ℕ
+named_asked file name room (Some layout) = copied_of_number layout file room (number_said name file)
+named_asked file name room None = nothing_copied not_open room
 
 -- the roles for the caller
 abbrev pub roles_of : DBIExtraStreams → Roles

@@ -71,7 +71,7 @@ pub fn copy_nothing(fault: Fault, length: &mut usize) -> Fault
 }
 
 /// Copies the bytes of a stream to the caller's array, or returns the fault of the error.
-pub fn copy_stream(answer: Result<Stream>, room: &mut [u8], length: &mut usize) -> Fault
+pub(crate) fn copy_stream(answer: Result<Stream>, room: &mut [u8], length: &mut usize) -> Fault
     ensures { (meant : Answer (List ℕ)) → Answers (λ stream. stream) answer meant
         → CopiesAnswer meant room.old result length.new room.new }
 {

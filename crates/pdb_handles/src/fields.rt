@@ -2,14 +2,14 @@
 
 ghost use Rattle.std.specs.{Prelude.◌≡◌, Prelude.List, Prelude.map, Prelude.Ok, Option.option_map};
 ghost use Rattle.pdb_base.specs.Answer.{Answer, Answers};
-ghost use Rattle.pdb_values.specs.{TypeValue.TypeValue, TypeView.type_value};
-ghost use Rattle.pdb_handles.specs.Fields.{field_info, fields_listed, listing, listing_of, name_bytes};
+ghost use Rattle.pdb_values.specs.{Text.text_bytes, TypeValue.TypeValue, TypeView.type_value};
+ghost use Rattle.pdb_handles.specs.Fields.{field_info, field_name, fields_listed, listing, listing_of, name_bytes};
 ghost use Rattle.pdb_handles.specs.Listing.{listing_view};
 
 use crate::copied::{Listing, push_name};
 use crate::frames::flag;
 use crate::row::Row;
-use pdb_base::{Result, TypeIndex};
+use pdb_base::{RawString, Result, TypeIndex};
 use pdb_types::OpenTypes;
 use pdb_values::TypeData;
 use std::alloc::Global;
@@ -28,11 +28,21 @@ pub struct FieldRow {
     pub has_name: u32,
 }
 
+/// Returns the name of a field, if it has one. A method has one, although `TypeData::name` gives none.
+fn field_name<'t>(field: &TypeData<'t>) -> Option<RawString<'t>>
+    ensures { option_map text_bytes result ≡ field_name (type_value field.now) }
+{
+    match field {
+        TypeData::Method(method) => Some(method.name),
+        _ => field.name(),
+    }
+}
+
 /// Returns the bytes of a field's name, none if it has no name.
 fn name_bytes<'t>(field: &TypeData<'t>) -> &'t [u8]
     ensures { result.now ≡ name_bytes (type_value field.now) }
 {
-    match field.name() {
+    match field_name(field) {
         Some(name) => name.as_bytes(),
         None => &[],
     }
@@ -46,7 +56,7 @@ fn field_row(here: usize, field: &TypeData<'_>) -> FieldRow
         info: Row::of_type(field),
         name_offset: here,
         name_length: name_bytes(field).len(),
-        has_name: flag(field.name().is_some()),
+        has_name: flag(field_name(field).is_some()),
     }
 }
 

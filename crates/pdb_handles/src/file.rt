@@ -5,7 +5,7 @@ ghost use Rattle.pdb_base.specs.Answer.{Answers};
 ghost use Rattle.pdb_msf.specs.{Header.file_head, Layout.stream_by};
 ghost use Rattle.pdb_handles.specs.Copied.{CopiesOrLacks};
 ghost use Rattle.pdb_handles.specs.File.{addresses_said, frames_said, layout_said, names_said, omap_said, sizes_in};
-ghost use Rattle.pdb_handles.specs.File.{named_stream_said, stream_copied};
+ghost use Rattle.pdb_handles.specs.File.{copied_of_number, number_said, stream_copied};
 
 use crate::content::Content;
 use crate::copied::{copy_nothing, copy_stream};
@@ -113,15 +113,36 @@ pub fn copy_front(
     )
 }
 
-/// Reads the first stream with this name.
+/// Returns the number of the first stream with this name.
 ///
 /// # Errors
-/// Fails as `open_file` and `named_stream` do.
-pub fn named_stream_in(alloc: Global, file: &[u8], name: &[u8]) -> Result<Stream>
-    ensures { Answers (λ stream. stream) result (named_stream_said name.now file.now) }
+/// Fails as `open_file`, `pdb_information`, `stream_names` and `StreamNames::number` do.
+#[tactic(auto, unfolding(pdb_file::specs::File::file_number))]
+pub fn number_in(alloc: Global, file: &[u8], name: &[u8]) -> Result<u32>
+    ensures { Answers (λ number. number) result (number_said name.now file.now) }
 {
     let mut file = open_file(alloc, file)?;
-    file.named_stream(alloc, name)
+    let information = file.pdb_information(alloc)?;
+    let streams = information.stream_names(alloc)?;
+    Ok(streams.number(name)?)
+}
+
+/// Copies the bytes of the first stream with this name to the caller's array, as `copy_front` does.
+pub fn copy_named(
+    alloc: Global,
+    layout: &Layout,
+    file: &[u8],
+    name: &[u8],
+    room: &mut [u8],
+    length: &mut usize,
+) -> Fault
+    ensures { CopiesOrLacks (record { fault = result; length = length.new; room = room.new }) room.old
+        (copied_of_number layout.now file.now room.old (number_said name.now file.now)) }
+{
+    match number_in(alloc, file, name) {
+        Ok(number) => copy_front(alloc, layout, file, number, usize::MAX, room, length),
+        Err(error) => copy_nothing(Fault::of(&error), length),
+    }
 }
 
 /// Reads the string table of a file.

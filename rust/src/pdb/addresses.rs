@@ -1,9 +1,10 @@
+use std::cmp::Ordering;
 use std::fmt;
 use std::marker::PhantomData;
 use std::ops::Range;
 
 use super::{Error, FallibleIterator, Result, StringRef};
-use crate::{Address, Translation, sys};
+use crate::{Address, FrameKind, Translation};
 
 /// The address map of a file: its sections, and the OMAP tables of a tool that rearranged the image.
 #[derive(Debug)]
@@ -103,20 +104,9 @@ forms! {
 macro_rules! addresses {
     ($($(#[$about:meta])* $name:ident)*) => {
         $(
-            $(#[$about])*
-            #[derive(Debug, Clone, Copy, Default, PartialEq, Eq, PartialOrd, Ord, Hash)]
-            pub struct $name(pub u32);
-
-            impl From<u32> for $name {
-                fn from(address: u32) -> $name {
-                    $name(address)
-                }
-            }
-
-            impl From<$name> for u32 {
-                fn from(address: $name) -> u32 {
-                    address.0
-                }
+            numbers! {
+                $(#[$about])*
+                $name
             }
 
             impl $name {
@@ -138,6 +128,16 @@ macro_rules! addresses {
                 /// How many bytes it is after another address, 0 if it is before it.
                 pub fn saturating_sub(self, other: $name) -> u32 {
                     self.0.saturating_sub(other.0)
+                }
+
+                /// The address so many bytes after it, where 0 follows the last one.
+                pub fn wrapping_add(self, offset: u32) -> $name {
+                    $name(self.0.wrapping_add(offset))
+                }
+
+                /// How many bytes it is after another address, where 0 follows the last one.
+                pub fn wrapping_sub(self, other: $name) -> u32 {
+                    self.0.wrapping_sub(other.0)
                 }
             }
 
@@ -162,12 +162,6 @@ macro_rules! addresses {
                     self.0 - other.0
                 }
             }
-
-            impl fmt::Display for $name {
-                fn fmt(&self, f: &mut fmt::Formatter<'_>) -> fmt::Result {
-                    write!(f, "{:#010x}", self.0)
-                }
-            }
         )*
     };
 }
@@ -183,7 +177,7 @@ macro_rules! places {
     ($($(#[$about:meta])* $name:ident)*) => {
         $(
             $(#[$about])*
-            #[derive(Debug, Clone, Copy, Default, PartialEq, Eq, PartialOrd, Ord, Hash)]
+            #[derive(Debug, Clone, Copy, Default, PartialEq, Eq, Hash)]
             pub struct $name {
                 /// The offset in the section.
                 pub offset: u32,
@@ -207,6 +201,11 @@ macro_rules! places {
                     $name { offset: self.offset.saturating_add(offset), ..self }
                 }
 
+                /// The place so many bytes after it, where the offset 0 follows the last one.
+                pub fn wrapping_add(self, offset: u32) -> $name {
+                    $name { offset: self.offset.wrapping_add(offset), ..self }
+                }
+
                 /// Whether there is a section.
                 pub fn is_valid(self) -> bool {
                     self.section != 0
@@ -218,6 +217,19 @@ macro_rules! places {
 
                 fn add(self, offset: u32) -> $name {
                     $name { offset: self.offset + offset, ..self }
+                }
+            }
+
+            impl std::ops::AddAssign<u32> for $name {
+                fn add_assign(&mut self, offset: u32) {
+                    self.offset += offset;
+                }
+            }
+
+            /// Places of one section alone are before or after one another.
+            impl PartialOrd for $name {
+                fn partial_cmp(&self, other: &$name) -> Option<Ordering> {
+                    (self.section == other.section).then(|| self.offset.cmp(&other.offset))
                 }
             }
 
@@ -297,6 +309,12 @@ characteristics! {
     write = 0x8000_0000
 }
 
+impl fmt::Display for SectionCharacteristics {
+    fn fmt(&self, f: &mut fmt::Formatter<'_>) -> fmt::Result {
+        write!(f, "{:#010x}", self.0)
+    }
+}
+
 impl SectionCharacteristics {
     /// The alignment of the section's start in bytes, if it is given.
     pub fn alignment(self) -> Option<u16> {
@@ -335,7 +353,7 @@ impl ImageSectionHeader {
 /// The headers of sections.
 pub(super) fn headers(sections: Vec<crate::Section>) -> Vec<ImageSectionHeader> {
     let header = |it: crate::Section| ImageSectionHeader {
-        name: it.0.name,
+        name: it.name,
         virtual_size: it.virtual_size,
         virtual_address: it.virtual_address,
         size_of_raw_data: it.size_of_raw_data,
@@ -350,7 +368,7 @@ pub(super) fn headers(sections: Vec<crate::Section>) -> Vec<ImageSectionHeader> 
 }
 
 /// The kinds of frames.
-#[derive(Debug, Clone, Copy, PartialEq, Eq, Hash)]
+#[derive(Debug, Clone, Copy, PartialEq, Eq, PartialOrd, Ord, Hash)]
 #[non_exhaustive]
 #[allow(missing_docs)]
 pub enum FrameType {
@@ -360,6 +378,19 @@ pub enum FrameType {
     Standard,
     FrameData,
     Unknown,
+}
+
+impl fmt::Display for FrameType {
+    fn fmt(&self, f: &mut fmt::Formatter<'_>) -> fmt::Result {
+        f.write_str(match self {
+            FrameType::FPO => "fpo",
+            FrameType::Trap => "trap",
+            FrameType::TSS => "tss",
+            FrameType::Standard => "std",
+            FrameType::FrameData => "fdata",
+            FrameType::Unknown => "unknown",
+        })
+    }
 }
 
 /// What a stack walker needs to know about the frame of a piece of code.
@@ -394,15 +425,20 @@ pub struct FrameData {
 }
 
 impl FrameData {
+    /// Whether its record is of the newer format.
+    fn is_newer(&self) -> bool {
+        self.ty == FrameType::FrameData
+    }
+
     fn of(it: &crate::Frame) -> FrameData {
         FrameData {
             ty: match it.kind {
-                sys::PDB_FRAME_FPO => FrameType::FPO,
-                sys::PDB_FRAME_TRAP => FrameType::Trap,
-                sys::PDB_FRAME_TSS => FrameType::TSS,
-                sys::PDB_FRAME_STANDARD => FrameType::Standard,
-                sys::PDB_FRAME_DATA => FrameType::FrameData,
-                _ => FrameType::Unknown,
+                FrameKind::Fpo => FrameType::FPO,
+                FrameKind::Trap => FrameType::Trap,
+                FrameKind::Tss => FrameType::TSS,
+                FrameKind::Standard => FrameType::Standard,
+                FrameKind::Data => FrameType::FrameData,
+                FrameKind::Unknown => FrameType::Unknown,
             },
             code_start: PdbInternalRva(it.code_start),
             code_size: it.code_size,
@@ -410,12 +446,12 @@ impl FrameData {
             params_size: it.params_size,
             prolog_size: it.prolog_size as u16,
             saved_regs_size: it.saved_regs_size as u16,
-            max_stack_size: (it.has_max_stack_size != 0).then_some(it.max_stack_size),
-            has_structured_eh: it.has_structured_eh != 0,
-            has_cpp_eh: it.has_cpp_eh != 0,
-            is_function_start: it.is_function_start != 0,
-            uses_base_pointer: it.uses_base_pointer != 0,
-            program: (it.has_program != 0).then_some(StringRef(it.program)),
+            max_stack_size: it.max_stack_size,
+            has_structured_eh: it.has_structured_eh,
+            has_cpp_eh: it.has_cpp_eh,
+            is_function_start: it.is_function_start,
+            uses_base_pointer: it.uses_base_pointer,
+            program: it.program.map(StringRef),
         }
     }
 }
@@ -423,39 +459,54 @@ impl FrameData {
 /// The frame table of a file, of both formats.
 #[derive(Debug)]
 pub struct FrameTable<'s> {
-    table: crate::Frames,
     frames: Vec<FrameData>,
     file: PhantomData<&'s ()>,
 }
 
 impl FrameTable<'_> {
     pub(super) fn of(table: crate::Frames) -> Result<Self> {
-        let frames = table.list()?.iter().map(FrameData::of).collect();
-        Ok(FrameTable { table, frames, file: PhantomData })
+        Ok(FrameTable { frames: table.list()?.iter().map(FrameData::of).collect(), file: PhantomData })
+    }
+
+    /// Whether there is no frame.
+    pub fn is_empty(&self) -> bool {
+        self.frames.is_empty()
     }
 
     /// All frames, ordered by their starts.
     pub fn iter(&self) -> FrameDataIter<'_> {
-        FrameDataIter(self.frames.iter())
+        self.iter_at_rva(PdbInternalRva(0))
     }
 
-    /// The frames from an address on: the one at the address, or else the first above it, and those after it.
+    /// The frames from an address on: of each format the last one that begins at the address or before it, if its code has
+    /// the address, or else the first one behind it, and those that follow.
     pub fn iter_at_rva(&self, rva: PdbInternalRva) -> FrameDataIter<'_> {
-        let first = self.table.at(rva.0).ok().flatten().map(|it| PdbInternalRva(it.code_start));
-        let at = self.frames.iter().position(|it| Some(it.code_start) == first).unwrap_or(self.frames.len());
-        FrameDataIter(self.frames[at..].iter())
+        let up_to = &self.frames[..self.frames.partition_point(|it| it.code_start <= rva)];
+        let start = |is_newer| {
+            let last = up_to.iter().rfind(|it| it.is_newer() == is_newer);
+            let has_it = |it: &&FrameData| rva.checked_sub(it.code_start).is_some_and(|at| at < it.code_size.max(1));
+            last.filter(has_it).map_or(rva, |it| it.code_start)
+        };
+        FrameDataIter { frames: self.frames.iter(), older: start(false), newer: start(true) }
     }
 }
 
 /// Frames, one after another.
 #[derive(Debug, Clone)]
-pub struct FrameDataIter<'t>(std::slice::Iter<'t, FrameData>);
+pub struct FrameDataIter<'t> {
+    frames: std::slice::Iter<'t, FrameData>,
+    /// The address from which on there are frames of the older format.
+    older: PdbInternalRva,
+    /// The same for the newer format.
+    newer: PdbInternalRva,
+}
 
 impl FallibleIterator for FrameDataIter<'_> {
     type Item = FrameData;
     type Error = Error;
 
     fn next(&mut self) -> Result<Option<FrameData>> {
-        Ok(self.0.next().copied())
+        let (older, newer) = (self.older, self.newer);
+        Ok(self.frames.find(|it| it.code_start >= if it.is_newer() { newer } else { older }).copied())
     }
 }

@@ -33,6 +33,9 @@ pub enum Error {
     TypeTooShort,
     /// There is no type or id of this index.
     TypeNotFound(u32),
+    /// A finder was not updated up to this index, but only up to the other one. No call gives it, since each item is
+    /// found without an update.
+    TypeNotIndexed(u32, u32),
     /// A record of a kind that is not read.
     UnimplementedTypeKind(u16),
     /// A number begins with a prefix that announces no width.
@@ -52,6 +55,7 @@ impl From<crate::Error> for Error {
             ErrorKind::StreamNotFound { number } => Error::StreamNotFound(number),
             ErrorKind::StreamNameNotFound => Error::StreamNameNotFound,
             ErrorKind::InvalidStreamLength { .. } => Error::InvalidStreamLength(error),
+            ErrorKind::Io { .. } => Error::IoError(io::Error::new(io::ErrorKind::UnexpectedEof, error)),
             ErrorKind::UnexpectedEof => Error::UnexpectedEof,
             ErrorKind::UnimplementedFeature { .. } => Error::UnimplementedFeature(error),
             ErrorKind::InvalidTypeInformationHeader { .. } => Error::InvalidTypeInformationHeader(error),
@@ -75,10 +79,10 @@ impl fmt::Display for Error {
     fn fmt(&self, f: &mut fmt::Formatter<'_>) -> fmt::Result {
         let kind = match *self {
             Error::IoError(ref error) => return write!(f, "IO error while reading PDB: {error}"),
-            Error::InvalidStreamLength(error)
-            | Error::UnimplementedFeature(error)
-            | Error::InvalidTypeInformationHeader(error)
-            | Error::Other(error) => return error.fmt(f),
+            Error::InvalidStreamLength(ref error)
+            | Error::UnimplementedFeature(ref error)
+            | Error::InvalidTypeInformationHeader(ref error)
+            | Error::Other(ref error) => return error.fmt(f),
             Error::UnrecognizedFileFormat => ErrorKind::UnrecognizedFileFormat,
             Error::PageReferenceOutOfRange(page) => ErrorKind::PageReferenceOutOfRange { page },
             Error::InvalidPageSize(size) => ErrorKind::InvalidPageSize { size },
@@ -86,7 +90,7 @@ impl fmt::Display for Error {
             Error::StreamNameNotFound => ErrorKind::StreamNameNotFound,
             Error::UnexpectedEof => ErrorKind::UnexpectedEof,
             Error::TypeTooShort => ErrorKind::TypeTooShort,
-            Error::TypeNotFound(index) => ErrorKind::TypeNotFound { index },
+            Error::TypeNotFound(index) | Error::TypeNotIndexed(index, _) => ErrorKind::TypeNotFound { index },
             Error::UnimplementedTypeKind(kind) => ErrorKind::UnimplementedTypeKind { kind: kind.into() },
             Error::UnexpectedNumericPrefix(prefix) => ErrorKind::UnexpectedNumericPrefix { prefix: prefix.into() },
             Error::AddressMapNotFound => ErrorKind::AddressMapNotFound,

@@ -13,49 +13,34 @@ pub trait ItemIndex: Copy + Default + fmt::Debug + fmt::Display + Ord + From<u32
 
     /// Reads the record of an item.
     fn read<'t>(item: &Item<'t, Self>) -> Result<Self::Data<'t>>;
+
+    /// Whether the item is in another module.
+    fn is_cross_module(self) -> bool {
+        self.into() & 1 << 31 != 0
+    }
 }
 
-macro_rules! indexes {
-    ($($(#[$about:meta])* $name:ident: $data:ident)*) => {
-        $(
-            $(#[$about])*
-            #[derive(Debug, Clone, Copy, Default, PartialEq, Eq, PartialOrd, Ord, Hash)]
-            pub struct $name(pub u32);
-
-            impl From<u32> for $name {
-                fn from(index: u32) -> $name {
-                    $name(index)
-                }
-            }
-
-            impl From<$name> for u32 {
-                fn from(index: $name) -> u32 {
-                    index.0
-                }
-            }
-
-            impl fmt::Display for $name {
-                fn fmt(&self, f: &mut fmt::Formatter<'_>) -> fmt::Result {
-                    write!(f, "{:#x}", self.0)
-                }
-            }
-
-            impl ItemIndex for $name {
-                type Data<'t> = $data<'t>;
-
-                fn read<'t>(item: &Item<'t, $name>) -> Result<$data<'t>> {
-                    $data::read(&item.record)
-                }
-            }
-        )*
-    };
-}
-
-indexes! {
+numbers! {
     /// The index of a type. Those below 0x1000 are of primitive types, which have no record.
-    TypeIndex: TypeData
+    TypeIndex
     /// The index of an id.
-    IdIndex: IdData
+    IdIndex
+}
+
+impl ItemIndex for TypeIndex {
+    type Data<'t> = TypeData<'t>;
+
+    fn read<'t>(item: &Item<'t, TypeIndex>) -> Result<TypeData<'t>> {
+        TypeData::read(&item.record)
+    }
+}
+
+impl ItemIndex for IdIndex {
+    type Data<'t> = IdData<'t>;
+
+    fn read<'t>(item: &Item<'t, IdIndex>) -> Result<IdData<'t>> {
+        IdData::read(&item.record)
+    }
 }
 
 /// A table of types or of ids.
@@ -120,7 +105,7 @@ impl<'t, I: ItemIndex> Item<'t, I> {
 
     /// The kind of its record, 0xffff for a primitive type.
     pub fn raw_kind(&self) -> u16 {
-        self.record.bytes.first_chunk().map_or(0xffff, |kind| u16::from_le_bytes(*kind))
+        self.record.kind().unwrap_or(0xffff)
     }
 
     /// What its record says.

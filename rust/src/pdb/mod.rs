@@ -20,17 +20,53 @@
 //! What differs is on the page `docs/FROM_PDB_CRATE.md` of the repository. Besides: a finder finds each item at once, also
 //! without an update; a GUID is a [`Guid`]; and what is above this layer, the symbols, modules and lines, is not there.
 
+/// Numbers that have types of their own, and are printed in hexadecimal digits.
+macro_rules! numbers {
+    ($($(#[$about:meta])* $name:ident)*) => {
+        $(
+            $(#[$about])*
+            #[derive(Clone, Copy, Default, PartialEq, Eq, PartialOrd, Ord, Hash)]
+            pub struct $name(pub u32);
+
+            impl From<u32> for $name {
+                fn from(number: u32) -> $name {
+                    $name(number)
+                }
+            }
+
+            impl From<$name> for u32 {
+                fn from(number: $name) -> u32 {
+                    number.0
+                }
+            }
+
+            impl std::fmt::Display for $name {
+                fn fmt(&self, f: &mut std::fmt::Formatter<'_>) -> std::fmt::Result {
+                    write!(f, "{:#x}", self.0)
+                }
+            }
+
+            impl std::fmt::Debug for $name {
+                fn fmt(&self, f: &mut std::fmt::Formatter<'_>) -> std::fmt::Result {
+                    write!(f, concat!(stringify!($name), "({})"), self)
+                }
+            }
+        )*
+    };
+}
+
 mod addresses;
 mod errors;
 mod flags;
 mod items;
 mod iterator;
 mod primitives;
+mod source;
 mod types;
 
 use std::borrow::Cow;
 use std::fmt;
-use std::io::{Read, Seek};
+use std::io;
 use std::marker::PhantomData;
 use std::ops::Deref;
 
@@ -47,12 +83,8 @@ pub use items::{
     TypeFinder, TypeIndex, TypeInformation, TypeIter,
 };
 pub use iterator::FallibleIterator;
+pub use source::{Source, SourceSlice, SourceView};
 pub use types::*;
-
-/// Something that can be read as a file: whatever reads and seeks.
-pub trait Source<'s>: Read + Seek {}
-
-impl<'s, T: Read + Seek> Source<'s> for T {}
 
 /// A program database, whose bytes are read when it is opened.
 pub struct PDB<'s, S> {
@@ -69,9 +101,10 @@ impl<S> fmt::Debug for PDB<'_, S> {
 impl<'s, S: Source<'s>> PDB<'s, S> {
     /// Reads the whole of a source, whose header and directory have to be those of a program database.
     pub fn open(mut source: S) -> Result<PDB<'s, S>> {
-        let mut bytes = Vec::new();
-        source.rewind()?;
-        source.read_to_end(&mut bytes)?;
+        let bytes = match source.file() {
+            Err(error) if error.kind() == io::ErrorKind::UnexpectedEof => return Err(Error::UnrecognizedFileFormat),
+            bytes => bytes?,
+        };
         crate::Pdb::parse(&bytes)?;
         Ok(PDB { bytes, source: PhantomData })
     }
@@ -123,23 +156,50 @@ impl<'s, S: Source<'s>> PDB<'s, S> {
         Ok(Stream { bytes: self.file()?.named_stream(name)?, file: PhantomData })
     }
 
-    /// The bytes of the stream of a number, if there is one.
+    /// The bytes of the stream that an index names, None if it names none.
     pub fn raw_stream(&mut self, index: StreamIndex) -> Result<Option<Stream<'s>>> {
-        match self.file()?.stream(index.0.into()) {
-            Ok(bytes) => Ok(Some(Stream { bytes, file: PhantomData })),
-            Err(error) if matches!(error.kind, crate::ErrorKind::StreamNotFound { .. }) => Ok(None),
-            Err(error) => Err(error.into()),
+        if index.is_none() {
+            return Ok(None);
         }
+        Ok(Some(Stream { bytes: self.file()?.stream(index.0.into())?, file: PhantomData }))
     }
 }
 
-/// The number of a stream.
+/// The number of a stream, or 0xffff for none.
 #[derive(Debug, Clone, Copy, PartialEq, Eq, PartialOrd, Ord, Hash)]
 pub struct StreamIndex(pub u16);
 
+impl StreamIndex {
+    /// The index that names no stream.
+    pub fn none() -> StreamIndex {
+        StreamIndex(sys::PDB_NO_STREAM as u16)
+    }
+
+    /// Whether it names no stream.
+    pub fn is_none(self) -> bool {
+        self == StreamIndex::none()
+    }
+
+    /// Whether it names a stream, which the file may lack.
+    pub fn is_some(self) -> bool {
+        !self.is_none()
+    }
+
+    /// The bytes of the stream that it names, None if it names none.
+    pub fn get<'s, S: Source<'s>>(self, pdb: &mut PDB<'s, S>) -> Result<Option<Stream<'s>>> {
+        pdb.raw_stream(self)
+    }
+}
+
+impl Default for StreamIndex {
+    fn default() -> StreamIndex {
+        StreamIndex::none()
+    }
+}
+
 impl fmt::Display for StreamIndex {
     fn fmt(&self, f: &mut fmt::Formatter<'_>) -> fmt::Result {
-        write!(f, "{:#06x}", self.0)
+        if self.is_none() { f.write_str("None") } else { self.0.fmt(f) }
     }
 }
 
@@ -211,6 +271,15 @@ impl<'n> StreamNames<'n> {
     }
 }
 
+impl<'a, 'n> IntoIterator for &'a StreamNames<'n> {
+    type Item = &'a StreamName<'n>;
+    type IntoIter = std::slice::Iter<'a, StreamName<'n>>;
+
+    fn into_iter(self) -> Self::IntoIter {
+        self.iter()
+    }
+}
+
 impl<'n> IntoIterator for StreamNames<'n> {
     type Item = StreamName<'n>;
     type IntoIter = std::vec::IntoIter<StreamName<'n>>;
@@ -271,9 +340,10 @@ impl<'b> From<&'b [u8]> for RawString<'b> {
     }
 }
 
-/// The offset of a name in the string table.
-#[derive(Debug, Clone, Copy, PartialEq, Eq, PartialOrd, Ord, Hash)]
-pub struct StringRef(pub u32);
+numbers! {
+    /// The offset of a name in the string table.
+    StringRef
+}
 
 impl StringRef {
     /// The name.
@@ -284,12 +354,6 @@ impl StringRef {
     /// The name as text.
     pub fn to_string_lossy<'s>(self, strings: &'s StringTable<'_>) -> Result<Cow<'s, str>> {
         Ok(strings.get(self)?.to_string())
-    }
-}
-
-impl fmt::Display for StringRef {
-    fn fmt(&self, f: &mut fmt::Formatter<'_>) -> fmt::Result {
-        write!(f, "{:#x}", self.0)
     }
 }
 

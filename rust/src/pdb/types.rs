@@ -3,9 +3,10 @@
 pub use super::primitives::{Indirection, PrimitiveKind, PrimitiveType};
 use super::{Error, FieldAttributes, FunctionAttributes, IdIndex, PointerAttributes, RawString, Result, StringRef};
 use super::{TypeIndex, TypeProperties};
-use crate::row::{IdShape, Row, Shape};
+use crate::row::Row;
+use crate::shapes::{IdShape, Shape};
+use crate::sys;
 use crate::table::Record;
-use crate::{Name, sys};
 
 /// Whether a class is a `class`, a `struct` or an `interface`.
 #[derive(Debug, Clone, Copy, PartialEq, Eq, Hash)]
@@ -45,7 +46,7 @@ pub enum Variant {
 impl Variant {
     fn of(row: &Row) -> Variant {
         let bits = row.number().unwrap_or_default();
-        match (row.kind() == Some(1), row.count()) {
+        match (row.is_signed() == Some(true), row.width()) {
             (false, Some(1)) => Variant::U8(bits as u8),
             (false, Some(2)) => Variant::U16(bits as u16),
             (false, Some(4)) => Variant::U32(bits as u32),
@@ -423,18 +424,6 @@ pub enum IdData<'t> {
 
 /// The numbers of a row as this module has them.
 impl Row {
-    fn type_of(&self) -> TypeIndex {
-        TypeIndex(self.type_index().unwrap_or_default())
-    }
-
-    fn second(&self) -> TypeIndex {
-        TypeIndex(self.second_index().unwrap_or_default())
-    }
-
-    fn list(&self) -> TypeIndex {
-        TypeIndex(self.list_index().unwrap_or_default())
-    }
-
     fn counted(&self) -> u16 {
         self.count().unwrap_or_default() as u16
     }
@@ -450,6 +439,11 @@ impl Row {
     fn of_function(&self) -> FunctionAttributes {
         FunctionAttributes(self.attributes().unwrap_or_default() as u16)
     }
+}
+
+/// The type that a row refers to by a number which each record of its shape has.
+fn index(number: Option<u32>) -> TypeIndex {
+    TypeIndex(number.unwrap_or_default())
 }
 
 impl<'t> TypeData<'t> {
@@ -472,6 +466,7 @@ impl<'t> TypeData<'t> {
     /// Reads a record.
     pub(super) fn read(it: &Record<'t>) -> Result<TypeData<'t>> {
         let row = &it.parse()?;
+        let name = || Ok::<_, Error>(RawString(it.name()?.unwrap_or_default()));
         Ok(match Shape::of(row.0.shape) {
             Shape::Primitive => {
                 let primitive = PrimitiveType::of(TypeIndex(it.index)).ok_or(Error::TypeNotFound(it.index))?;
@@ -481,37 +476,37 @@ impl<'t> TypeData<'t> {
                 kind: ClassKind::of(row),
                 count: row.counted(),
                 properties: row.type_properties(),
-                fields: row.list_index().map(TypeIndex),
-                derived_from: row.second_index().map(TypeIndex),
-                vtable_shape: row.third_index().map(TypeIndex),
-                size: row.number().unwrap_or_default(),
-                name: RawString(it.name()?.unwrap_or_default()),
+                fields: row.fields().map(TypeIndex),
+                derived_from: row.derived_from().map(TypeIndex),
+                vtable_shape: row.vtable_shape().map(TypeIndex),
+                size: row.size().unwrap_or_default(),
+                name: name()?,
                 unique_name: it.unique_name()?.map(RawString),
             }),
             Shape::MemberFunction => TypeData::MemberFunction(MemberFunctionType {
-                return_type: row.type_of(),
-                class_type: row.second(),
-                this_pointer_type: row.third_index().map(TypeIndex),
+                return_type: index(row.return_type()),
+                class_type: index(row.class_type()),
+                this_pointer_type: row.this_pointer_type().map(TypeIndex),
                 attributes: row.of_function(),
                 parameter_count: row.counted(),
-                argument_list: row.list(),
-                this_adjustment: row.extra().unwrap_or_default(),
+                argument_list: index(row.argument_list()),
+                this_adjustment: row.this_adjustment().unwrap_or_default(),
             }),
             Shape::Procedure => TypeData::Procedure(ProcedureType {
-                return_type: row.type_index().map(TypeIndex),
+                return_type: row.return_type().map(TypeIndex),
                 attributes: row.of_function(),
                 parameter_count: row.counted(),
-                argument_list: row.list(),
+                argument_list: index(row.argument_list()),
             }),
             Shape::Pointer => TypeData::Pointer(PointerType {
-                underlying_type: row.type_of(),
+                underlying_type: index(row.underlying_type()),
                 attributes: PointerAttributes(row.attributes().unwrap_or_default()),
-                containing_class: row.second_index().map(TypeIndex),
+                containing_class: row.containing_class().map(TypeIndex),
             }),
             Shape::Modifier => {
-                let has = |bit| row.kind().unwrap_or_default() & bit != 0;
+                let has = |bit| row.modifiers().unwrap_or_default() & bit != 0;
                 TypeData::Modifier(ModifierType {
-                    underlying_type: row.type_of(),
+                    underlying_type: index(row.underlying_type()),
                     constant: has(sys::PDB_MODIFIER_CONST),
                     volatile: has(sys::PDB_MODIFIER_VOLATILE),
                     unaligned: has(sys::PDB_MODIFIER_UNALIGNED),
@@ -520,34 +515,34 @@ impl<'t> TypeData<'t> {
             Shape::Enumeration => TypeData::Enumeration(EnumerationType {
                 count: row.counted(),
                 properties: row.type_properties(),
-                underlying_type: row.type_of(),
-                fields: row.list(),
-                name: RawString(it.name()?.unwrap_or_default()),
+                underlying_type: index(row.underlying_type()),
+                fields: index(row.fields()),
+                name: name()?,
                 unique_name: it.unique_name()?.map(RawString),
             }),
             Shape::Array => TypeData::Array(ArrayType {
-                element_type: row.type_of(),
-                indexing_type: row.second(),
-                stride: row.extra(),
+                element_type: index(row.element_type()),
+                indexing_type: index(row.indexing_type()),
+                stride: row.stride(),
                 dimensions: it.numbers()?.unwrap_or_default(),
             }),
             Shape::Union => TypeData::Union(UnionType {
                 count: row.counted(),
                 properties: row.type_properties(),
-                fields: row.list(),
-                size: row.number().unwrap_or_default(),
-                name: RawString(it.name()?.unwrap_or_default()),
+                fields: index(row.fields()),
+                size: row.size().unwrap_or_default(),
+                name: name()?,
                 unique_name: it.unique_name()?.map(RawString),
             }),
             Shape::Bitfield => TypeData::Bitfield(BitfieldType {
-                underlying_type: row.type_of(),
-                length: row.count().unwrap_or_default() as u8,
-                position: row.extra().unwrap_or_default() as u8,
+                underlying_type: index(row.underlying_type()),
+                length: row.length().unwrap_or_default() as u8,
+                position: row.position().unwrap_or_default() as u8,
             }),
             Shape::FieldList => {
-                let continuation = row.list_index().filter(|index| *index != 0);
-                let fields = it.own_fields()?.into_iter().map(|(row, name)| field(&row, name)).collect();
-                TypeData::FieldList(FieldList { fields, continuation: continuation.map(TypeIndex) })
+                let continuation = row.continuation().filter(|index| *index != 0).map(TypeIndex);
+                let fields = it.own_fields()?.into_iter().map(|(row, name)| field(&row, RawString(name), it));
+                TypeData::FieldList(FieldList { fields: fields.collect::<Result<_>>()?, continuation })
             }
             Shape::ArgumentList => {
                 let arguments = it.numbers()?.unwrap_or_default();
@@ -557,60 +552,91 @@ impl<'t> TypeData<'t> {
                 let methods = it.methods()?.unwrap_or_default();
                 let methods = methods.iter().map(|row| MethodListEntry {
                     attributes: row.of_field(),
-                    method_type: row.type_of(),
-                    vtable_offset: row.extra(),
+                    method_type: index(row.method_type()),
+                    vtable_offset: row.vtable_offset(),
                 });
                 TypeData::MethodList(MethodList { methods: methods.collect() })
             }
             Shape::VirtualTableShape => TypeData::VirtualTableShape(VirtualTableShapeType { count: row.counted() }),
-            _ => field(row, it.name()?.unwrap_or_default()),
+            Shape::Member
+            | Shape::OverloadedMethod
+            | Shape::Method
+            | Shape::StaticMember
+            | Shape::Nested
+            | Shape::BaseClass
+            | Shape::VirtualBaseClass
+            | Shape::VirtualFunctionTablePointer
+            | Shape::Enumerate
+            | Shape::Other => field(row, name()?, it)?,
         })
     }
 }
 
-/// A field of a list.
-fn field<'t>(row: &Row, name: Name<'t>) -> TypeData<'t> {
-    let name = RawString(name);
-    match Shape::of(row.0.shape) {
+/// A field of a list, or one that is a record of its own.
+fn field<'t>(row: &Row, name: RawString<'t>, of: &Record<'t>) -> Result<TypeData<'t>> {
+    Ok(match Shape::of(row.0.shape) {
         Shape::Member => TypeData::Member(MemberType {
             attributes: row.of_field(),
-            field_type: row.type_of(),
-            offset: row.number().unwrap_or_default(),
+            field_type: index(row.field_type()),
+            offset: row.offset().unwrap_or_default(),
             name,
         }),
-        Shape::OverloadedMethod => {
-            TypeData::OverloadedMethod(OverloadedMethodType { count: row.counted(), method_list: row.list(), name })
-        }
+        Shape::OverloadedMethod => TypeData::OverloadedMethod(OverloadedMethodType {
+            count: row.counted(),
+            method_list: index(row.method_list()),
+            name,
+        }),
         Shape::Method => TypeData::Method(MethodType {
             attributes: row.of_field(),
-            method_type: row.type_of(),
-            vtable_offset: row.extra(),
+            method_type: index(row.method_type()),
+            vtable_offset: row.vtable_offset(),
             name,
         }),
-        Shape::StaticMember => {
-            TypeData::StaticMember(StaticMemberType { attributes: row.of_field(), field_type: row.type_of(), name })
+        Shape::StaticMember => TypeData::StaticMember(StaticMemberType {
+            attributes: row.of_field(),
+            field_type: index(row.field_type()),
+            name,
+        }),
+        Shape::Nested => {
+            TypeData::Nested(NestedType { attributes: row.of_field(), nested_type: index(row.nested_type()), name })
         }
-        Shape::Nested => TypeData::Nested(NestedType { attributes: row.of_field(), nested_type: row.type_of(), name }),
         Shape::BaseClass => TypeData::BaseClass(BaseClassType {
             kind: ClassKind::of(row),
             attributes: row.of_field(),
-            base_class: row.type_of(),
-            offset: row.number().unwrap_or_default() as u32,
+            base_class: index(row.base_class()),
+            offset: row.offset().unwrap_or_default() as u32,
         }),
         Shape::VirtualBaseClass => TypeData::VirtualBaseClass(VirtualBaseClassType {
-            direct: row.kind() == Some(1),
+            direct: row.is_direct().unwrap_or_default(),
             attributes: row.of_field(),
-            base_class: row.type_of(),
-            base_pointer: row.second(),
-            base_pointer_offset: row.number().unwrap_or_default() as u32,
-            virtual_base_offset: row.extra().unwrap_or_default(),
+            base_class: index(row.base_class()),
+            base_pointer: index(row.base_pointer()),
+            base_pointer_offset: row.base_pointer_offset().unwrap_or_default() as u32,
+            virtual_base_offset: row.virtual_base_offset().unwrap_or_default(),
         }),
+        Shape::VirtualFunctionTablePointer => {
+            TypeData::VirtualFunctionTablePointer(VirtualFunctionTablePointerType { table: index(row.table()) })
+        }
         Shape::Enumerate => {
             TypeData::Enumerate(EnumerateType { attributes: row.of_field(), value: Variant::of(row), name })
         }
-        // All other fields.
-        _ => TypeData::VirtualFunctionTablePointer(VirtualFunctionTablePointerType { table: row.type_of() }),
-    }
+        // None of these is a field.
+        Shape::Primitive
+        | Shape::Class
+        | Shape::MemberFunction
+        | Shape::Procedure
+        | Shape::Pointer
+        | Shape::Modifier
+        | Shape::Enumeration
+        | Shape::Array
+        | Shape::Union
+        | Shape::Bitfield
+        | Shape::FieldList
+        | Shape::ArgumentList
+        | Shape::MethodList
+        | Shape::VirtualTableShape
+        | Shape::Other => return Err(Error::UnimplementedTypeKind(of.kind().unwrap_or_default())),
+    })
 }
 
 impl<'t> IdData<'t> {
@@ -630,16 +656,17 @@ impl<'t> IdData<'t> {
             return Err(Error::TypeNotFound(it.index));
         }
         let row = &it.parse()?;
+        let name = || Ok::<_, Error>(RawString(it.name()?.unwrap_or_default()));
         Ok(match IdShape::of(row.0.shape) {
             IdShape::Function => IdData::Function(FunctionId {
-                scope: row.second_index().map(IdIndex),
-                function_type: row.type_of(),
-                name: RawString(it.name()?.unwrap_or_default()),
+                scope: row.scope().map(IdIndex),
+                function_type: index(row.function_type()),
+                name: name()?,
             }),
             IdShape::MemberFunction => IdData::MemberFunction(MemberFunctionId {
-                parent: TypeIndex(row.third_index().unwrap_or_default()),
-                function_type: row.type_of(),
-                name: RawString(it.name()?.unwrap_or_default()),
+                parent: index(row.parent()),
+                function_type: index(row.function_type()),
+                name: name()?,
             }),
             IdShape::BuildInfo => {
                 let arguments = it.numbers()?.unwrap_or_default();
@@ -649,21 +676,19 @@ impl<'t> IdData<'t> {
                 let substrings = it.numbers()?.unwrap_or_default();
                 IdData::StringList(StringListId { substrings: substrings.into_iter().map(TypeIndex).collect() })
             }
-            IdShape::String => IdData::String(StringId {
-                substrings: row.list_index().map(IdIndex),
-                name: RawString(it.name()?.unwrap_or_default()),
-            }),
+            IdShape::String => IdData::String(StringId { substrings: row.substrings().map(IdIndex), name: name()? }),
             IdShape::TypeSource => IdData::UserDefinedTypeSource(UserDefinedTypeSourceId {
-                udt: row.type_of(),
-                source_file: match row.third_index() {
+                udt: index(row.udt()),
+                source_file: match row.module() {
                     Some(module) => {
-                        let name = row.number().unwrap_or_default() as u32;
+                        let name = row.file_name().unwrap_or_default() as u32;
                         UserDefinedTypeSourceFileRef::Remote(module as u16, StringRef(name))
                     }
-                    None => UserDefinedTypeSourceFileRef::Local(IdIndex(row.second().0)),
+                    None => UserDefinedTypeSourceFileRef::Local(IdIndex(row.file_id().unwrap_or_default())),
                 },
-                line: row.extra().unwrap_or_default(),
+                line: row.line().unwrap_or_default(),
             }),
+            IdShape::Other => return Err(Error::UnimplementedTypeKind(it.kind().unwrap_or_default())),
         })
     }
 }

@@ -1,14 +1,15 @@
 //! Calls for programs in other languages over a file of which a byte is wrong: each error is that of
 //! the first fault, and never `OutOfMemory`, since there is plenty of memory.
 
-use pdb_base::Error;
+use pdb_base::{Error, Result};
 use pdb_fixtures::roles::{INFORMATION, NONE, debug_of};
 use pdb_fixtures::{file_of, with_bytes};
 use pdb_handles::Fault;
-use pdb_handles::file::{addresses_in, frames_in, layout_in, named_stream_in, names_in};
+use pdb_handles::file::{addresses_in, frames_in, layout_in, names_in, number_in};
 use pdb_handles::identity::identity_in;
 use pdb_handles::roles::roles_in;
 use pdb_handles::stream_names::stream_names_in;
+use pdb_msf::{CountedSource, Layout};
 use std::alloc::Global;
 use std::process::Abort;
 
@@ -41,6 +42,12 @@ enum Call {
     Frames,
 }
 
+/// Returns the size of the first stream with a name.
+fn size_of_named(alloc: Global, file: &[u8], name: &[u8]) -> Result<u32> {
+    let number = number_in(alloc, file, name)?;
+    Layout::read(alloc, &mut CountedSource::new(file))?.stream_size(number)
+}
+
 /// The error of a call over a file, if it fails.
 fn error_of(alloc: Global, file: &[u8], call: Call) -> Option<Error> {
     match call {
@@ -48,7 +55,7 @@ fn error_of(alloc: Global, file: &[u8], call: Call) -> Option<Error> {
         Call::Identity => identity_in(alloc, file).err(),
         Call::StreamNames => stream_names_in(alloc, file).err(),
         Call::Names => names_in(alloc, file).err(),
-        Call::Stream(name) => named_stream_in(alloc, file, name).err(),
+        Call::Stream(name) => size_of_named(alloc, file, name).err(),
         Call::Roles => roles_in(alloc, file).err(),
         Call::Map => addresses_in(alloc, file).err(),
         Call::Frames => frames_in(alloc, file).err(),
