@@ -1,6 +1,7 @@
 """What a program says of its database, read from its bytes by the Portable Executable specification; and programs that
 are made by hand."""
 
+import re
 import struct
 import uuid
 from dataclasses import dataclass
@@ -21,11 +22,12 @@ NO_DIRECTORY = "a program (PE) without a debug directory"
 LARGE_DIRECTORY = "a program (PE) whose debug directory has more than 4,096 entries"
 UNMAPPED = "a program (PE) whose debug directory is in no section"
 UNNAMED = "a program (PE) that names no database"
+FOLDER_NAME = "a program (PE) that names a folder in place of a database"
 OLDER = "a program (PE) that names a database of an older format (NB10)"
 UNKNOWN = "a program (PE) whose debug record has an unknown format"
 LARGE_RECORD = "a program (PE) whose debug record has more than 65,560 bytes"
 CUT_RECORD = "a program (PE) whose debug record is cut short"
-CUT = "unexpected end of file"
+CUT = "a program (MZ) that is cut short"
 
 
 class Nameless(Exception):
@@ -130,6 +132,8 @@ def record_of(record):
         raise Nameless(CUT_RECORD)
     if not path:
         raise Nameless(UNNAMED)
+    if not re.split(rb"[\\/]", path)[-1].strip(b". "):
+        raise Nameless(FOLDER_NAME)
     return str(uuid.UUID(bytes_le=record[4:20])).upper(), word(record, 20), path
 
 

@@ -3,6 +3,7 @@ pub mod Diffed
 pub mod Identified
 pub mod InputFile
 pub mod Listed
+pub mod Told
 pub mod Reported
 pub mod Requests
 pub mod Sentences

@@ -9,9 +9,10 @@ use Rattle.pdbdump_rows.specs.declared.form.Form.{Form}
 use Rattle.pdbdump_rows.specs.Rows.{WritesLines}
 use Rattle.pdbdump_tables.specs.Listing.{ListsLines}
 use Rattle.pdbdump_tables.specs.Reading.{AnswersRead}
-use Rattle.pdbdump_types.specs.Shown.{Accounts, ShowsTypes}
+use Rattle.pdbdump_types.specs.Shown.{ShowsTypes}
 use Rattle.pdbdump_cli.specs.Identified.{IsIdDone, ShowsIdentity}
 use Rattle.pdbdump_cli.specs.Listed.{Does}
+use Rattle.pdbdump_cli.specs.Told.{EndsTold, IsSearchTold}
 use Rattle.pdbdump_cli.specs.Served.{Answering, EndsAnswer}
 use Rattle.pdbdump_cli.specs.Validated.{IsValidatedIn}
 use Rattle.pdbdump_cli.specs.declared.command.Command.{Command}
@@ -25,17 +26,17 @@ stream_bytes number file = file_head file >>= λ head. stream_of file head numbe
 abbrev pub type_bytes : List ℕ → Answer (List ℕ)
 type_bytes file = stream_bytes type_stream file
 
--- What a command lists of a file was written, or cut short.
+-- What a command lists of a file was written, or cut short, and what the listing lacks was reported.
 pub record DoesCommand (form : Form) (command : Command) (file : State) (out out' err err' : OutputState)
     (answer : Result Bool Error) : Type 0 where
   pub does : Does form command file out out' (done_of answer)
-  pub silent : err' ≡ err
+  pub told : EndsTold command err err' answer
 
 -- Some records of the table in a stream were listed, or cut short, and what wasn't found was reported.
 pub record AreSelected (form : Form) (number : ℕ) (file : State) (out out' err err' : OutputState)
     (answer : Result Bool Error) : Type 0 where
   pub lists : ListsLines form out out' (done_of answer)
-  pub accounts : AnswersRead file (stream_bytes number) (λ stream. Accounts err err') answer
+  pub accounts : AnswersRead file (stream_bytes number) (λ stream. IsSearchTold stream err err') answer
 
 -- The types of a file were shown, and what can't be shown was reported.
 abbrev pub AreTypesShown : State → Answering

@@ -12,6 +12,7 @@ use pdbdump_declarations::{Language, Options as DeclareOptions};
 use pdbdump_layouts::{LetterCase, Options, Order, Style};
 use pdbdump_rows::Form;
 use pdbdump_tables::{AskedAddress, KeyStyle, MapStreams};
+use pdbdump_types::is_pattern;
 use std::alloc::{AllocError, Global};
 use std::path::Path;
 
@@ -31,6 +32,8 @@ pub enum Misuse<'w> {
     NoKey(&'w str),
     /// Two inputs would be read from standard input.
     InputTwice,
+    /// A name with `*` or `?` is longer than one may be.
+    LongPattern,
     /// An option or an operand of this name is given with an option that it can't be used with.
     Beside(&'static str, &'static str),
 }
@@ -135,6 +138,25 @@ fn wrong_key<'w>(matches: &ArgMatches<'w>) -> Option<Misuse<'w>> {
         Some(text) if !is_key_text(text) => Some(Misuse::NoKey(text)),
         _ => None,
     }
+}
+
+/// The most bytes that a name with `*` or `?` may have.
+const LONGEST_PATTERN: usize = 1000;
+
+/// Returns whether a name with `*` or `?` is longer than one may be.
+fn is_long_pattern(name: &str) -> bool {
+    name.len() > LONGEST_PATTERN && is_pattern(name.as_bytes())
+}
+
+/// Returns that a name with `*` or `?` is longer than one may be, if one is.
+fn long_pattern<'w>(matches: &ArgMatches<'w>) -> Option<Misuse<'w>> {
+    for option in ["NAME", "uses"] {
+        let names = matches.get_strs(option).unwrap_or(&[]);
+        if names.iter().any(|name| is_long_pattern(name)) {
+            return Some(Misuse::LongPattern);
+        }
+    }
+    None
 }
 
 /// Returns the form of the output that a call requests.
@@ -359,10 +381,12 @@ fn beside(name: &str, matches: &ArgMatches<'_>) -> Option<(&'static str, &'stati
 ///
 /// # Errors
 /// Fails with `NoNumber` if an argument that has to be a number isn't one, with `NoKey` if one that has
-/// to be a key isn't one, with `InputTwice` if two inputs would be read from standard input, and with
-/// `Beside` if an option is given with what it can't be used with.
+/// to be a key isn't one, with `LongPattern` if a name with `*` or `?` has more than 1,000 bytes, with
+/// `InputTwice` if two inputs would be read from standard input, and with `Beside` if an option is given
+/// with what it can't be used with.
 pub fn check_call<'w>(name: &str, matches: &ArgMatches<'w>) -> Result<(), Misuse<'w>> {
-    if let Some(misuse) = wrong_number(matches).or(wrong_key(matches)) {
+    let misuse = wrong_number(matches).or(wrong_key(matches));
+    if let Some(misuse) = misuse.or(long_pattern(matches)) {
         return Err(misuse);
     }
     if standard_inputs(name, matches) > 1 {

@@ -309,7 +309,7 @@ pub(crate) const ASK: Description = Description {
     about: "Answer questions on standard input, a line each",
     details: "\
 Questions have the form of those of pdbq: stream N [LIMIT], type S I, id S I, fields S I, name S O or ranges S A B.
-Each is repeated, and its answer follows: the lines that pdbq prints, or why there is none. Empty lines are skipped.
+Each is repeated, and its answer follows, or why there is none. Empty lines are skipped.
 The exit status is 0 if all questions were answered. What was read is answered before more is read, so that another
 program may ask one question after another through a pipe; the last table of each kind stays open between them.",
     flags: &[JSON],

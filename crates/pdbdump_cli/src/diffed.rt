@@ -10,9 +10,9 @@ use pdb_base::{Stream, TypeIndex};
 use pdb_container::{Error, Result};
 use pdb_output::Output;
 use pdb_tpi::OpenTable;
-use pdbdump_differences::{ComparedTable, DiffOptions, Outcome, show_differences};
+use pdbdump_differences::{ComparedTable, DiffOptions, Outcome, Side, show_differences};
 use pdbdump_rows::Form;
-use pdbdump_types::{escape_text, learn_table};
+use pdbdump_types::learn_table;
 use std::alloc::Global;
 use std::io::Write;
 
@@ -22,14 +22,11 @@ const DIFFERENT: u8 = 1;
 /// The status if not all could be compared.
 const INCOMPLETE: u8 = 2;
 
-/// Reports why a file can't be compared, and returns the status with which the program ends.
-pub(crate) fn refuse<E: Write>(alloc: Global, path: &str, fault: &Error, err: &mut Output<E>) -> u8
+/// Reports why one of both files can't be compared, and returns the status with which the program ends.
+pub(crate) fn refuse<E: Write>(alloc: Global, side: Side, fault: &Error, err: &mut Output<E>) -> u8
     ensures { result ≡ INCOMPLETE }
 {
-    if let Ok(path) = escape_text(alloc, path.as_bytes()) {
-        err.report(&path);
-        err.report(b": ");
-    }
+    err.report(side.mark());
     tell(alloc, fault, err);
     INCOMPLETE
 }
@@ -84,13 +81,13 @@ fn compare<O: Write, E: Write>(
 ) -> u8
     ensures { result ≡ 0 → IsSilentEnd out.old out.new err.old err.new }
 {
-    let old = match ComparedTable::new(alloc, asked.old, old, asked.names) {
+    let old = match ComparedTable::new(alloc, old, asked.names) {
         Ok(table) => table,
-        Err(fault) => return refuse(alloc, asked.old, &fault, err),
+        Err(fault) => return refuse(alloc, Side::Old, &fault, err),
     };
-    let new = match ComparedTable::new(alloc, asked.new, new, asked.names) {
+    let new = match ComparedTable::new(alloc, new, asked.names) {
         Ok(table) => table,
-        Err(fault) => return refuse(alloc, asked.new, &fault, err),
+        Err(fault) => return refuse(alloc, Side::New, &fault, err),
     };
     let options = DiffOptions {
         is_layout_only: asked.is_layout_only,
@@ -115,11 +112,11 @@ pub(crate) fn serve_diff<O: Write, E: Write>(
 {
     let old = match learn_table(alloc, old) {
         Ok(types) => types,
-        Err(fault) => return refuse(alloc, asked.old, &fault, err),
+        Err(fault) => return refuse(alloc, Side::Old, &fault, err),
     };
     let new = match learn_table(alloc, new) {
         Ok(types) => types,
-        Err(fault) => return refuse(alloc, asked.new, &fault, err),
+        Err(fault) => return refuse(alloc, Side::New, &fault, err),
     };
     compare(alloc, asked, &old, &new, form, out, err)
 }

@@ -7,7 +7,7 @@ ghost use Rattle.pdb_validation.specs.Finding.{error_count, finding_view, warnin
 ghost use Rattle.pdbdump_rows.specs.{Line.AddsRow, Rows.WritesLines, Sink.AddsLines};
 ghost use Rattle.pdbdump_cli.specs.Validated.{AreFindingsWritten};
 
-use pdb_base::{RawString, Result};
+use pdb_base::{Error, RawString, Result};
 use pdb_output::Output;
 use pdb_validation::{Finding, Problem};
 use pdbdump_rows::{Field, Form, Line, Rows, Sheet, Value, error_text, optional_number};
@@ -16,9 +16,14 @@ use std::alloc::{AllocError, Global};
 use std::io::Write;
 use std::result;
 
+/// What is wrong with a file that has no header: it may be another one, or be cut.
+const NO_HEADER: &[u8] =
+    b"not a program database of version 7.00, or cut within its first 4,096 bytes";
+
 /// Returns what is wrong, in words.
 fn problem_text(alloc: Global, problem: &Problem) -> result::Result<Vec<u8>, AllocError> {
     match problem {
+        Problem::Error(Error::UnrecognizedFileFormat) => Vec::from_slice(alloc, NO_HEADER),
         Problem::Error(error) => error_text(alloc, error),
         Problem::Inconsistent(_) => Ok(format!(in alloc; "{problem}")?.into_bytes()),
     }

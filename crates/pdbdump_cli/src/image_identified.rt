@@ -13,11 +13,23 @@ use pdb_output::Output;
 use pdbdump_rows::Form;
 use pdbdump_tables::write_image;
 use std::alloc::{AllocError, Global};
-use std::io::Write;
+use std::io::{ErrorKind, Write};
 use std::result;
 
 /// What is told of an image whose record ends too soon.
 const CUT_RECORD: &str = "a program (PE) whose debug record is cut short";
+
+/// What is told of a file that begins as an image does and ends before what its headers refer to.
+const CUT_IMAGE: &str = "a program (MZ) that is cut short";
+
+/// What is told of an image whose database has the name of a folder.
+const FOLDER_NAME: &str = "a program (PE) that names a folder in place of a database";
+
+/// Returns whether a name can be that of a file. A path that is made of it would lead out of its folder
+/// if it consists of dots, also with spaces, which Windows drops.
+fn is_file_name(name: &[u8]) -> bool {
+    name.iter().any(|byte| *byte != b'.' && *byte != b' ')
+}
 
 /// Returns what is told of an image that names no database.
 pub(crate) fn nameless_text(reason: NoDatabase) -> &'static str {
@@ -41,15 +53,19 @@ pub(crate) fn nameless_text(reason: NoDatabase) -> &'static str {
 /// Reads what an image says of its database. The inner result is the text of why it names none.
 ///
 /// # Errors
-/// Fails as `CodeView::read` does, but not if the record is cut short.
+/// Fails as `CodeView::read` does, but not if the image or the record is cut short.
 pub(crate) fn image_in<S: Source + Drop>(
     alloc: Global,
     source: S,
 ) -> Result<result::Result<CodeView, &'static str>, Error> {
     match CodeView::read(alloc, &mut CountedSource::new(source)) {
-        Ok(Ok(image)) => Ok(Ok(image)),
+        Ok(Ok(image)) if is_file_name(image.file_name()) => Ok(Ok(image)),
+        Ok(Ok(_)) => Ok(Err(FOLDER_NAME)),
         Ok(Err(reason)) => Ok(Err(nameless_text(reason))),
         Err(Error::UnexpectedEof) => Ok(Err(CUT_RECORD)),
+        Err(Error::IoError(error)) if error.kind() == ErrorKind::UnexpectedEof => Ok(Err(
+            CUT_IMAGE,
+        )),
         Err(fault) => Err(fault),
     }
 }

@@ -16,6 +16,7 @@ mod extracted;
 mod finding_lines;
 mod identified;
 mod image_identified;
+mod incomplete;
 mod input_file;
 mod kind_names;
 mod laid_out;

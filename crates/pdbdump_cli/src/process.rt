@@ -10,7 +10,7 @@ use crate::identified::no_image_text;
 use crate::image_identified::{image_in, image_text};
 use crate::input_file::{FileBytes, InputFile};
 use crate::laid_out::type_stream;
-use crate::reports::{Serving, Subject, error_line, report_lines, without_number};
+use crate::reports::{Compared, Serving, Subject, error_line, report_lines, without_number};
 use crate::request::serve;
 use crate::seen::{FRONT_SIZE, Seen, Watched};
 use crate::selection_calls::{selected, selecting};
@@ -133,6 +133,9 @@ fn misuse_text(alloc: Global, misuse: Misuse<'_>) -> Result<String> {
         Misuse::NoKey(text) => (text, Some("expect"), "KEY", NO_KEY),
         Misuse::InputTwice => {
             return Ok(String::from_str(alloc, "standard input would be read twice")?);
+        }
+        Misuse::LongPattern => {
+            return Ok(String::from_str(alloc, "a name with '*' or '?' has at most 1,000 bytes")?);
         }
         Misuse::Beside(option, "NAME") => {
             return Ok(format!(in alloc;
@@ -329,7 +332,11 @@ fn compare_files<P: Files + Input + Print + Eprint + AllocGlobal>(
         return Ok(MISUSED);
     };
     // Each report says itself which of both files it is about.
-    let mut serving = Serving::new(alloc, None, form);
+    let compared = Compared {
+        old: asked.old,
+        new: asked.new,
+    };
+    let mut serving = Serving::comparing(alloc, compared, form);
     let status = serve_diff(alloc, asked, old, new, form, &mut out, &mut serving.reports);
     report(process, serving, out.has_failed());
     Ok(status)

@@ -8,6 +8,7 @@ use crate::seen::Seen;
 use bstr::ByteSlice;
 use pdb_base::IO_ERROR_FRONT;
 use pdb_output::Output;
+use pdbdump_differences::Side;
 use pdbdump_rows::{Form, push_text};
 use std::alloc::{AllocError, Global};
 
@@ -19,6 +20,25 @@ pub(crate) struct Subject<'n> {
     pub name: Option<&'n str>,
     /// The form.
     pub form: Form,
+}
+
+/// The names of two files that are compared.
+#[derive(Clone, Copy)]
+pub(crate) struct Compared<'n> {
+    /// The old one.
+    pub old: &'n str,
+    /// The new one.
+    pub new: &'n str,
+}
+
+impl<'n> Compared<'n> {
+    /// Returns the name of one of them.
+    fn name(self, side: Side) -> &'n str {
+        match side {
+            Side::Old => self.old,
+            Side::New => self.new,
+        }
+    }
 }
 
 /// The name of standard output.
@@ -142,6 +162,9 @@ fn short_text(alloc: Global, size: u64, wanted: u64) -> Result<Vec<u8>, AllocErr
 pub(crate) struct Serving<'n> {
     /// What the reports are about.
     pub subject: Subject<'n>,
+    /// The files that are compared, if two are, of which a report begins with the mark of the one
+    /// that it is about.
+    pub compared: Option<Compared<'n>>,
     /// What is seen of the file.
     pub seen: Seen,
     /// What is reported, a line each.
@@ -153,8 +176,17 @@ impl<'n> Serving<'n> {
     pub(crate) fn new(alloc: Global, name: Option<&'n str>, form: Form) -> Self {
         Serving {
             subject: Subject { name, form },
+            compared: None,
             seen: Seen::nothing(alloc),
             reports: Output::new(Vec::new(alloc)),
+        }
+    }
+
+    /// Returns that nothing is reported yet of two files that are compared.
+    pub(crate) fn comparing(alloc: Global, compared: Compared<'n>, form: Form) -> Self {
+        Serving {
+            compared: Some(compared),
+            ..Serving::new(alloc, None, form)
         }
     }
 }
@@ -163,6 +195,7 @@ impl<'n> Serving<'n> {
 #[derive(Clone, Copy)]
 struct Reported<'r> {
     subject: Subject<'r>,
+    compared: Option<Compared<'r>>,
     seen: &'r Seen,
     has_output_failed: bool,
 }
@@ -222,6 +255,21 @@ impl Reported<'_> {
         }
     }
 
+    /// Returns the line for an error that was reported, which may be about one of two files.
+    fn line_of_one(&self, alloc: Global, report: &[u8]) -> Result<Vec<u8>, AllocError> {
+        let (Some(compared), Some((side, text))) = (self.compared, Side::of_report(report)) else {
+            return self.line(alloc, report);
+        };
+        let one = Reported {
+            subject: Subject {
+                name: Some(compared.name(side)),
+                ..self.subject
+            },
+            ..*self
+        };
+        one.line(alloc, text)
+    }
+
     /// Returns whether an error is reported by another line, which says that the file is short.
     fn is_length(&self, report: &[u8]) -> bool {
         self.seen.wanted_size().is_some() && (report.ends_with(ENDED) || report == NO_HEADER)
@@ -248,6 +296,7 @@ pub(crate) fn report_lines(
 ) -> Result<Vec<u8>, AllocError> {
     let Serving {
         subject,
+        compared,
         seen,
         reports,
     } = serving;
@@ -256,13 +305,14 @@ pub(crate) fn report_lines(
     }
     let reported = Reported {
         subject,
+        compared,
         seen: &seen,
         has_output_failed,
     };
     let mut lines = reported.length_line(alloc)?;
     for report in reports.into_inner().split(|byte| *byte == b'\n') {
         if !report.is_empty() && !reported.is_length(report) {
-            lines.extend_from_slice(&reported.line(alloc, report)?)?;
+            lines.extend_from_slice(&reported.line_of_one(alloc, report)?)?;
         }
     }
     Ok(lines)

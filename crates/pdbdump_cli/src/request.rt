@@ -39,7 +39,7 @@ fn serve_opened<S: Source + Drop, O: Write, E: Write>(
 {
     match request {
         Request::List(command) => {
-            let listed = list(alloc, file, *command, form, out);
+            let listed = list(alloc, file, *command, form, out, err);
             end_as(alloc, listed, out, err)
         }
         Request::Select(asked) => {

@@ -19,7 +19,7 @@ use pdb_output::Output;
 use pdb_types::{DeclarationOrder, Definitions};
 use pdb_values::TypeData;
 use pdbdump_types::{
-    Progress, Table, TextBuffer, learn_table, tell, tell_fault, tell_index, type_at,
+    Progress, Table, TextBuffer, is_pattern, learn_table, tell, tell_fault, tell_index, type_at,
 };
 use std::alloc::Global;
 use std::io::Write;
@@ -172,6 +172,29 @@ fn find_names<E: Write>(
     Ok(())
 }
 
+/// Returns whether all types are wanted, or those of a pattern. A record that can't be read may be
+/// one of these.
+fn has_pattern(names: &[&str], options: &Options) -> bool {
+    options.all || names.iter().any(|name| is_pattern(name.as_bytes()))
+}
+
+/// Tells of the records that can't be read, if what they define may be wanted.
+fn tell_unread<E: Write>(
+    alloc: Global,
+    walked: &Walked<'_>,
+    names: &[&str],
+    options: &Options,
+    progress: &mut Progress,
+    err: &mut Output<E>,
+) -> Result<(), Error>
+    ensures { OnOk result (StaysAccounted progress.old progress.new err.old err.new) }
+{
+    if !has_pattern(names, options) {
+        return Ok(());
+    }
+    walked.unread.tell(alloc, b"", progress, err)
+}
+
 /// Writes the header of the types of a table that are wanted.
 fn declare_asked<O: Write, E: Write>(
     table: Table<'_, '_>,
@@ -187,6 +210,7 @@ fn declare_asked<O: Write, E: Write>(
     let naming = Naming::new(table.alloc, &walked, options.language)?;
     let mut roots = first_types(table.alloc, &walked, options.all)?;
     find_names(table, &walked, names, &mut roots, progress, err)?;
+    tell_unread(table.alloc, &walked, names, options, progress, err)?;
     limit_types(table, walked.behind, &mut roots, progress, err)?;
     let context = Context {
         table,

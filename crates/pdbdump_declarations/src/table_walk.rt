@@ -1,11 +1,10 @@
 //! The classes, unions and enumerations of a table, in its order.
 
 use crate::memory::AllocResult;
-use pdb_base::{Error, RawString, TypeIndex};
+use pdb_base::{RawString, TypeIndex};
 use pdb_tpi::constants::{LF_ARGLIST, LF_FIELDLIST, LF_METHODLIST};
 use pdb_values::TypeData;
-use pdbdump_types::Table;
-use std::alloc::AllocError;
+use pdbdump_types::{Table, Unread};
 
 /// What the word before the name of a type is.
 #[derive(Clone, Copy, PartialEq, Eq)]
@@ -78,8 +77,12 @@ pub(crate) fn named_of<'t>(value: &TypeData<'t>) -> Option<Named<'t>> {
     })
 }
 
-/// Returns the value of a record that is no list, if it can be read.
-fn value_at<'t>(table: Table<'_, 't>, index: TypeIndex) -> AllocResult<Option<TypeData<'t>>> {
+/// Returns the value of a record that is no list, if it can be read. One that can't be is counted.
+fn value_at<'t>(
+    table: Table<'_, 't>,
+    index: TypeIndex,
+    unread: &mut Unread,
+) -> AllocResult<Option<TypeData<'t>>> {
     let Ok(item) = table.definitions.types().item(index) else {
         return Ok(None);
     };
@@ -89,8 +92,10 @@ fn value_at<'t>(table: Table<'_, 't>, index: TypeIndex) -> AllocResult<Option<Ty
     }
     match item.parse(table.alloc) {
         Ok(value) => Ok(Some(value)),
-        Err(Error::OutOfMemory) => Err(AllocError),
-        Err(_) => Ok(None),
+        Err(fault) => {
+            unread.add(&item, fault)?;
+            Ok(None)
+        }
     }
 }
 
@@ -109,6 +114,9 @@ pub(crate) struct Found<'t> {
 pub(crate) struct Walked<'t> {
     /// Its classes, unions and enumerations, in its order.
     pub(crate) found: Vec<Found<'t>>,
+
+    /// Its records that may define a type and that can't be read.
+    pub(crate) unread: Unread,
 
     /// How many bytes a pointer has in the program, by the first one in the table.
     pub(crate) pointer_size: u64,
@@ -136,6 +144,7 @@ fn pointer_size(value: &TypeData<'_>) -> Option<u64> {
 pub(crate) fn walk<'t>(table: Table<'_, 't>) -> AllocResult<Walked<'t>> {
     let header = table.definitions.types().items().header();
     let mut found = Vec::new(table.alloc);
+    let mut unread = Unread::none();
     let mut size = None;
     let mut behind = header.minimum_index;
     for number in header.minimum_index..header.maximum_index {
@@ -145,7 +154,7 @@ pub(crate) fn walk<'t>(table: Table<'_, 't>) -> AllocResult<Walked<'t>> {
             break;
         }
         behind = number.saturating_add(1);
-        let Some(value) = value_at(table, index)? else {
+        let Some(value) = value_at(table, index, &mut unread)? else {
             continue;
         };
         size = size.or(pointer_size(&value));
@@ -155,6 +164,7 @@ pub(crate) fn walk<'t>(table: Table<'_, 't>) -> AllocResult<Walked<'t>> {
     }
     Ok(Walked {
         found,
+        unread,
         pointer_size: size.unwrap_or(8),
         behind,
     })

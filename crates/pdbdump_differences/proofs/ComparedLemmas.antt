@@ -1,5 +1,5 @@
 -- Steps of comparing tables.
-use Rattle.std.proofs.Common.{◌≡◌, refl, sym, subst, Bool, true, false, Result, Ok, Err}
+use Rattle.std.proofs.Common.{◌≡◌, sym, subst, Bool, true, false, Result, Ok, Err}
 use Rattle.std.specs.Prelude.{OnOk}
 use Rattle.pdb_base.specs.declared.error.Error.{Error}
 use Rattle.pdb_output.specs.Output.{OutputState}

@@ -3,10 +3,9 @@
 use crate::pairing::hash_of_definition;
 use crate::version::Version;
 use pdb_base::{Error, FallibleIterator, TypeIndex};
-use pdb_tpi::constants::{LF_ARGLIST, LF_FIELDLIST, LF_METHODLIST};
 use pdb_tpi::{OpenTable, Type};
 use pdb_types::Definitions;
-use pdbdump_types::{Allowance, Defined, Table, defined_by, records_of};
+use pdbdump_types::{Allowance, Defined, Table, Unread, defined_by, records_of};
 use std::alloc::{AllocError, Global};
 
 /// Why definitions aren't compared.
@@ -15,9 +14,6 @@ const TOO_MANY: &str = "comparison of so many fields, so that more is left out";
 /// One of two tables that are compared.
 #[derive(Drop)]
 pub struct ComparedTable<'t> {
-    /// What the file with the table is called.
-    pub(crate) path: &'t str,
-
     /// How many bytes its records have.
     pub(crate) bytes: usize,
 
@@ -29,41 +25,43 @@ pub struct ComparedTable<'t> {
 
     /// The hashes of the names by which these are paired with others.
     pub(crate) hashes: Vec<u64>,
+
+    /// The records that may define a type and that can't be read.
+    pub(crate) unread: Unread,
 }
 
-/// Returns the definition that an item is. An item that can't be read is none, and nor is a list,
-/// which isn't read.
-fn defined_in<'t>(alloc: Global, item: &Type<'t>) -> Result<Option<Defined<'t>>, AllocError> {
-    if matches!(item.raw_kind(), LF_FIELDLIST | LF_ARGLIST | LF_METHODLIST) {
-        return Ok(None);
-    }
-    match item.parse(alloc) {
-        Ok(value) => Ok(defined_by(&value)),
-        Err(Error::OutOfMemory) => Err(AllocError),
-        Err(_) => Ok(None),
+/// Returns the definition that an item is, or None if it is none, or if it can't be read, which is
+/// counted.
+fn defined_in<'t>(
+    alloc: Global,
+    item: &Type<'t>,
+    unread: &mut Unread,
+) -> Result<Option<Defined<'t>>, AllocError> {
+    match unread.read(alloc, item)? {
+        Some(value) => Ok(defined_by(&value)),
+        None => Ok(None),
     }
 }
 
 impl<'t> ComparedTable<'t> {
     /// Finds the definitions of a table whose names are wanted: all if no name is given, in which
-    /// `*` and `?` are allowed. The path is that of the file, for what is reported of it.
+    /// `*` and `?` are allowed.
     ///
     /// # Errors
     /// Fails with the fault at which the walk along the table stops if that is before its end, and
     /// with `OutOfMemory` if an allocation fails.
     pub fn new(
         alloc: Global,
-        path: &'t str,
         types: &'t OpenTable<TypeIndex>,
         wanted: &[&str],
     ) -> Result<Self, Error> {
         let definitions = Definitions::new(alloc, types)?;
         let mut table = ComparedTable {
-            path,
             bytes: 0,
             definitions,
             wanted: Vec::new(alloc),
             hashes: Vec::new(alloc),
+            unread: Unread::none(),
         };
         let mut items = types.items().iter();
         for _ in 0..u64::MAX {
@@ -71,7 +69,7 @@ impl<'t> ComparedTable<'t> {
                 break;
             };
             table.bytes = table.bytes.saturating_add(item.len());
-            let Some(defined) = defined_in(alloc, &item)? else {
+            let Some(defined) = defined_in(alloc, &item, &mut table.unread)? else {
                 continue;
             };
             if defined.is_wanted(wanted) {
@@ -87,11 +85,13 @@ impl<'t> ComparedTable<'t> {
     /// # Errors
     /// Fails if an allocation fails.
     pub(crate) fn has(&self, alloc: Global, name: &str) -> Result<bool, AllocError> {
+        // Each of these could be read.
+        let mut unread = Unread::none();
         for index in &self.wanted {
             let Ok(item) = self.definitions.types().item(*index) else {
                 continue;
             };
-            if let Some(defined) = defined_in(alloc, &item)? {
+            if let Some(defined) = defined_in(alloc, &item, &mut unread)? {
                 if defined.is_wanted(&[name]) {
                     return Ok(true);
                 }

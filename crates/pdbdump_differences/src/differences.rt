@@ -1,32 +1,21 @@
 //! The definitions that differ between two tables of types.
 
 ghost use Rattle.std.specs.Prelude.{◌≡◌, IfOk, OnOk};
-ghost use Rattle.pdbdump_differences.specs.Compared.{Compares, IsCompared, counts, found};
+ghost use Rattle.pdbdump_differences.specs.Compared.{Compares, IsCompared, found};
 ghost use Rattle.pdbdump_types.specs.Shown.{StaysAccounted};
 
 use crate::compared_table::ComparedTable;
-use crate::difference_json::push_json;
-use crate::difference_text::push_text;
+use crate::fault::Fault;
+use crate::options::DiffOptions;
 use crate::pairing::Pairing;
-use crate::part_change::{PartChange, part_changes};
-use crate::version::Version;
-use pdb_base::{Error, TypeIndex};
+use crate::side::Side;
+use crate::tables::Tables;
+use pdb_base::Error;
 use pdb_output::Output;
-use pdb_types::{Comparison, compare};
 use pdbdump_rows::{Form, error_text};
-use pdbdump_types::{Allowance, Progress, TextAllowance, TextBuffer, tell, write_layout};
+use pdbdump_types::{Progress, TextBuffer, tell_line, write_layout};
 use std::alloc::{AllocError, Global};
 use std::io::Write;
-
-/// Which differences count, and how they are shown.
-#[derive(Clone, Copy)]
-pub struct DiffOptions {
-    /// Whether only those of sizes, offsets, bits and names count, and not those of types alone.
-    pub is_layout_only: bool,
-
-    /// Whether they are shown as text or as JSON.
-    pub form: Form,
-}
 
 /// What was found of two tables.
 #[derive(Clone, Copy, Debug, PartialEq, Eq)]
@@ -41,162 +30,34 @@ pub enum Outcome {
     Incomplete,
 }
 
-/// A definition, for what is reported of it.
-#[derive(Clone, Copy)]
-struct Subject<'p> {
-    /// What its file is called.
-    path: &'p str,
-
-    /// Its index.
-    index: TypeIndex,
-}
-
-/// Why a name means nothing.
-const NO_NAME: &[u8] = b"no type that either file defines is called so";
-
-/// Returns a difference as text or JSON.
-fn shown<'t>(
-    alloc: Global,
-    old: Option<&Version<'_, 't>>,
-    new: Option<&Version<'_, 't>>,
-    changes: &[PartChange<'t>],
-    form: Form,
-    texts: &mut TextAllowance,
-) -> Result<Vec<u8>, Error> {
-    let mut text = TextBuffer::new(alloc);
-    match form {
-        Form::Text => push_text(alloc, old, new, changes, texts, &mut text)?,
-        Form::Json => push_json(alloc, old, new, changes, texts, &mut text)?,
-    }
-    Ok(text.finish()?)
-}
-
-/// Returns whether what two definitions have in common leaves a difference that counts.
-fn counts(comparison: Comparison, is_layout_only: bool) -> bool
-    ensures { result ≡ counts comparison is_layout_only }
-{
-    match comparison {
-        Comparison::Equal => false,
-        Comparison::TypesDiffer => !is_layout_only,
-        Comparison::LayoutDiffers => true,
-    }
-}
-
-/// Two tables that are compared, and which of the definitions that are wanted of each stand for each
-/// other.
-#[derive(Drop)]
-struct Tables<'c, 't> {
-    old: &'c ComparedTable<'t>,
-    new: &'c ComparedTable<'t>,
-    pairing: Pairing,
-}
-
-impl<'c, 't> Tables<'c, 't> {
-    /// Returns the new definition that stands for an old one, which has this number among those that
-    /// are wanted.
-    ///
-    /// # Errors
-    /// Fails as `Version::at` does.
-    fn counterpart(
-        &mut self,
-        alloc: Global,
-        number: usize,
-        was: &Version<'_, 't>,
-    ) -> Result<Option<Version<'c, 't>>, Error> {
-        let Some(other) = self.pairing.second(number) else {
-            return Ok(None);
-        };
-        let Some(index) = self.new.wanted.get(other) else {
-            return Ok(None);
-        };
-        match self.new.version(alloc, *index)? {
-            Some(is) if is.defined.is_namesake(&was.defined) => Ok(Some(is)),
-            _ => {
-                self.pairing.part(other);
-                Ok(None)
-            }
-        }
-    }
-
-    /// Returns what became of an old definition, which has this number among those that are wanted,
-    /// or None if nothing that counts did.
-    fn change_of(
-        &mut self,
-        alloc: Global,
-        number: usize,
-        index: TypeIndex,
-        options: &DiffOptions,
-        records: &mut Allowance,
-        texts: &mut TextAllowance,
-    ) -> Result<Option<Vec<u8>>, Error> {
-        let Some(was) = self.old.version(alloc, index)? else {
-            return Ok(None);
-        };
-        let Some(is) = self.counterpart(alloc, number, &was)? else {
-            return Ok(Some(shown(alloc, Some(&was), None, &[], options.form, texts)?));
-        };
-        self.old.take_records(alloc, index, records)?;
-        self.new.take_records(alloc, is.index, records)?;
-        let comparison = compare(
-            alloc,
-            was.table.definitions,
-            index,
-            is.table.definitions,
-            is.index,
-        )?;
-        if !counts(comparison, options.is_layout_only) {
-            return Ok(None);
-        }
-        let changes = part_changes(alloc, &was, &is, options.is_layout_only, texts)?;
-        Ok(Some(shown(alloc, Some(&was), Some(&is), &changes, options.form, texts)?))
-    }
-
-    /// Returns the new definition with this number among those that are wanted, if it came.
-    fn arrival_of(
-        &self,
-        alloc: Global,
-        number: usize,
-        index: TypeIndex,
-        form: Form,
-        texts: &mut TextAllowance,
-    ) -> Result<Option<Vec<u8>>, Error> {
-        if self.pairing.is_paired(number) {
-            return Ok(None);
-        }
-        match self.new.version(alloc, index)? {
-            Some(is) => Ok(Some(shown(alloc, None, Some(&is), &[], form, texts)?)),
-            None => Ok(None),
-        }
-    }
-}
+/// What a report about a name begins with that means nothing.
+const NO_NAME: &[u8] = b"no type that either file defines is named ";
 
 /// Reports why it can't be said what became of a definition.
 fn tell_change<E: Write>(
     alloc: Global,
-    subject: Subject<'_>,
-    fault: &Error,
+    fault: &Fault,
     progress: &mut Progress,
     err: &mut Output<E>,
 ) -> Result<(), Error>
     ensures accounted { OnOk result (StaysAccounted progress.old progress.new err.old err.new) }
     ensures shown { progress.new.has_shown ≡ progress.old.has_shown }
 {
-    match fault {
-        Error::OutOfMemory => Err(Error::OutOfMemory),
-        _ => {
-            let (path, number) = (subject.path, subject.index.0);
-            let what = format!(in alloc; "{path}: 0x{number:x}")?;
-            let why = error_text(alloc, fault)?;
-            tell(alloc, what.as_bytes(), &why, progress, err)
-        }
+    if let Error::OutOfMemory = fault.error {
+        return Err(Error::OutOfMemory);
     }
+    let number = fault.subject.index.0;
+    let mut line = TextBuffer::new(alloc);
+    line.push(fault.subject.side.mark());
+    line.push_string(format!(in alloc; "0x{number:x}: "));
+    line.push_made(error_text(alloc, &fault.error));
+    tell_line(line, progress, err)
 }
 
 /// Writes what became of a definition, or reports why that can't be said.
 fn write_change<O: Write, E: Write>(
     alloc: Global,
-    subject: Subject<'_>,
-    change: Result<Option<Vec<u8>>, Error>,
+    change: Result<Option<Vec<u8>>, Fault>,
     form: Form,
     progress: &mut Progress,
     out: &mut Output<O>,
@@ -207,7 +68,7 @@ fn write_change<O: Write, E: Write>(
     match change {
         Ok(Some(text)) => write_layout(&text, form, progress, out),
         Ok(None) => Ok(()),
-        Err(fault) => tell_change(alloc, subject, &fault, progress, err),
+        Err(fault) => tell_change(alloc, &fault, progress, err),
     }
 }
 
@@ -226,11 +87,7 @@ fn show_changes<O: Write, E: Write>(
     for (number, index) in old.wanted.iter().enumerate() {
         let records = &mut progress.records;
         let change = tables.change_of(alloc, number, *index, options, records, &mut progress.texts);
-        let subject = Subject {
-            path: old.path,
-            index: *index,
-        };
-        write_change(alloc, subject, change, options.form, progress, out, err)?;
+        write_change(alloc, change, options.form, progress, out, err)?;
         if progress.records.is_spent() {
             return Ok(());
         }
@@ -251,11 +108,7 @@ fn show_arrivals<O: Write, E: Write>(
 {
     for (number, index) in tables.new.wanted.iter().enumerate() {
         let change = tables.arrival_of(alloc, number, *index, form, &mut progress.texts);
-        let subject = Subject {
-            path: tables.new.path,
-            index: *index,
-        };
-        write_change(alloc, subject, change, form, progress, out, err)?;
+        write_change(alloc, change, form, progress, out, err)?;
     }
     Ok(())
 }
@@ -284,7 +137,10 @@ fn tell_if_unknown<E: Write>(
     ensures shown { progress.new.has_shown ≡ progress.old.has_shown }
 {
     if is_unknown(alloc, old, new, name)? {
-        return tell(alloc, name.as_bytes(), NO_NAME, progress, err);
+        let mut line = TextBuffer::new(alloc);
+        line.push(NO_NAME);
+        line.push_escaped(name.as_bytes());
+        return tell_line(line, progress, err);
     }
     Ok(())
 }
@@ -307,6 +163,24 @@ fn tell_unknown<E: Write>(
     Ok(())
 }
 
+/// Reports what is left out of a comparison: each name that no definition of either table has, and
+/// the records of each table that may define a type and that can't be read.
+fn tell_missing<E: Write>(
+    alloc: Global,
+    old: &ComparedTable<'_>,
+    new: &ComparedTable<'_>,
+    names: &[&str],
+    progress: &mut Progress,
+    err: &mut Output<E>,
+) -> Result<(), Error>
+    ensures accounted { OnOk result (StaysAccounted progress.old progress.new err.old err.new) }
+    ensures shown { progress.new.has_shown ≡ progress.old.has_shown }
+{
+    tell_unknown(alloc, old, new, names, progress, err)?;
+    old.unread.tell(alloc, Side::Old.mark(), progress, err)?;
+    new.unread.tell(alloc, Side::New.mark(), progress, err)
+}
+
 /// Returns what was found.
 fn outcome_of(progress: Progress) -> Outcome
     ensures { result ≡ found progress.has_shown progress.is_whole }
@@ -324,8 +198,9 @@ fn outcome_of(progress: Progress) -> Outcome
 /// Writes those that went, changed or came, with the parts that differ.
 ///
 /// Definitions are paired by their names: the unique one if there is one, and where several have a
-/// name the first with the first, and so on. What can't be read is reported on the error channel,
-/// and so is each name that was given and that no definition has.
+/// name the first with the first, and so on. What can't be read is reported on the error channel
+/// behind the mark of its file (`Side::mark`), and so is, without a mark, each name that was given
+/// and that no definition has.
 ///
 /// # Errors
 /// Fails with `IoError` if the output fails, and with `OutOfMemory` if an allocation fails.
@@ -341,7 +216,7 @@ pub fn show_differences<O: Write, E: Write>(
     ensures { IfOk result (IsCompared out.old out.new err.old err.new) }
 {
     let mut progress = Progress::new(old.bytes.saturating_add(new.bytes));
-    tell_unknown(alloc, old, new, names, &mut progress, err)?;
+    tell_missing(alloc, old, new, names, &mut progress, err)?;
     let mut tables = Tables {
         old,
         new,

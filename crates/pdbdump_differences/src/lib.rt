@@ -6,10 +6,16 @@ mod compared_table;
 mod difference_json;
 mod difference_text;
 mod differences;
+mod fault;
+mod options;
 mod pairing;
 mod part;
 mod part_change;
+mod side;
+mod tables;
 mod version;
 
 pub use compared_table::ComparedTable;
-pub use differences::{DiffOptions, Outcome, show_differences};
+pub use differences::{Outcome, show_differences};
+pub use options::DiffOptions;
+pub use side::Side;

@@ -1,6 +1,6 @@
 //! The fields and gaps of a class with those of the classes within it.
 
-ghost use Rattle.std.specs.Prelude.{◌<◌, ◌≤◌, IsTrue};
+ghost use Rattle.std.specs.Prelude.{◌<◌, ◌≤◌, IfOk, IsTrue};
 
 use crate::layout_row::{LayoutRow, rows_of};
 use pdb_base::{Result, TypeIndex};
@@ -197,7 +197,7 @@ fn push_rows<'t>(
 /// In a damaged file a class may hold itself. So classes within are shown at most 256 deep, and
 /// only until they have 65,536 fields and gaps together, where each class counts as 16 of them at
 /// least, and at least as one for 16 records that it has; and only until those of the call are as
-/// many as are allowed. `is_cut` tells if one was left out.
+/// many as are allowed. `is_cut` tells if one was left out, and so does `is_spent` of what is allowed.
 ///
 /// # Errors
 /// Fails as `Definitions::layout_of` does for a class within, and with `OutOfMemory` if an
@@ -207,7 +207,9 @@ pub(crate) fn expand<'t>(
     layout: &Layout<'t>,
     depth: u32,
     allowed: &mut Allowance,
-) -> Result<Expansion<'t>> {
+) -> Result<Expansion<'t>>
+    ensures { IfOk result (λ expansion. IsTrue expansion.is_cut → IsTrue allowed.new.is_spent) }
+{
     let most = MOST_ROWS.min(allowed.left());
     let own = rows_of(table.alloc, layout)?;
     let mut rows = Vec::new(table.alloc);
@@ -218,6 +220,7 @@ pub(crate) fn expand<'t>(
     };
     push_rows(table, &own, 0, 0, &mut budget, &mut rows)?;
     allowed.take(most.saturating_sub(budget.most));
+    allowed.note_cut(budget.is_cut);
     Ok(Expansion {
         rows,
         is_cut: budget.is_cut,

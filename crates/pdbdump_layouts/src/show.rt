@@ -1,6 +1,6 @@
 //! The layouts that a call shows: of all classes, or of those that names mean.
 
-ghost use Rattle.std.specs.Prelude.{◌≡◌, ◌⊎◌, false, IfOk, OnOk};
+ghost use Rattle.std.specs.Prelude.{◌≡◌, ◌⊎◌, false, IfOk, IsTrue, OnOk};
 ghost use Rattle.pdbdump_types.specs.Shown.{ShowsTypes, StaysAccounted};
 
 use crate::c_style::push_c;
@@ -21,7 +21,8 @@ use pdb_types::{Definitions, Layout};
 use pdbdump_rows::{Form, error_text};
 use pdbdump_types::{
     Allowance, Progress, TOO_MANY, Table, TextAllowance, TextBuffer, Wanted, class_layout,
-    class_of, classes_in, learn_table, tell, tell_fault, tell_index, type_at, write_layout,
+    class_of, classes_in, is_pattern, learn_table, tell, tell_fault, tell_index, type_at,
+    unread_in, write_layout,
 };
 use std::alloc::{AllocError, Global};
 use std::io::Write;
@@ -375,23 +376,47 @@ fn limit_types<E: Write>(
     tell_index(table.alloc, index, TOO_MANY, progress, err)
 }
 
-/// Tells if members of classes within classes were left out since so many were shown.
+/// Tells if members of classes within classes were left out, since so many were shown of one class
+/// or of all, or since they are so deep.
 fn tell_depth<E: Write>(
     alloc: Global,
     progress: &mut Progress,
     err: &mut Output<E>,
 ) -> Result<(), Error>
     ensures accounted { OnOk result (StaysAccounted progress.old progress.new err.old err.new) }
-    ensures told { OnOk result (progress.old.rows.left ≡ 0 → progress.new.is_whole ≡ false) }
+    ensures spent { OnOk result (progress.old.rows.left ≡ 0 → progress.new.is_whole ≡ false) }
+    ensures cut { OnOk result (IsTrue progress.old.rows.is_spent → progress.new.is_whole ≡ false) }
 {
-    if progress.rows.left() > 0 {
+    if progress.rows.left() > 0 && !progress.rows.is_spent() {
         return Ok(());
     }
     tell(alloc, b"--expand", TOO_DEEP, progress, err)
 }
 
-/// Shows the types of a table that are wanted, and returns whether each name was found and no
-/// class had an error.
+/// Returns whether all types are wanted, or those of a pattern. A record that can't be read may be
+/// one of these.
+fn has_pattern(names: &[&str], options: &Options) -> bool {
+    options.all || names.iter().any(|name| is_pattern(name.as_bytes()))
+}
+
+/// Tells of the records that can't be read, if what they define may be wanted.
+fn tell_unread<E: Write>(
+    asked: &Asked<'_, '_, '_>,
+    names: &[&str],
+    progress: &mut Progress,
+    err: &mut Output<E>,
+) -> Result<(), Error>
+    ensures { OnOk result (StaysAccounted progress.old progress.new err.old err.new) }
+{
+    if !has_pattern(names, asked.options) {
+        return Ok(());
+    }
+    let table = asked.table;
+    let unread = unread_in(table.alloc, table.definitions.types())?;
+    unread.tell(table.alloc, b"", progress, err)
+}
+
+/// Shows the types of a table that are wanted, and tells of what is left out.
 fn show_asked<O: Write, E: Write>(
     asked: &Asked<'_, '_, '_>,
     names: &[&str],
@@ -407,6 +432,7 @@ fn show_asked<O: Write, E: Write>(
     limit_types(table, &mut found, progress, err)?;
     let ordered = sort_types(table, found, options.order)?;
     show_types(asked, &ordered, progress, out, err)?;
+    tell_unread(asked, names, progress, err)?;
     tell_depth(asked.table.alloc, progress, err)
 }
 

@@ -6,6 +6,7 @@ use Rattle.pdb_base.specs.declared.error.Error.TheVariants.{OutOfMemory}
 use Rattle.pdb_output.specs.Output.{OutputState, IsFailed}
 use Rattle.pdb_tpi.proofs.StepLemmas.{step_err, step_none, step_some}
 use Rattle.pdb_tpi.specs.Steps.{WalkPosition, walk, walk_rest, steps_taken, IsStep}
+use Rattle.pdb_tpi.specs.Place.{IsPlace}
 use Rattle.pdb_tpi.specs.Walk.{fault_of}
 use Rattle.pdb_tpi.specs.Table.{Table}
 use Rattle.pdbdump_rows.proofs.lemmas.Rows.{so_far_all, so_far_cut, so_far_more, so_far_none}
@@ -14,6 +15,9 @@ use Rattle.pdbdump_rows.specs.Line.{IsRow, WritesWhat, indexed}
 use Rattle.pdbdump_rows.specs.Lines.{row_text}
 use Rattle.pdbdump_rows.specs.Row.{ShownRow}
 use Rattle.pdbdump_rows.specs.Rows.{AreRows, AreRowsSoFar, rows_from}
+use Rattle.pdb_tpi.specs.declared.header.Header.{Header}
+use Rattle.pdbdump_tables.specs.Counted.{AreCounted}
+use Rattle.pdbdump_tables.specs.declared.completeness.RecordCounts.{RecordCounts}
 use Rattle.pdbdump_tables.specs.Listed.{IsWalked, cut, item_rows, lacking, stopped, whole}
 
 -- the rows of the items from an index on
@@ -112,3 +116,24 @@ pub ends_lacking : (form : Form) (table : Table) (stand : WalkPosition) (fault :
 ends_lacking form table stand fault out out' so want =
     let all : IsWalked form table out out' (Err OutOfMemory) = lacking _ so.rows in
     subst (λ (e : Error). IsWalked form table out out' (Err e)) (sym want) all
+
+-- ---- how many items there were
+
+-- an iterator that gives none has passed them all
+pub counted_all : {X : Type 0} (seen : X → ℕ × List ℕ) (table : Table) (old new : WalkPosition)
+    (index position : ℕ) (header : Header) (counts : RecordCounts) → old.table ≡ table → IsStep seen old (Ok None) new
+    → index ≡ old.index → IsPlace old.table old.index position → header ≡ table.header
+    → counts.counted ≡ header.maximum_index - header.minimum_index
+    → counts.present ≡ index - header.minimum_index → AreCounted table (Some counts)
+counted_all seen table old new index position header counts same step here place is counted present =
+    let past = (step_none seen old new step).0 in
+    let reached = place.reached in
+    let all : old.index - old.table.header.minimum_index ≡ length (walk old.table) = omega (arith, past, reached) in
+    record {
+      counts = counts;
+      is = refl;
+      counted = counted ∙ ap (λ (h : Header). h.maximum_index - h.minimum_index) is;
+      present = present ∙ ap (λ (i : ℕ). i - header.minimum_index) here
+          ∙ ap (λ (h : Header). old.index - h.minimum_index) is
+          ∙ subst (λ (t : Table). old.index - t.header.minimum_index ≡ length (walk t)) same all;
+    }

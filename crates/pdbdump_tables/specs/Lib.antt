@@ -1,4 +1,5 @@
 pub mod Listed
+pub mod Counted
 pub mod Given
 pub mod Identity
 pub mod Extracted

@@ -106,9 +106,11 @@ pub(crate) fn show_selected<I: ListedIndex>(
 {
     let parsed = I::parse_item(alloc, item);
     if !is_listed(alloc, item.raw_kind(), &parsed, selection, search)? {
+        search.leave_out(item.index().into(), parsed);
         return Ok(false);
     }
-    show_parsed(item, &parsed, place, &mut search.is_whole, line);
+    let is_whole = &mut search.completeness.is_whole;
+    show_parsed(item, &parsed, place, is_whole, line);
     Ok(true)
 }
 

@@ -1,8 +1,11 @@
 //! Tables of items: a line for each, or for each that is selected.
 
+ghost use Rattle.std.specs.Prelude.{OnOk};
+ghost use Rattle.pdbdump_tables.specs.Counted.{AreCounted, AreCountedIn};
 ghost use Rattle.pdbdump_tables.specs.Listed.{IsTableListed, IsWalked};
 ghost use Rattle.pdbdump_tables.specs.Listing.{ListsLines};
 
+use crate::completeness::{Completeness, RecordCounts};
 use crate::item_line::{ListedIndex, make_item, show_selected};
 use crate::refused_record::ItemPlace;
 use crate::search::Search;
@@ -21,31 +24,34 @@ fn list_items<I: ListedIndex, W: Write>(
     table: &ItemInformation<I>,
     stream: u32,
     form: Form,
-    is_whole: &mut bool,
+    found: &mut Completeness,
     out: &mut Output<W>,
 ) -> Result<()>
-    ensures { IsWalked form table.now out.old out.new result }
+    ensures lists { IsWalked form table.now out.old out.new result }
+    ensures counts { OnOk result (AreCounted table.now found.new.counts) }
 {
     let mut items = table.iter();
     let mut line = Line::new(alloc);
     loop {
-        let (_, byte) = items.place();
+        let (index, byte) = items.place();
         let place = ItemPlace {
             stream,
             byte: byte as u32,
         };
         let Some(item) = items.next()? else {
+            found.counts = Some(RecordCounts::up_to(stream, table.header(), index));
             return Ok(());
         };
-        make_item(alloc, form, &item, place, is_whole, &mut line)?;
+        make_item(alloc, form, &item, place, &mut found.is_whole, &mut line)?;
         out.write(line.as_bytes())?;
     }
 }
 
 /// Writes a line for each type or id of the table in a stream, in the order of the table. A record
 /// that can't be parsed has a line with the error, the number of the stream and the byte at which
-/// the record begins, and `is_whole` becomes false. At most one parsed record and its line are held
-/// in memory.
+/// the record begins, and it is noted that not all is whole. At the end it is noted how many records
+/// the header counts and how many there are. At most one parsed record and its line are held in
+/// memory.
 ///
 /// # Errors
 /// Fails as `ItemInformation::parse` does, before anything is written; with the error at which the
@@ -57,13 +63,14 @@ pub fn items<I: ListedIndex, W: Write>(
     stream: Stream,
     number: u32,
     form: Form,
-    is_whole: &mut bool,
+    found: &mut Completeness,
     out: &mut Output<W>,
 ) -> Result<()>
-    ensures { IsTableListed form stream out.old out.new result }
+    ensures lists { IsTableListed form stream out.old out.new result }
+    ensures counts { OnOk result (AreCountedIn stream found.new.counts) }
 {
     let table: ItemInformation<I> = ItemInformation::parse(stream)?;
-    list_items(alloc, &table, number, form, is_whole, out)
+    list_items(alloc, &table, number, form, found, out)
 }
 
 /// Writes a line for each item of a table that is selected.
@@ -76,13 +83,16 @@ fn list_selected<I: ListedIndex, W: Write>(
     form: Form,
     out: &mut Output<W>,
 ) -> Result<()>
-    ensures { ListsLines form out.old out.new result }
+    ensures lists { ListsLines form out.old out.new result }
+    ensures counts { OnOk result (AreCounted table.now search.new.completeness.counts) }
 {
     let mut items = table.iter();
     let mut line = Line::new(alloc);
     'records: loop {
-        let (_, byte) = items.place();
+        let (index, byte) = items.place();
         let Some(item) = items.next()? else {
+            let counts = RecordCounts::up_to(stream, table.header(), index);
+            search.completeness.counts = Some(counts);
             return Ok(());
         };
         if selection.leaves_out_kind(item.raw_kind()) {
@@ -102,7 +112,8 @@ fn list_selected<I: ListedIndex, W: Write>(
 
 /// Writes a line for each type of the table in a stream that is selected, in the order of the table,
 /// as `items` does. What was found is noted in the search, which begins with the names of the
-/// selection. A name is found if a type has it, also if that isn't listed for another reason.
+/// selection. A name is found if a type has it, also if that isn't listed for another reason. A
+/// record that can't be parsed is passed over where its name or what it refers to matters.
 ///
 /// # Errors
 /// Fails as `items` does.
@@ -115,7 +126,8 @@ pub fn select_types<W: Write>(
     form: Form,
     out: &mut Output<W>,
 ) -> Result<()>
-    ensures { ListsLines form out.old out.new result }
+    ensures lists { ListsLines form out.old out.new result }
+    ensures counts { OnOk result (AreCountedIn stream search.new.completeness.counts) }
 {
     let types = learn_table(alloc, stream)?;
     search
@@ -138,7 +150,8 @@ pub fn select_ids<W: Write>(
     form: Form,
     out: &mut Output<W>,
 ) -> Result<()>
-    ensures { ListsLines form out.old out.new result }
+    ensures lists { ListsLines form out.old out.new result }
+    ensures counts { OnOk result (AreCountedIn stream search.new.completeness.counts) }
 {
     let table = IdInformation::parse(stream)?;
     list_selected(alloc, &table, number, selection, search, form, out)

@@ -3,6 +3,7 @@
 #![tactic(auto)]
 
 mod breakpad_frames;
+mod completeness;
 mod extraction;
 mod file_tables;
 mod frame_programs;
@@ -41,6 +42,7 @@ mod type_listing;
 mod used_types;
 
 pub use breakpad_frames::list_breakpad_frames;
+pub use completeness::{Completeness, RecordCounts};
 pub use extraction::{stream_meant, write_part};
 pub use file_tables::{list_frames, list_frames_in, list_names, list_sections};
 pub use hex_dump::write_dump;

@@ -40,9 +40,9 @@ impl Selection<'_, '_> {
         }
     }
 
-    /// Returns whether no record of a kind is listed, nor any name looked for in it.
+    /// Returns whether no record of a kind is listed, nor any name or reference looked for.
     pub(crate) fn leaves_out_kind(&self, leaf: u16) -> bool {
-        self.names.is_empty() && !self.has_kind(leaf)
+        self.names.is_empty() && !self.has_used() && !self.has_kind(leaf)
     }
 
     /// Returns whether a record that can't be read is listed: not if its name or what it refers to

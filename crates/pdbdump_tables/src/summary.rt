@@ -4,6 +4,7 @@
 
 ghost use Rattle.pdbdump_rows.specs.{Rows.WritesLines, Sink.AddsLines};
 
+use crate::completeness::Completeness;
 use crate::headers::headers_of;
 use crate::parts::{Part, write_refused};
 use crate::stream_names::ShownNames;
@@ -83,16 +84,20 @@ fn known_names<'i, W: Write>(
     }
 }
 
-/// Writes the tables of types and of ids. The walk over the types is the last, since it consumes the
-/// file: in most files, they are the largest stream.
-fn write_tables<S: Source + Drop, W: Write>(rows: &mut Rows<'_, W>, mut file: PDB<S>)
+/// Writes the tables of types and of ids, and notes the counts of their records. The walk over the
+/// types is the last, since it consumes the file: in most files, they are the largest stream.
+fn write_tables<S: Source + Drop, W: Write>(
+    rows: &mut Rows<'_, W>,
+    mut file: PDB<S>,
+    found: &mut Completeness,
+)
     ensures { AddsLines rows.old rows.new }
 {
     let alloc = rows.alloc();
     let ids = walk_table(alloc, &mut file, ID_STREAM);
     let types = walk_last_table(alloc, file, TYPE_STREAM);
-    write_table(rows, TYPE_STREAM, &types);
-    write_table(rows, ID_STREAM, &ids);
+    found.counts = write_table(rows, TYPE_STREAM, &types);
+    found.id_counts = write_table(rows, ID_STREAM, &ids);
 }
 
 /// Writes the streams of a file, of which the first `count` are shown, and its tables.
@@ -100,6 +105,7 @@ fn write_read_parts<S: Source + Drop, W: Write>(
     rows: &mut Rows<'_, W>,
     mut file: PDB<S>,
     count: u32,
+    found: &mut Completeness,
 ) -> result::Result<(), AllocError>
     ensures { AddsLines rows.old rows.new }
 {
@@ -114,19 +120,23 @@ fn write_read_parts<S: Source + Drop, W: Write>(
     };
     let mut streams = file.into_msf();
     write_streams(rows, &mut known, &mut streams, count);
-    write_tables(rows, PDB::from(streams));
+    write_tables(rows, PDB::from(streams), found);
     Ok(())
 }
 
 /// Writes all parts of a file, or the error of its directory.
-fn write_parts<S: Source + Drop, W: Write>(rows: &mut Rows<'_, W>, file: PDB<S>)
+fn write_parts<S: Source + Drop, W: Write>(
+    rows: &mut Rows<'_, W>,
+    file: PDB<S>,
+    found: &mut Completeness,
+)
     ensures { AddsLines rows.old rows.new }
 {
     let mut streams = file.into_msf();
     match streams.stream_count(rows.alloc()) {
         Ok(count) => {
             let count = count.min(NO_STREAM);
-            if write_read_parts(rows, PDB::from(streams), count).is_err() {
+            if write_read_parts(rows, PDB::from(streams), count, found).is_err() {
                 rows.lack();
             }
         }
@@ -136,9 +146,9 @@ fn write_parts<S: Source + Drop, W: Write>(rows: &mut Rows<'_, W>, file: PDB<S>)
 
 /// Lists what a file of this size is made of: its pages, a line for each stream, and how many records
 /// of each kind the tables of types and ids have. A part that has an error has a line with the error,
-/// among those of the others, and `is_whole` becomes false. The names of streams are shown with no
-/// more bytes than they take in stream 1: a name for which fewer are left is cut, and its line says
-/// so.
+/// among those of the others, and it is noted that not all is whole. It is also noted how many records
+/// the headers of the tables count and how many there are. The names of streams are shown with no more
+/// bytes than they take in stream 1: a name for which fewer are left is cut, and its line says so.
 ///
 /// # Errors
 /// Fails with `IoError` if the writer fails, and with `OutOfMemory` if an allocation fails.
@@ -147,7 +157,7 @@ pub fn list_summary<S: Source + Drop, W: Write>(
     file: PDB<S>,
     size: u64,
     form: Form,
-    is_whole: &mut bool,
+    found: &mut Completeness,
     out: &mut Output<W>,
 ) -> Result<()>
     ensures { WritesLines form out.old out.new result }
@@ -156,8 +166,8 @@ pub fn list_summary<S: Source + Drop, W: Write>(
     let mut rows = Rows::new(&mut sheet, out);
     let streams = file.msf();
     write_pages(&mut rows, streams.page_size(), streams.pages_used(), size);
-    write_parts(&mut rows, file);
+    write_parts(&mut rows, file, found);
     let written = rows.finish();
-    *is_whole = sheet.is_whole;
+    found.is_whole = sheet.is_whole;
     written
 }

@@ -4,6 +4,7 @@
 
 ghost use Rattle.pdbdump_rows.specs.Sink.{AddsLines};
 
+use crate::completeness::RecordCounts;
 use crate::kinds::{KindCount, Walked, walk_over};
 use crate::parts::{Part, write_refused};
 use crate::streams::last_stream;
@@ -87,13 +88,33 @@ pub fn walk_last_table<S: Source + Drop>(
     walk_in(alloc, last_stream(alloc, file, number)?)
 }
 
+/// Returns how many records a table has that was walked over to its end, and how many its header
+/// counts.
+fn counts_if_whole(number: u32, walked: &Walked) -> Option<RecordCounts> {
+    if walked.fault.is_some() {
+        return None;
+    }
+    Some(RecordCounts::of(number, walked.header, walked.records))
+}
+
 /// Writes the result of a walk over the table in the stream with this number: its lines, or its
-/// error, after which not all is whole.
-pub fn write_table<W: Write>(rows: &mut Rows<'_, W>, number: u32, walked: &Result<Walked>)
+/// error, after which not all is whole. Returns the counts of its records, if it was walked over to
+/// its end.
+pub fn write_table<W: Write>(
+    rows: &mut Rows<'_, W>,
+    number: u32,
+    walked: &Result<Walked>,
+) -> Option<RecordCounts>
     ensures { AddsLines rows.old rows.new }
 {
     match walked {
-        Ok(walked) => write_walked(rows, number, walked),
-        Err(error) => write_refused(rows, Part::Table(number), error),
+        Ok(walked) => {
+            write_walked(rows, number, walked);
+            counts_if_whole(number, walked)
+        }
+        Err(error) => {
+            write_refused(rows, Part::Table(number), error);
+            None
+        }
     }
 }

@@ -14,7 +14,7 @@ const BYTES: usize = 2;
 pub struct Allowance {
     left: usize,
 
-    /// Whether more was asked for than was left.
+    /// Whether something was left out.
     is_spent: bool,
 }
 
@@ -36,9 +36,20 @@ impl Allowance {
         self.left
     }
 
-    /// Returns whether more was asked for than was left, so that something is left out.
-    pub fn is_spent(&self) -> bool {
+    /// Returns whether something is left out: more was asked for than was left, or so it was noted.
+    pub fn is_spent(&self) -> bool
+        ensures { result ≡ self.now.is_spent }
+    {
         self.is_spent
+    }
+
+    /// Notes whether something is left out for which enough may be left.
+    pub fn note_cut(&mut self, is_cut: bool)
+        ensures left { self.new.left ≡ self.old.left }
+        ensures noted { IsTrue is_cut → IsTrue self.new.is_spent }
+        ensures kept { IsTrue self.old.is_spent → IsTrue self.new.is_spent }
+    {
+        self.is_spent = self.is_spent || is_cut;
     }
 
     /// Takes so much if it is left, and returns whether it was. If it isn't, nothing is left any

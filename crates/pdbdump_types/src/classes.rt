@@ -8,8 +8,8 @@ use pdb_base::{Error, RawString, TypeIndex};
 use pdb_tpi::{OpenTable, Type};
 use pdb_types::Layout;
 use pdb_values::constants::{
-    LF_ARGLIST, LF_BITFIELD, LF_FIELDLIST, LF_METHODLIST, LF_MFUNCTION, LF_MODIFIER, LF_POINTER,
-    LF_PROCEDURE,
+    LF_ARGLIST, LF_BITFIELD, LF_FIELDLIST, LF_LABEL, LF_METHODLIST, LF_MFUNCTION, LF_MODIFIER,
+    LF_POINTER, LF_PROCEDURE, LF_VFTABLE, LF_VTSHAPE,
 };
 use pdb_values::{ClassKind, TypeData};
 use std::alloc::{AllocError, Global};
@@ -102,11 +102,13 @@ fn is_name_wanted(
     }
 }
 
-/// Returns whether records of a kind define nothing, as most records of a table do.
-fn defines_nothing(kind: u16) -> bool {
+/// Returns whether records of a kind define nothing, as most records of a table do. A kind that isn't
+/// implemented may define something, unless it is known to be a label or a table of virtual functions.
+pub(crate) fn defines_nothing(kind: u16) -> bool {
     match kind {
         LF_ARGLIST | LF_BITFIELD | LF_FIELDLIST | LF_METHODLIST => true,
         LF_MFUNCTION | LF_MODIFIER | LF_POINTER | LF_PROCEDURE => true,
+        LF_LABEL | LF_VFTABLE | LF_VTSHAPE => true,
         _ => false,
     }
 }

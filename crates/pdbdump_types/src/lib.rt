@@ -20,6 +20,7 @@ mod text;
 mod text_allowance;
 mod text_buffer;
 mod typed_index;
+mod unread;
 
 pub use allowance::Allowance;
 pub use classes::{
@@ -36,10 +37,11 @@ pub use object::{
 };
 pub use object_buffer::ObjectBuffer;
 pub use pattern::{is_pattern, matches, matches_ignoring_case};
-pub use progress::{Progress, TOO_MANY, tell, tell_fault, tell_index, write_layout};
+pub use progress::{Progress, TOO_MANY, tell, tell_fault, tell_index, tell_line, write_layout};
 pub use shown_gap::{GapPlace, GapRole, fields_end, gap_place, gap_role};
 pub use table::{Table, learn_table};
 pub use text::{escape_text, plural};
 pub use text_allowance::TextAllowance;
 pub use text_buffer::TextBuffer;
 pub use typed_index::index_named;
+pub use unread::{Unread, unread_in};

@@ -74,6 +74,27 @@ impl Progress {
     }
 }
 
+/// Writes a line to the error channel. Then not all is there.
+///
+/// # Errors
+/// Fails with `OutOfMemory` if an allocation failed for the line.
+pub fn tell_line<E: Write>(
+    line: TextBuffer,
+    progress: &mut Progress,
+    err: &mut Output<E>,
+) -> Result<(), Error>
+    ensures accounted { OnOk result (StaysAccounted progress.old progress.new err.old err.new) }
+    ensures told { OnOk result (progress.new.is_whole ≡ false) }
+    ensures shown { progress.new.has_shown ≡ progress.old.has_shown }
+{
+    let mut line = line;
+    line.push(b"\n");
+    let line = line.finish()?;
+    progress.is_whole = false;
+    err.report(&line);
+    Ok(())
+}
+
 /// Writes to the error channel why a type or a name isn't shown. Then not all is there.
 ///
 /// # Errors
@@ -93,11 +114,7 @@ pub fn tell<E: Write>(
     line.push_escaped(what);
     line.push(b": ");
     line.push(why);
-    line.push(b"\n");
-    let line = line.finish()?;
-    progress.is_whole = false;
-    err.report(&line);
-    Ok(())
+    tell_line(line, progress, err)
 }
 
 /// Writes to the error channel why the type of an index isn't shown.

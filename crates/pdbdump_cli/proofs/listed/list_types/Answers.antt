@@ -10,4 +10,4 @@ pub returns-in-Some : goal.returns-in-Some
 returns-in-Some g c = rw c.in-Some.is (written _ c.in_ok-stream.ensures c.type_at.ensures)
 
 pub returns-in-None : goal.returns-in-None
-returns-in-None g c = rw c.in-None.is (written _ c.in_ok-stream.ensures c.items.ensures)
+returns-in-None g c = rw c.in-None.is (written _ c.in_ok-stream.ensures c.items.ensures.lists)

@@ -4,9 +4,9 @@ use Rattle.pdbdump_cli.proofs.request.serve_opened.Goals as goal
 pub returns-in-List : goal.returns-in-List
 returns-in-List g c = rw c.in-List.is (record {
   written = c.list-listed.new.out;
-  told = c.args.err.now;
+  told = c.list-listed.new.err;
   answer = c.list-listed.result;
-  does = record { does = c.list-listed.ensures; silent = refl };
+  does = record { does = c.list-listed.ensures.does; told = c.list-listed.ensures.told };
   ends = c.end_as.ensures;
 })
 

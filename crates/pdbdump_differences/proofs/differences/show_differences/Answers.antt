@@ -4,9 +4,9 @@ use Rattle.pdbdump_differences.proofs.differences.show_differences.Goals as goal
 
 pub returns : goal.returns
 returns g c =
-    let told = told_only c.new-progress.result c.tell_unknown.new.progress c.args.out.now _ _
-    c.in_ok-tell_unknown.ensures.accounted c.in_ok-tell_unknown.ensures.shown in
-    let changed = compared_then c.new-progress.result c.tell_unknown.new.progress c.show_changes.new.progress
+    let told = told_only c.new-progress.result c.tell_missing.new.progress c.args.out.now _ _
+    c.in_ok-tell_missing.ensures.accounted c.in_ok-tell_missing.ensures.shown in
+    let changed = compared_then c.new-progress.result c.tell_missing.new.progress c.show_changes.new.progress
     _ _ _ _ _ _ told c.in_ok-show_changes.ensures in
     let all = compared_then c.new-progress.result c.show_changes.new.progress c.show_arrivals.new.progress
     _ _ _ _ _ _ changed c.in_ok-show_arrivals.ensures in
