@@ -18,13 +18,12 @@
  * PDB_OK the answer is at the start of the array, and the items after it are unchanged. With any
  * other status, lengths are 0, and arrays, structures and numbers are unchanged. pdb_types_read has
  * no length to ask for: it writes as many records as there is room for, also before PDB_END or an
- * error. To ask costs as much as to fill, except for the bytes of a stream and where a call says
- * so.
+ * error. To ask costs as much as to fill, except where a call says so.
  *
  * The caller must ensure the following, which nothing checks:
- * - A pointer points to as many items as its length says. It may be null if that is 0. pdb_close
- *   and pdb_file_close accept null, and no other pointer is null. What a call writes does not
- *   overlap anything else that it is given.
+ * - A pointer points to as many items as its length says. It may be null if that is 0. So may, in C
+ *   and C++, the place for the length of an answer, and what pdb_close and pdb_file_close close. No
+ *   other pointer is null. What a call writes does not overlap anything else that it is given.
  * - A handle, such as a pdb_file, is all zero before it is first opened. It is not copied. It may
  *   move in memory and to another thread, but two threads never use one handle at once. Different
  *   handles, and calls without one, share nothing.
@@ -299,7 +298,8 @@ uint32_t pdb_file_stream_size(pdb_file *file, uint32_t number, uint32_t *size);
 uint32_t pdb_file_stream(pdb_file *file, uint32_t number, size_t limit, uint8_t *buffer,
                          size_t buffer_length, size_t *length);
 
-/* Copies the bytes of the first stream with this name, such as "/names". */
+/* Copies the bytes of the first stream with this name, such as "/names". To ask for the length
+ * reads nothing of it, as with pdb_file_stream. */
 uint32_t pdb_file_named_stream(pdb_file *file, const char *name, size_t name_length,
                                uint8_t *buffer, size_t buffer_length, size_t *length);
 
@@ -998,24 +998,26 @@ uint32_t pdb_type_record(pdb_types *types, uint32_t index, uint8_t *buffer, size
  * primitive type: its lowest byte is the kind, a number of TYPE_ENUM_e of cvinfo.h such as 0x74 for
  * a signed integer of 32 bits, and the bits above are the indirection, a number of CV_prmode_e: 0
  * for the type itself, 4 for a pointer of 32 bits to it, 6 for one of 64 bits. pdb_type_parse ends
- * with PDB_TYPE_NOT_FOUND if no primitive type has the index. */
+ * with PDB_TYPE_NOT_FOUND if no primitive type has the index, and of a table of ids, which has no
+ * such items, with PDB_UNIMPLEMENTED_TYPE_KIND. */
 enum { PDB_FIRST_RECORD = 0x1000 };
 
-/* Returns the name of a kind of primitive type in C++, or NULL if there is no such kind. */
+/* Returns the name of a kind of primitive type in C++, as pdb_type_text writes it, or NULL if there
+ * is no such kind. That of no type is no C++. */
 static inline const char *pdb_primitive_name(uint32_t kind) {
     switch (kind) {
-    case 0x00: return "no type";
+    case 0x00: return "<no type>";
     case 0x03: return "void";
     case 0x08: return "HRESULT";
     case 0x10: return "signed char";
     case 0x11: return "short";
     case 0x12: return "long";
-    case 0x13: return "long long";
+    case 0x13: return "__int64";
     case 0x14: return "__int128";
     case 0x20: return "unsigned char";
     case 0x21: return "unsigned short";
     case 0x22: return "unsigned long";
-    case 0x23: return "unsigned long long";
+    case 0x23: return "unsigned __int64";
     case 0x24: return "unsigned __int128";
     case 0x30: return "bool";
     case 0x31: return "__bool16";
@@ -1026,8 +1028,8 @@ static inline const char *pdb_primitive_name(uint32_t kind) {
     case 0x42: return "long double";
     case 0x43: return "__float128";
     case 0x44: return "__float48";
-    case 0x45: return "__float32pp";
-    case 0x46: return "__float16";
+    case 0x45: return "float";
+    case 0x46: return "__half";
     case 0x50: return "_Complex float";
     case 0x51: return "_Complex double";
     case 0x52: return "_Complex long double";
@@ -1078,7 +1080,7 @@ typedef struct pdb_field {
     pdb_type_info info;
     size_t name_offset;
     size_t name_length;
-    uint32_t has_name; /* 0 or 1; a field without a name has an empty one */
+    uint32_t has_name; /* 0 or 1; a field without a name, such as a base class, has an empty one */
 } pdb_field;
 
 /* Writes the fields of a list of fields, and their names, each with a NUL at its end. If `whole` is
@@ -1122,8 +1124,9 @@ uint32_t pdb_type_definition(pdb_types *types, uint32_t index, uint32_t *definit
 uint32_t pdb_type_size(pdb_types *types, uint32_t index, uint64_t *size);
 
 /* Copies the C++ text that declares a name, which may be any text, with the type of an index, such
- * as "int (*compare)(char)", or the text of the type alone if the name is empty. It has at most
- * 65,536 bytes, and ends with ".." if it is cut. What the text says is tested, and not proved. */
+ * as "int (*compare)(char)", or the text of the type alone if the name is empty. "<no type>" stands
+ * where a record names no type. It has at most 65,536 bytes, and ends with ".." if it is cut. What
+ * the text says is tested, and not proved. */
 uint32_t pdb_type_text(pdb_types *types, uint32_t index, const char *name, size_t name_length,
                        char *buffer, size_t buffer_length, size_t *length);
 
@@ -1174,6 +1177,201 @@ typedef struct pdb_layout_row {
  * no definition, or its definition is an enumeration. */
 uint32_t pdb_type_layout(pdb_types *types, uint32_t index, pdb_layout_row *rows, size_t rows_length,
                          size_t *count, char *names, size_t names_length, size_t *size);
+
+/* ---- a null length
+ *
+ * Each of these functions stands for the call of its name, and takes null where that puts a length.
+ * The library itself, which other languages call, does not. */
+
+/* tools/bindings writes from here */
+static inline uint32_t pdb_fault_text_(const pdb_fault *fault, char *buffer, size_t buffer_length,
+                                       size_t *length) {
+    size_t no_length = 0;
+    return pdb_fault_text(fault, buffer, buffer_length, length ? length : &no_length);
+}
+#define pdb_fault_text pdb_fault_text_
+
+static inline uint32_t pdb_validate_(const uint8_t *bytes, size_t bytes_length, uint32_t every,
+                                     pdb_finding *findings, size_t findings_length,
+                                     size_t *length) {
+    size_t no_length = 0;
+    return pdb_validate(bytes, bytes_length, every, findings, findings_length,
+                        length ? length : &no_length);
+}
+#define pdb_validate pdb_validate_
+
+static inline uint32_t pdb_file_stream_(pdb_file *file, uint32_t number, size_t limit,
+                                        uint8_t *buffer, size_t buffer_length, size_t *length) {
+    size_t no_length = 0;
+    return pdb_file_stream(file, number, limit, buffer, buffer_length,
+                           length ? length : &no_length);
+}
+#define pdb_file_stream pdb_file_stream_
+
+static inline uint32_t pdb_file_named_stream_(pdb_file *file, const char *name, size_t name_length,
+                                              uint8_t *buffer, size_t buffer_length,
+                                              size_t *length) {
+    size_t no_length = 0;
+    return pdb_file_named_stream(file, name, name_length, buffer, buffer_length,
+                                 length ? length : &no_length);
+}
+#define pdb_file_named_stream pdb_file_named_stream_
+
+static inline uint32_t pdb_file_stream_names_(pdb_file *file, pdb_named_stream *rows,
+                                              size_t rows_length, size_t *count, char *names,
+                                              size_t names_length, size_t *size) {
+    size_t no_count = 0, no_size = 0;
+    return pdb_file_stream_names(file, rows, rows_length, count ? count : &no_count, names,
+                                 names_length, size ? size : &no_size);
+}
+#define pdb_file_stream_names pdb_file_stream_names_
+
+static inline uint32_t pdb_key_(const pdb_identity *identity, uint32_t form, char *buffer,
+                                size_t buffer_length, size_t *length) {
+    size_t no_length = 0;
+    return pdb_key(identity, form, buffer, buffer_length, length ? length : &no_length);
+}
+#define pdb_key pdb_key_
+
+static inline uint32_t pdb_names_get_(pdb_names *names, uint32_t offset, char *buffer,
+                                      size_t buffer_length, size_t *length) {
+    size_t no_length = 0;
+    return pdb_names_get(names, offset, buffer, buffer_length, length ? length : &no_length);
+}
+#define pdb_names_get pdb_names_get_
+
+static inline uint32_t pdb_names_places_(pdb_names *names, const uint32_t *offsets,
+                                         size_t offsets_length, pdb_name *places,
+                                         size_t places_length, size_t *length) {
+    size_t no_length = 0;
+    return pdb_names_places(names, offsets, offsets_length, places, places_length,
+                            length ? length : &no_length);
+}
+#define pdb_names_places pdb_names_places_
+
+static inline uint32_t pdb_omap_records_(pdb_omap *omap, pdb_omap_record *records,
+                                         size_t records_length, size_t *length) {
+    size_t no_length = 0;
+    return pdb_omap_records(omap, records, records_length, length ? length : &no_length);
+}
+#define pdb_omap_records pdb_omap_records_
+
+static inline uint32_t pdb_omap_ranges_(pdb_omap *omap, uint32_t start, uint32_t end,
+                                        pdb_span *spans, size_t spans_length, size_t *length) {
+    size_t no_length = 0;
+    return pdb_omap_ranges(omap, start, end, spans, spans_length, length ? length : &no_length);
+}
+#define pdb_omap_ranges pdb_omap_ranges_
+
+static inline uint32_t pdb_file_sections_(pdb_file *file, uint32_t number, pdb_section *sections,
+                                          size_t sections_length, size_t *length) {
+    size_t no_length = 0;
+    return pdb_file_sections(file, number, sections, sections_length, length ? length : &no_length);
+}
+#define pdb_file_sections pdb_file_sections_
+
+static inline uint32_t pdb_address_ranges_(pdb_address_map *map, uint32_t form, uint32_t start,
+                                           uint32_t end, pdb_span *spans, size_t spans_length,
+                                           size_t *length) {
+    size_t no_length = 0;
+    return pdb_address_ranges(map, form, start, end, spans, spans_length,
+                              length ? length : &no_length);
+}
+#define pdb_address_ranges pdb_address_ranges_
+
+static inline uint32_t pdb_frames_list_(pdb_frames *frames, pdb_frame *rows, size_t rows_length,
+                                        size_t *length) {
+    size_t no_length = 0;
+    return pdb_frames_list(frames, rows, rows_length, length ? length : &no_length);
+}
+#define pdb_frames_list pdb_frames_list_
+
+static inline uint32_t pdb_types_find_(pdb_types *types, const uint32_t *indexes,
+                                       size_t indexes_length, pdb_found_record *records,
+                                       size_t records_length, size_t *length) {
+    size_t no_length = 0;
+    return pdb_types_find(types, indexes, indexes_length, records, records_length,
+                          length ? length : &no_length);
+}
+#define pdb_types_find pdb_types_find_
+
+static inline uint32_t pdb_types_read_(pdb_types *types, pdb_type *rows, size_t rows_length,
+                                       size_t *count) {
+    size_t no_count = 0;
+    return pdb_types_read(types, rows, rows_length, count ? count : &no_count);
+}
+#define pdb_types_read pdb_types_read_
+
+static inline uint32_t pdb_type_record_(pdb_types *types, uint32_t index, uint8_t *buffer,
+                                        size_t buffer_length, size_t *length) {
+    size_t no_length = 0;
+    return pdb_type_record(types, index, buffer, buffer_length, length ? length : &no_length);
+}
+#define pdb_type_record pdb_type_record_
+
+static inline uint32_t pdb_type_name_(pdb_types *types, uint32_t index, char *buffer,
+                                      size_t buffer_length, size_t *length) {
+    size_t no_length = 0;
+    return pdb_type_name(types, index, buffer, buffer_length, length ? length : &no_length);
+}
+#define pdb_type_name pdb_type_name_
+
+static inline uint32_t pdb_type_unique_name_(pdb_types *types, uint32_t index, char *buffer,
+                                             size_t buffer_length, size_t *length) {
+    size_t no_length = 0;
+    return pdb_type_unique_name(types, index, buffer, buffer_length, length ? length : &no_length);
+}
+#define pdb_type_unique_name pdb_type_unique_name_
+
+static inline uint32_t pdb_type_numbers_(pdb_types *types, uint32_t index, uint32_t *numbers,
+                                         size_t numbers_length, size_t *length) {
+    size_t no_length = 0;
+    return pdb_type_numbers(types, index, numbers, numbers_length, length ? length : &no_length);
+}
+#define pdb_type_numbers pdb_type_numbers_
+
+static inline uint32_t pdb_type_methods_(pdb_types *types, uint32_t index, pdb_type_info *methods,
+                                         size_t methods_length, size_t *length) {
+    size_t no_length = 0;
+    return pdb_type_methods(types, index, methods, methods_length, length ? length : &no_length);
+}
+#define pdb_type_methods pdb_type_methods_
+
+static inline uint32_t pdb_type_fields_(pdb_types *types, uint32_t index, uint32_t whole,
+                                        pdb_field *rows, size_t rows_length, size_t *count,
+                                        char *names, size_t names_length, size_t *size) {
+    size_t no_count = 0, no_size = 0;
+    return pdb_type_fields(types, index, whole, rows, rows_length, count ? count : &no_count, names,
+                           names_length, size ? size : &no_size);
+}
+#define pdb_type_fields pdb_type_fields_
+
+static inline uint32_t pdb_types_named_(pdb_types *types, const char *name, size_t name_length,
+                                        uint32_t *indexes, size_t indexes_length, size_t *length) {
+    size_t no_length = 0;
+    return pdb_types_named(types, name, name_length, indexes, indexes_length,
+                           length ? length : &no_length);
+}
+#define pdb_types_named pdb_types_named_
+
+static inline uint32_t pdb_type_text_(pdb_types *types, uint32_t index, const char *name,
+                                      size_t name_length, char *buffer, size_t buffer_length,
+                                      size_t *length) {
+    size_t no_length = 0;
+    return pdb_type_text(types, index, name, name_length, buffer, buffer_length,
+                         length ? length : &no_length);
+}
+#define pdb_type_text pdb_type_text_
+
+static inline uint32_t pdb_type_layout_(pdb_types *types, uint32_t index, pdb_layout_row *rows,
+                                        size_t rows_length, size_t *count, char *names,
+                                        size_t names_length, size_t *size) {
+    size_t no_count = 0, no_size = 0;
+    return pdb_type_layout(types, index, rows, rows_length, count ? count : &no_count, names,
+                           names_length, size ? size : &no_size);
+}
+#define pdb_type_layout pdb_type_layout_
+/* to here */
 
 #ifdef __cplusplus
 }
