@@ -7,6 +7,9 @@ const PARTS = [
   "section headers", "original section headers", "OMAP to source", "OMAP from source", "old frames", "new frames",
 ];
 
+const UNRECOGNIZED_FILE_FORMAT = 1;
+const NO_HEADER = "not a program database of version 7.00, or cut within its first 4,096 bytes";
+
 const hexadecimal = (number) => `0x${number.toString(16)}`;
 
 /** The text of each inconsistency, by its number. */
@@ -49,7 +52,8 @@ const INCONSISTENCIES = [
 
 /** The first thing that is wrong in each part of a file. */
 export function findingsOf(native, file) {
-  const problem = ({ status, first, second }) => textOf(native.library.error(status, first, second));
+  const problem = ({ status, first, second }) =>
+    status === UNRECOGNIZED_FILE_FORMAT ? NO_HEADER : textOf(native.library.error(status, first, second));
   const found = native.rows(Finding, "pdb_validate", file.at, file.length, 0).slice();
   return found.map((finding) => ({
     part: PARTS[finding.part],
