@@ -21,9 +21,10 @@
  * error. To ask costs as much as to fill, except where a call says so.
  *
  * The caller must ensure the following, which nothing checks:
- * - A pointer points to as many items as its length says. It may be null if that is 0. So may, in C
- *   and C++, the place for the length of an answer, and what pdb_close and pdb_file_close close. No
- *   other pointer is null. What a call writes does not overlap anything else that it is given.
+ * - A pointer points to as many items as its length says. It may be null if that is 0. In C and C++
+ *   the place for the length of an answer may be null too, and so may what pdb_close and
+ *   pdb_file_close are given. No other pointer is null. What a call writes does not overlap
+ *   anything else that it is given.
  * - A handle, such as a pdb_file, is all zero before it is first opened. It is not copied. It may
  *   move in memory and to another thread, but two threads never use one handle at once. Different
  *   handles, and calls without one, share nothing.
@@ -1003,7 +1004,7 @@ uint32_t pdb_type_record(pdb_types *types, uint32_t index, uint8_t *buffer, size
 enum { PDB_FIRST_RECORD = 0x1000 };
 
 /* Returns the name of a kind of primitive type in C++, as pdb_type_text writes it, or NULL if there
- * is no such kind. That of no type is no C++. */
+ * is no such kind. The name of kind 0, no type, is not C++. */
 static inline const char *pdb_primitive_name(uint32_t kind) {
     switch (kind) {
     case 0x00: return "<no type>";
@@ -1180,8 +1181,8 @@ uint32_t pdb_type_layout(pdb_types *types, uint32_t index, pdb_layout_row *rows,
 
 /* ---- a null length
  *
- * Each of these functions stands for the call of its name, and takes null where that puts a length.
- * The library itself, which other languages call, does not. */
+ * Each of these functions stands for the call of its name, and also accepts null as the place for a
+ * length. The library itself, which other languages call, does not. */
 
 /* tools/bindings writes from here */
 static inline uint32_t pdb_fault_text_(const pdb_fault *fault, char *buffer, size_t buffer_length,
